@@ -1,0 +1,13 @@
+-- The laws of the theory.
+pub mod Blocks
+pub mod Lists
+pub mod Agree
+pub mod Uniform
+pub mod Preserve
+pub mod Hops
+pub mod Chosen
+pub mod Order
+pub mod Repeat
+pub mod Parts
+pub mod Halves
+pub mod Quick

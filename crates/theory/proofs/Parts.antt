@@ -1,0 +1,152 @@
+-- A table taken apart by a test, and the longest match of the whole from those of the parts.
+use Prim.Native.Nat.{ℕ, suc, _+_, _-_, _≤_, _<_}
+use mathlib.Core.Path.{_≡_, refl, sym, ap, _∙_}
+use mathlib.Core.Bool.{Bool, true, false, cond}
+use mathlib.Core.List.{List, [], _∷_}
+use native.Mathlib.Decide.{decLt}
+use native.Mathlib.Omega.{arith}
+use lib.Dec.{eqb, ltb}
+use lib.ListN.{length}
+use borrow.Author.Tests.{lt-ltb, le-ltb, eqb-true, eqb-false}
+use Rattle.theory.specs.Results.{part}
+use Rattle.theory.specs.Routes.{Route, matches, Match, miss, hit, longer, tried, lookup, Answer, under, All, nil, cons}
+use Rattle.theory.proofs.Preserve.{Deep, longer-miss}
+
+-- The routes that fail a test.
+abbrev pub rest : (Route → Bool) → List Route → List Route
+rest p [] = []
+rest p (r ∷ t) = cond (p r) (rest p t) (r ∷ rest p t)
+
+pub length-parts : (p : Route → Bool) (t : List Route) → length t ≡ length (part p t) + length (rest p t)
+length-parts p [] = refl
+length-parts p (r ∷ t) = go (p r) (length-parts p t)
+  where
+    go : (b : Bool) → length t ≡ length (part p t) + length (rest p t)
+        → suc (length t) ≡ length (cond b (r ∷ part p t) (part p t)) + length (cond b (rest p t) (r ∷ rest p t))
+    go true ih = omega arith
+    go false ih = omega arith
+
+pub all-part : {P Q : Route → Type 0} {t : List Route} (p : Route → Bool) → ((r : Route) → P r → p r ≡ true → Q r) → All P t → All Q (part p t)
+all-part p k nil = nil
+all-part {P} {Q} p k (cons {r = r} {t = t} h hs) = go (p r) refl (all-part p k hs)
+  where
+    go : (b : Bool) → p r ≡ b → All Q (part p t) → All Q (cond b (r ∷ part p t) (part p t))
+    go true e ih = cons (k r h e) ih
+    go false e ih = ih
+
+pub all-rest : {P Q : Route → Type 0} {t : List Route} (p : Route → Bool) → ((r : Route) → P r → p r ≡ false → Q r) → All P t → All Q (rest p t)
+all-rest p k nil = nil
+all-rest {P} {Q} p k (cons {r = r} {t = t} h hs) = go (p r) refl (all-rest p k hs)
+  where
+    go : (b : Bool) → p r ≡ b → All Q (rest p t) → All Q (cond b (rest p t) (r ∷ rest p t))
+    go true e ih = ih
+    go false e ih = cons (k r h e) ih
+
+longer-none : (m : Match) → longer m miss ≡ m
+longer-none miss = refl
+longer-none (hit k h) = refl
+
+longer-assoc : (m l i : Match) → longer m (longer l i) ≡ longer (longer m l) i
+longer-assoc miss l i = refl
+longer-assoc (hit k h) miss i = refl
+longer-assoc (hit k h) (hit l i) miss = sym (longer-none (longer (hit k h) (hit l i)))
+longer-assoc (hit k h) (hit l i) (hit m j) = go (decLt l k) (decLt m l)
+  where
+    go : Dec (l < k) → Dec (m < l) → longer (hit k h) (longer (hit l i) (hit m j)) ≡ longer (longer (hit k h) (hit l i)) (hit m j)
+    go (yes p) (yes q) = simp (lt-ltb l k p, lt-ltb m l q, lt-ltb m k (omega arith))
+    go (yes p) (no q) = simp (lt-ltb l k p, le-ltb m l (omega arith))
+    go (no p) (yes q) = simp (le-ltb l k (omega arith), lt-ltb m l q)
+    go (no p) (no q) = simp (le-ltb l k (omega arith), le-ltb m l (omega arith), le-ltb m k (omega arith))
+
+-- A match is at most so long.
+abbrev pub Shallow : ℕ → Match → Type 0
+Shallow k miss = Unit {0}
+Shallow k (hit l h) = l ≤ k
+
+longer-comm : (k : ℕ) (m e : Match) → Deep (suc k) m → Shallow k e → longer m e ≡ longer e m
+longer-comm k miss e p q = sym (longer-none e)
+longer-comm k (hit l h) miss p q = refl
+longer-comm k (hit l h) (hit j g) p q = rw (lt-ltb j l (omega arith), le-ltb l j (omega arith))
+
+shallow-longer : (k : ℕ) (m l : Match) → Shallow k m → Shallow k l → Shallow k (longer m l)
+shallow-longer k miss l p q = q
+shallow-longer k (hit i h) miss p q = p
+shallow-longer k (hit i h) (hit j g) p q = go (ltb j i)
+  where
+    go : (b : Bool) → Shallow k (cond b (hit i h) (hit j g))
+    go true = p
+    go false = q
+
+pub lookup-shallow : (w k x : ℕ) {t : List Route} → All (λ r. r .len ≤ k) t → Shallow k (lookup w t x)
+lookup-shallow w k x nil = tt
+lookup-shallow w k x (cons {r = r} {t = t} p ps) = shallow-longer k (tried w r x) (lookup w t x) (go (matches w r x)) (lookup-shallow w k x ps)
+  where
+    go : (b : Bool) → Shallow k (cond b (hit (r .len) (r .hop)) miss)
+    go true = p
+    go false = tt
+
+pub under-longer : (k : ℕ) (g : Answer) (e i : Match) → Shallow k e → Deep k i → under g (longer e i) ≡ under (under g e) i
+under-longer k g miss i p q = refl
+under-longer k g (hit l h) miss p q = refl
+under-longer k g (hit l h) (hit j m) p q = rw (le-ltb j l (omega arith))
+
+module _ (w x : ℕ) (p : Route → Bool) where
+  -- Where one part has no match, the other part has the whole's.
+  pub lookup-part : (t : List Route) → lookup w (rest p t) x ≡ miss → lookup w t x ≡ lookup w (part p t) x
+  lookup-part [] e = refl
+  lookup-part (r ∷ t) e = go (p r) (lookup-part t) e
+    where
+      go : (b : Bool) → (lookup w (rest p t) x ≡ miss → lookup w t x ≡ lookup w (part p t) x) → lookup w (cond b (rest p t) (r ∷ rest p t)) x ≡ miss
+          → longer (tried w r x) (lookup w t x) ≡ lookup w (cond b (r ∷ part p t) (part p t)) x
+      go true ih q = ap (longer (tried w r x)) (ih q)
+      go false ih q =
+          let both : (tried w r x ≡ miss) × (lookup w (rest p t) x ≡ miss) = longer-miss (tried w r x) (lookup w (rest p t) x) q in
+          ap (λ (m : Match). longer m (lookup w t x)) (both .0) ∙ ih (both .1)
+
+  pub lookup-rest : (t : List Route) → lookup w (part p t) x ≡ miss → lookup w t x ≡ lookup w (rest p t) x
+  lookup-rest [] e = refl
+  lookup-rest (r ∷ t) e = go (p r) (lookup-rest t) e
+    where
+      go : (b : Bool) → (lookup w (part p t) x ≡ miss → lookup w t x ≡ lookup w (rest p t) x) → lookup w (cond b (r ∷ part p t) (part p t)) x ≡ miss
+          → longer (tried w r x) (lookup w t x) ≡ lookup w (cond b (rest p t) (r ∷ rest p t)) x
+      go false ih q = ap (longer (tried w r x)) (ih q)
+      go true ih q =
+          let both : (tried w r x ≡ miss) × (lookup w (part p t) x ≡ miss) = longer-miss (tried w r x) (lookup w (part p t) x) q in
+          ap (λ (m : Match). longer m (lookup w t x)) (both .0) ∙ ih (both .1)
+
+-- the routes of length k
+abbrev pub ofLen : ℕ → Route → Bool
+ofLen k r = eqb (r .len) k
+
+pub part-len : {k : ℕ} {t : List Route} → All (λ r. k ≤ r .len) t → All (λ r. r .len ≤ k) (part (ofLen k) t)
+part-len {k} h = all-part (ofLen k) (λ r p e. omega (arith, eqb-true (r .len) k e)) h
+
+-- Where no route is shorter than k, the whole's match is that of the longer routes, or else that of those of length k.
+pub lookup-lens : (w x k : ℕ) {t : List Route} → All (λ r. k ≤ r .len) t
+    → lookup w t x ≡ longer (lookup w (part (ofLen k) t) x) (lookup w (rest (ofLen k) t) x)
+lookup-lens w x k nil = refl
+lookup-lens w x k (cons {r = r} {t = t} h hs) = go (ofLen k r) refl (lookup-lens w x k hs)
+  where
+    e : Match
+    e = lookup w (part (ofLen k) t) x
+
+    i : Match
+    i = lookup w (rest (ofLen k) t) x
+
+    deep : (b : Bool) → ofLen k r ≡ false → Deep (suc k) (cond b (hit (r .len) (r .hop)) miss)
+    deep true q = go (decLt k (r .len))
+      where
+        go : Dec (k < r .len) → k < r .len
+        go (yes lt) = lt
+        go (no ge) = absurd (eqb-false (r .len) k q (omega arith))
+    deep false q = tt
+
+    go : (b : Bool) → ofLen k r ≡ b → lookup w t x ≡ longer e i
+        → longer (tried w r x) (lookup w t x)
+        ≡ longer (lookup w (cond b (r ∷ part (ofLen k) t) (part (ofLen k) t)) x) (lookup w (cond b (rest (ofLen k) t) (r ∷ rest (ofLen k) t)) x)
+    go true q ih = ap (longer (tried w r x)) ih ∙ longer-assoc (tried w r x) e i
+    go false q ih =
+        ap (longer (tried w r x)) ih
+        ∙ longer-assoc (tried w r x) e i
+        ∙ ap (λ (m : Match). longer m i) (longer-comm k (tried w r x) e (deep (matches w r x) q) (lookup-shallow w k x (part-len hs)))
+        ∙ sym (longer-assoc e (tried w r x) i)

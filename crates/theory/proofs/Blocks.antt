@@ -1,10 +1,11 @@
 -- Positions as aligned blocks of 2 ^ n addresses: their halves, and that an address is in one exactly when its leading bits are the block's.
 use Prim.Native.Nat.{ℕ, zero, suc, _+_, _*_, _/_, _^_, _≤_, _<_}
-use mathlib.Core.Path.{_≡_, sym, ap, _∙_}
-use native.Mathlib.Nat.{pow-suc, mul-assoc, mul-comm, suc-mul, one-le-pow, le-antisymm, le-div-iff-mul-le, div-lt-iff-lt-mul, le-of-suc-le-suc, zero-mul, mul-le-mul-right, lt-of-mul-lt-mul-right, eq-or-lt-of-le}
+use mathlib.Core.Path.{_≡_, refl, sym, ap, _∙_}
+use native.Mathlib.Nat.{pow-suc, mul-assoc, mul-comm, suc-mul, one-le-pow, le-antisymm, le-div-iff-mul-le, div-lt-iff-lt-mul, le-of-suc-le-suc, zero-mul, mul-le-mul-right, lt-of-mul-lt-mul-right, eq-or-lt-of-le, div-mul-le-self, lt-div-mul-add}
+use native.Mathlib.Decide.{decLt}
 use native.Mathlib.Omega.{arith}
 use mathlib.Core.Logic.{_⊎_, inl, inr}
-use Rattle.theory.specs.Results.{In}
+use Rattle.theory.specs.Results.{In, startOf}
 use Rattle.theory.specs.Routes.{Aligned}
 
 pub pow-pos : (n : ℕ) → 0 < 2 ^ n
@@ -44,6 +45,13 @@ in-left n a x i = omega (arith, pow-suc 2 n)
 pub in-right : (n a x : ℕ) → In n (a + 2 ^ n) x → In (suc n) a x
 in-right n a x i = omega (arith, pow-suc 2 n)
 
+pub in-halves : (n a x : ℕ) → In (suc n) a x → In n a x ⊎ In n (a + 2 ^ n) x
+in-halves n a x i = go (decLt x (a + 2 ^ n))
+  where
+    go : Dec (x < a + 2 ^ n) → In n a x ⊎ In n (a + 2 ^ n) x
+    go (yes lt) = inl (omega arith)
+    go (no ge) = inr (omega (arith, pow-suc 2 n))
+
 -- A longer block starts at a multiple of a shorter one's size, and blocks that do not overlap stand a whole block apart.
 pub aligned-down : (k n a : ℕ) → k ≤ n → Aligned n a → Aligned k a
 aligned-down k zero a le d = let e : k ≡ 0 = omega arith in rw e d
@@ -58,3 +66,29 @@ next-block k a b d e lt =
     let m : d .0 * 2 ^ k < e .0 * 2 ^ k = omega arith in
     let l : d .0 < e .0 = lt-of-mul-lt-mul-right (2 ^ k) m in
     omega (arith, mul-le-mul-right (2 ^ k) l, suc-mul (d .0) (2 ^ k))
+
+-- The start of an address's position: the position is aligned, has the address, and is the only such one.
+pub aligned-start : (n x : ℕ) → Aligned n (startOf n x)
+aligned-start n x = (x / 2 ^ n, refl)
+
+pub in-start : (n x : ℕ) → In n (startOf n x) x
+in-start n x = (div-mul-le-self x (2 ^ n), lt-div-mul-add (pow-pos n))
+
+pub start-is : (n a x : ℕ) → Aligned n a → In n a x → startOf n x ≡ a
+start-is n a x d i = ap (λ (q : ℕ). q * 2 ^ n) (block n a x d i) ∙ sym (d .1)
+
+pub aligned-next : (n a : ℕ) → Aligned n a → Aligned n (a + 2 ^ n)
+aligned-next n a d = (suc (d .0), omega (arith, suc-mul (d .0) (2 ^ n)))
+
+-- A position that has an address has its smaller positions whole.
+pub in-nested : (k n a x y : ℕ) → k ≤ n → Aligned n a → In n a x → In k (startOf k x) y → In n a y
+in-nested k n a x y le d i j = (low (decLt (startOf k x) a), omega (arith, high))
+  where
+    high : startOf k x + 2 ^ k ≤ a + 2 ^ n
+    high =
+        next-block k (startOf k x) (a + 2 ^ n) (aligned-start k x) (aligned-down k n (a + 2 ^ n) le (aligned-next n a d))
+        (omega (arith, in-start k x))
+
+    low : Dec (startOf k x < a) → a ≤ y
+    low (yes lt) = omega (arith, next-block k (startOf k x) a (aligned-start k x) (aligned-down k n a le d) lt, in-start k x)
+    low (no ge) = omega arith

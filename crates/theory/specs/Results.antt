@@ -1,11 +1,11 @@
 -- What each of the five modes answers, over addresses: a list of routes in table order, from a list of routes.
 -- A position (n, a) is the 2 ^ n addresses from a on, the prefix of length w - n there.
-use Prim.Native.Nat.{ℕ, zero, suc, _+_, _-_, _^_, _≤_, _<_}
+use Prim.Native.Nat.{ℕ, zero, suc, _+_, _-_, _*_, _/_, _^_, _≤_, _<_}
 use mathlib.Core.Path.{_≡_}
 use mathlib.Core.Bool.{Bool, true, false, cond, not, _||_, _&&_}
 use mathlib.Core.List.{List, [], _∷_, _++_}
 use lib.Dec.{eqb, ltb}
-use Rattle.theory.specs.Routes.{Route, held, Match, miss, hit, lookup, Answer, none, via, answer, filled}
+use Rattle.theory.specs.Routes.{Route, held, Match, miss, hit, lookup, Answer, none, via, answer, filled, Valid}
 
 -- x is an address of the position (n, a).
 abbrev pub In : ℕ → ℕ → ℕ → Type 0
@@ -27,6 +27,22 @@ unfoldable pub maximal : ℕ → (ℕ → Bool) → ℕ → ℕ → List Route
 maximal w p zero a = cond (p a) (prefix w zero a ∷ []) []
 maximal w p (suc n) a =
     cond (throughout p (suc n) a) (prefix w (suc n) a ∷ []) (maximal w p n a ++ maximal w p n (a + 2 ^ n))
+
+-- The start of the 2 ^ n addresses that share x's bits but the last n.
+abbrev pub startOf : ℕ → ℕ → ℕ
+startOf n x = x / 2 ^ n * 2 ^ n
+
+-- r is a maximal prefix for p: p holds throughout it, and not throughout the one-bit-shorter prefix, if there is one.
+pub record Maximal (w : ℕ) (p : ℕ → Bool) (r : Route) : Type 0 where
+  pub valid : Valid w r
+  pub bare : r .hop ≡ 0
+  pub covered : throughout p (w - r .len) (r .addr) ≡ true
+  pub widest : 0 < r .len → throughout p (suc (w - r .len)) (startOf (suc (w - r .len)) (r .addr)) ≡ false
+
+-- A table's prefixes as a set: the same routes with hop 0.
+abbrev pub unhopped : List Route → List Route
+unhopped [] = []
+unhopped (r ∷ t) = record { addr = r .addr; len = r .len; hop = 0 } ∷ unhopped t
 
 -- ---- Modes 2 and 3: entries kept or left out, by the nearest entry above each.
 

@@ -11,4 +11,5 @@ pub mod Repeat
 pub mod Parts
 pub mod Halves
 pub mod Quick
+pub mod Routed
 pub mod Maximal

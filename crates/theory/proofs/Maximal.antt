@@ -10,6 +10,7 @@ use Rattle.theory.specs.Routes.{Answer, none, via}
 use Rattle.theory.proofs.Blocks.{in-left, in-right, in-halves}
 use Rattle.theory.proofs.Preserve.{has-one}
 use Rattle.theory.proofs.Quick.{ortc-uniform}
+use Rattle.theory.proofs.Routed.{marked}
 
 -- ---- Covered: each of the position's addresses.
 
@@ -63,10 +64,6 @@ module _ (p q : ℕ → Bool) where
       )
 
 -- ---- Maximal prefixes are the rewrite, with holes, of the map that gives each address of the set the hop 0.
-
--- The set as a map.
-abbrev pub marked : Bool → Answer
-marked b = cond b (via 0) none
 
 marked-both : (b c : Bool) → combine (leaf (marked b)) (leaf (marked c)) ≡ leaf (marked (b && c))
 marked-both true true = refl

@@ -77,6 +77,9 @@ in-start n x = (div-mul-le-self x (2 ^ n), lt-div-mul-add (pow-pos n))
 pub start-is : (n a x : ℕ) → Aligned n a → In n a x → startOf n x ≡ a
 start-is n a x d i = ap (λ (q : ℕ). q * 2 ^ n) (block n a x d i) ∙ sym (d .1)
 
+pub same-start : (n a b : ℕ) → Aligned n a → Aligned n b → In n a b → b ≡ a
+same-start n a b d e i = sym (start-is n b b e (omega (arith, pow-pos n))) ∙ start-is n a b d i
+
 pub aligned-next : (n a : ℕ) → Aligned n a → Aligned n (a + 2 ^ n)
 aligned-next n a d = (suc (d .0), omega (arith, suc-mul (d .0) (2 ^ n)))
 

@@ -1,18 +1,19 @@
 -- Mode 1: what a position's cover means, which prefixes are maximal, and that they are the rewrite of a map with the one hop 0.
-use Prim.Native.Nat.{ℕ, zero, suc, _+_, _-_, _^_, _<_}
+use Prim.Native.Nat.{ℕ, zero, suc, _+_, _-_, _^_, _≤_, _<_}
 use mathlib.Core.Path.{_≡_, refl, sym, ap, ap₂, _∙_}
-use mathlib.Core.Bool.{Bool, true, false, cond, _&&_, and-eq-true-iff}
+use mathlib.Core.Bool.{Bool, true, false, cond, _&&_, true≢false, and-eq-true-iff}
 use mathlib.Core.List.{List, [], _∷_, _++_}
-use mathlib.Core.Logic.{_↔_, ⊎-elim}
+use mathlib.Core.Logic.{_↔_, _⊎_, inl, inr, ⊎-elim}
+use native.Mathlib.Nat.{le-refl, eq-or-lt-of-le}
 use native.Mathlib.Omega.{arith}
-use Rattle.theory.specs.Results.{In, throughout, prefix, maximal, unhopped, leaf, combine, sets, smallest, Chooses, here, ortc, whole, aggregateSet, aggregateMapDrop, result}
-use Rattle.theory.specs.Routes.{Route, held, Answer, none, via, answer, All, Table}
+use Rattle.theory.specs.Results.{In, throughout, prefix, maximal, startOf, Maximal, unhopped, leaf, combine, sets, smallest, Chooses, here, ortc, whole, aggregateSet, aggregateMapDrop, result}
+use Rattle.theory.specs.Routes.{Route, held, Answer, none, via, answer, Aligned, All, nil, cons, Table, Member, head}
 use Rattle.theory.proofs.Agree.{ortc-agree}
-use Rattle.theory.proofs.Blocks.{in-left, in-right, in-halves}
+use Rattle.theory.proofs.Blocks.{pow-pos, aligned-zero, aligned-left, aligned-right, in-left, in-right, in-halves, start-is, same-start, in-nested}
 use Rattle.theory.proofs.Chosen.{smallest-chooses}
-use Rattle.theory.proofs.Lists.{all-map}
+use Rattle.theory.proofs.Lists.{all-append, all-map, all-member, member-left, member-right}
 use Rattle.theory.proofs.Order.{hops, whole-valid, whole-ascending}
-use Rattle.theory.proofs.Preserve.{has-one, answers}
+use Rattle.theory.proofs.Preserve.{has-one, back, answers}
 use Rattle.theory.proofs.Quick.{ortc-uniform}
 use Rattle.theory.proofs.Routed.{routed, held-answer, marked, routed-marked, Bare, answer-bare, all-unhopped, unhopped-bare, held-unhopped}
 
@@ -151,3 +152,104 @@ module _ (w : ℕ) where
     -- On a set itself.
     pub set-is-drop-bare : All Bare t → result choose w aggregateSet t ≡ result choose w aggregateMapDrop t
     set-is-drop-bare h = set-is-drop ∙ ap (result choose w aggregateMapDrop) (unhopped-bare h)
+
+-- ---- Which prefixes are listed.
+
+module _ (w : ℕ) (p : ℕ → Bool) where
+  -- The position (k, b) is one of (n, a), p holds throughout it, and not throughout the next larger one in (n, a).
+  record Largest (n a k b : ℕ) : Type 0 where
+    inside : k ≤ n
+    at : In n a b
+    aligned : Aligned k b
+    covered : throughout p k b ≡ true
+    widest : k < n → throughout p (suc k) (startOf (suc k) b) ≡ false
+
+  abbrev Found : ℕ → ℕ → Route → Type 0
+  Found n a r = (k : ℕ) × ((b : ℕ) × (Largest n a k b × (r ≡ prefix w k b)))
+
+  itself : (n a : ℕ) → Aligned n a → throughout p n a ≡ true → All (Found n a) (prefix w n a ∷ [])
+  itself n a d e =
+      cons (n, (a, (record { inside = le-refl n; at = omega (arith, pow-pos n); aligned = d; covered = e; widest = λ lt. absurd (omega arith) }, refl))) nil
+
+  -- What is found in a half of a position that is not covered.
+  outward : (n a c : ℕ) → Aligned (suc n) a → throughout p (suc n) a ≡ false → ((x : ℕ) → In n c x → In (suc n) a x)
+      → (r : Route) → Found n c r → Found (suc n) a r
+  outward n a c d e half r (k, (b, (l, q))) =
+      (k, (b, (record { inside = omega (arith, l .inside); at = half b (l .at); aligned = l .aligned; covered = l .covered; widest = λ lt. go (eq-or-lt-of-le (l .inside)) }, q)))
+    where
+      go : (k ≡ n) ⊎ (k < n) → throughout p (suc k) (startOf (suc k) b) ≡ false
+      go (inl z) = rw (z, start-is (suc n) a b d (half b (l .at))) e
+      go (inr lt) = l .widest lt
+
+  all-found : (n a : ℕ) → Aligned n a → All (Found n a) (maximal w p n a)
+  unfolding maximal
+  all-found zero a d = go (p a) refl
+    where
+      go : (b : Bool) → p a ≡ b → All (Found zero a) (cond b (prefix w zero a ∷ []) [])
+      go true e = itself zero a d (unfold throughout in e)
+      go false e = nil
+  all-found (suc n) a d =
+      go (throughout p (suc n) a) refl (all-found n a (aligned-left n a d)) (all-found n (a + 2 ^ n) (aligned-right n a d))
+    where
+      go : (b : Bool) → throughout p (suc n) a ≡ b → All (Found n a) (maximal w p n a) → All (Found n (a + 2 ^ n)) (maximal w p n (a + 2 ^ n))
+          → All (Found (suc n) a) (cond b (prefix w (suc n) a ∷ []) (maximal w p n a ++ maximal w p n (a + 2 ^ n)))
+      go true e l r = itself (suc n) a d e
+      go false e l r =
+          all-append (all-map (outward n a a d e (in-left n a)) l) (all-map (outward n a (a + 2 ^ n) d e (in-right n a)) r)
+
+  -- Every position inside a covered one is covered, so the largest is the position itself.
+  not-inside : (n a k b : ℕ) → Aligned n a → Largest n a k b → throughout p n a ≡ true → k < n → ⊥
+  not-inside n a k b d l e lt =
+      let z = throughout-not p (suc k) (startOf (suc k) b) (l .widest lt) in
+      let i : In n a (z .0) = in-nested (suc k) n a b (z .0) lt d (l .at) (z .1 .0) in
+      true≢false (sym (throughout-each p n a .0 e (z .0) i) ∙ z .1 .1)
+
+  inward : (n a c k b : ℕ) → k ≤ n → In n c b → Largest (suc n) a k b → Largest n c k b
+  inward n a c k b le i l =
+      record { inside = le; at = i; aligned = l .aligned; covered = l .covered; widest = λ lt. l .widest (omega arith) }
+
+  listed : (n a k b : ℕ) → Aligned n a → Largest n a k b → Member (prefix w k b) (maximal w p n a)
+  unfolding maximal
+  listed zero a k b d l =
+      let ek : k ≡ 0 = omega (arith, l .inside) in
+      let eb : b ≡ a = omega (arith, l .at) in
+      let e : p a ≡ true = throughout-each p k b .0 (l .covered) a (omega (arith, pow-pos k)) in
+      rw (ek, eb, e) head
+  listed (suc n) a k b d l =
+      go (throughout p (suc n) a) refl (eq-or-lt-of-le (l .inside)) (listed n a k b (aligned-left n a d)) (listed n (a + 2 ^ n) k b (aligned-right n a d))
+    where
+      same : k ≡ suc n → b ≡ a
+      same q = same-start (suc n) a b d (rw q at (l .aligned)) (l .at)
+
+      go : (c : Bool) → throughout p (suc n) a ≡ c → (k ≡ suc n) ⊎ (k < suc n) → (Largest n a k b → Member (prefix w k b) (maximal w p n a))
+          → (Largest n (a + 2 ^ n) k b → Member (prefix w k b) (maximal w p n (a + 2 ^ n)))
+          → Member (prefix w k b) (cond c (prefix w (suc n) a ∷ []) (maximal w p n a ++ maximal w p n (a + 2 ^ n)))
+      go true e (inl q) lo hi = rw (q, same q) head
+      go true e (inr lt) lo hi = absurd (not-inside (suc n) a k b d l e lt)
+      go false e (inl q) lo hi = absurd (true≢false (sym (rw (q, same q) at (l .covered)) ∙ e))
+      go false e (inr lt) lo hi =
+          ⊎-elim (λ i. member-left (maximal w p n (a + 2 ^ n)) (lo (inward n a a k b (omega arith) i l)))
+          (λ i. member-right (maximal w p n a) (hi (inward n a (a + 2 ^ n) k b (omega arith) i l))) (in-halves n a b (l .at))
+
+  found-maximal : (r : Route) → Found w 0 r → Maximal w p r
+  found-maximal r (k, (b, (l, e))) = rw e (go (back w k (l .inside)))
+    where
+      go : w - (w - k) ≡ k → Maximal w p (prefix w k b)
+      go q =
+          record {
+            valid = record { short = omega arith; clean = rw q (l .aligned); small = omega (arith, l .at) };
+            bare = refl;
+            covered = rw q (l .covered);
+            widest = λ lt. rw q (l .widest (omega arith));
+          }
+
+  maximal-found : (r : Route) → Maximal w p r → Member r (maximal w p w 0)
+  maximal-found r m =
+      let e : r ≡ prefix w (w - r .len) (r .addr) =
+      ap₂ (λ (k h : ℕ). record { addr = r .addr; len = k; hop = h }) (sym (back w (r .len) (m .valid .short))) (m .bare) in
+      rw e (listed w 0 (w - r .len) (r .addr) (aligned-zero w)
+      (record { inside = omega arith; at = omega (arith, m .valid .small); aligned = m .valid .clean; covered = m .covered; widest = λ lt. m .widest (omega arith) }))
+
+  -- A route is listed exactly when it is a maximal prefix.
+  pub maximal-listed : (r : Route) → Member r (maximal w p w 0) ↔ Maximal w p r
+  maximal-listed r = (λ m. found-maximal r (all-member (all-found w 0 (aligned-zero w)) m), maximal-found r)

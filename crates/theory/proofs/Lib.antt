@@ -13,3 +13,4 @@ pub mod Halves
 pub mod Quick
 pub mod Routed
 pub mod Maximal
+pub mod Computed

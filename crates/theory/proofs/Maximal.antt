@@ -7,7 +7,7 @@ use mathlib.Core.Logic.{_↔_, _⊎_, inl, inr, ⊎-elim}
 use native.Mathlib.Nat.{le-refl, eq-or-lt-of-le}
 use native.Mathlib.Omega.{arith}
 use Rattle.theory.specs.Results.{In, throughout, prefix, maximal, startOf, Maximal, unhopped, leaf, combine, sets, smallest, Chooses, here, ortc, whole, aggregateSet, aggregateMapDrop, result}
-use Rattle.theory.specs.Routes.{Route, held, Answer, none, via, answer, Aligned, All, nil, cons, Table, Member, head}
+use Rattle.theory.specs.Routes.{Route, matches, held, Answer, none, via, answer, Aligned, Valid, All, nil, cons, Table, Member, head}
 use Rattle.theory.proofs.Agree.{ortc-agree}
 use Rattle.theory.proofs.Blocks.{pow-pos, aligned-zero, aligned-left, aligned-right, in-left, in-right, in-halves, start-is, same-start, in-nested}
 use Rattle.theory.proofs.Chosen.{smallest-chooses}
@@ -15,7 +15,7 @@ use Rattle.theory.proofs.Lists.{all-append, all-map, all-member, member
 use Rattle.theory.proofs.Order.{hops, whole-valid, whole-ascending}
 use Rattle.theory.proofs.Preserve.{has-one, back, answers}
 use Rattle.theory.proofs.Quick.{ortc-uniform}
-use Rattle.theory.proofs.Routed.{routed, held-answer, marked, routed-marked, Bare, answer-bare, all-unhopped, unhopped-bare, held-unhopped}
+use Rattle.theory.proofs.Routed.{matches-in, routed, held-answer, marked, routed-marked, Bare, answer-bare, all-unhopped, unhopped-bare, held-unhopped}
 
 -- ---- Covered: each of the position's addresses.
 
@@ -48,6 +48,14 @@ module _ (p : ℕ → Bool) where
           → (throughout p n (a + 2 ^ n) ≡ false → (x : ℕ) × (In n (a + 2 ^ n) x × (p x ≡ false))) → (x : ℕ) × (In (suc n) a x × (p x ≡ false))
       go false q l r = let z = l refl in (z .0, (in-left n a (z .0) (z .1 .0), z .1 .1))
       go true q l r = let z = r q in (z .0, (in-right n a (z .0) (z .1 .0), z .1 .1))
+
+-- A prefix is covered exactly when each address that it matches is.
+pub covered-matches : (w : ℕ) (p : ℕ → Bool) {r : Route} → Valid w r
+    → (throughout p (w - r .len) (r .addr) ≡ true) ↔ ((x : ℕ) → matches w r x ≡ true → p x ≡ true)
+covered-matches w p {r} v = (
+  λ e x m. throughout-each p (w - r .len) (r .addr) .0 e x (matches-in w v x .0 m),
+  λ h. throughout-each p (w - r .len) (r .addr) .1 (λ x i. h x (matches-in w v x .1 i)),
+)
 
 -- ---- Tests that agree on a position's addresses have the same maximal prefixes there.
 

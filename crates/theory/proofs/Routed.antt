@@ -1,13 +1,24 @@
 -- Whether a table holds an address, read off its longest match; and tables whose hops are all 0.
-use Prim.Native.Nat.{ℕ}
+use Prim.Native.Nat.{ℕ, _-_}
 use mathlib.Core.Path.{_≡_, refl, sym, ap, ap₂, _∙_}
 use mathlib.Core.Bool.{Bool, true, false, cond, _||_}
 use mathlib.Core.List.{List, [], _∷_}
 use mathlib.Core.Logic.{_↔_}
 use lib.Dec.{ltb}
+use borrow.Author.Tests.{eq-eqb, eqb-true}
 use native.Mathlib.Omega.{arith}
-use Rattle.theory.specs.Results.{unhopped}
-use Rattle.theory.specs.Routes.{Route, matches, held, Match, miss, hit, longer, tried, lookup, Answer, none, via, under, answer, All, nil, cons}
+use Rattle.theory.specs.Results.{In, unhopped}
+use Rattle.theory.specs.Routes.{Route, matches, held, Match, miss, hit, longer, tried, lookup, Answer, none, via, under, answer, Valid, All, nil, cons}
+use Rattle.theory.proofs.Blocks.{in→block, block→in}
+
+-- ---- The addresses that a route matches are those of its position.
+
+module _ (w : ℕ) {r : Route} (v : Valid w r) where
+  pub matches-in : (x : ℕ) → (matches w r x ≡ true) ↔ In (w - r .len) (r .addr) x
+  matches-in x = (
+    λ e. block→in (w - r .len) (r .addr) x (v .clean) (eqb-true _ _ e),
+    λ i. eq-eqb _ _ (in→block (w - r .len) (r .addr) x (v .clean) i),
+  )
 
 -- ---- What holds of every route's length and hop holds of the longest match's.
 

@@ -1,6 +1,7 @@
 -- The laws of the theory.
 pub mod Blocks
 pub mod Lists
+pub mod Routed
 pub mod Agree
 pub mod Uniform
 pub mod Preserve
@@ -11,6 +12,5 @@ pub mod Repeat
 pub mod Parts
 pub mod Halves
 pub mod Quick
-pub mod Routed
 pub mod Maximal
 pub mod Computed

@@ -5,12 +5,13 @@ use mathlib.Core.Bool.{Bool, true, false, cond}
 use mathlib.Core.List.{List, [], _∷_}
 use native.Mathlib.Decide.{decLt}
 use native.Mathlib.Omega.{arith}
-use lib.Dec.{eqb, ltb}
+use lib.Dec.{eqb}
 use lib.ListN.{length}
 use borrow.Author.Tests.{lt-ltb, le-ltb, eqb-true, eqb-false}
 use Rattle.theory.specs.Results.{part}
 use Rattle.theory.specs.Routes.{Route, matches, Match, miss, hit, longer, tried, lookup, Answer, under, All, nil, cons}
 use Rattle.theory.proofs.Preserve.{Deep, longer-miss}
+use Rattle.theory.proofs.Routed.{Every, lookup-every}
 
 -- The routes that fail a test.
 abbrev pub rest : (Route → Bool) → List Route → List Route
@@ -60,30 +61,15 @@ longer-assoc (hit k h) (hit l i) (hit m j) = go (decLt l k) (decLt m l)
 
 -- A match is at most so long.
 abbrev pub Shallow : ℕ → Match → Type 0
-Shallow k miss = Unit {0}
-Shallow k (hit l h) = l ≤ k
+Shallow k m = Every (λ l h. l ≤ k) m
+
+pub lookup-shallow : (w k x : ℕ) {t : List Route} → All (λ r. r .len ≤ k) t → Shallow k (lookup w t x)
+lookup-shallow w k x h = lookup-every (λ l h. l ≤ k) w x h
 
 longer-comm : (k : ℕ) (m e : Match) → Deep (suc k) m → Shallow k e → longer m e ≡ longer e m
 longer-comm k miss e p q = sym (longer-none e)
 longer-comm k (hit l h) miss p q = refl
 longer-comm k (hit l h) (hit j g) p q = rw (lt-ltb j l (omega arith), le-ltb l j (omega arith))
-
-shallow-longer : (k : ℕ) (m l : Match) → Shallow k m → Shallow k l → Shallow k (longer m l)
-shallow-longer k miss l p q = q
-shallow-longer k (hit i h) miss p q = p
-shallow-longer k (hit i h) (hit j g) p q = go (ltb j i)
-  where
-    go : (b : Bool) → Shallow k (cond b (hit i h) (hit j g))
-    go true = p
-    go false = q
-
-pub lookup-shallow : (w k x : ℕ) {t : List Route} → All (λ r. r .len ≤ k) t → Shallow k (lookup w t x)
-lookup-shallow w k x nil = tt
-lookup-shallow w k x (cons {r = r} {t = t} p ps) = shallow-longer k (tried w r x) (lookup w t x) (go (matches w r x)) (lookup-shallow w k x ps)
-  where
-    go : (b : Bool) → Shallow k (cond b (hit (r .len) (r .hop)) miss)
-    go true = p
-    go false = tt
 
 pub under-longer : (k : ℕ) (g : Answer) (e i : Match) → Shallow k e → Deep k i → under g (longer e i) ≡ under (under g e) i
 under-longer k g miss i p q = refl

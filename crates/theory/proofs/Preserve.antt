@@ -12,6 +12,7 @@ use Rattle.theory.specs.Results.{In, has, Cand, hole, of, leaf, combine,
 use Rattle.theory.specs.Routes.{Route, matches, Match, miss, hit, longer, tried, lookup, Answer, none, via, under, answer, Aligned, All, nil, cons}
 use Rattle.theory.proofs.Blocks.{aligned-zero, aligned-left, aligned-right, in→block, block→in}
 use Rattle.theory.proofs.Lists.{all-append, all-map}
+use Rattle.theory.proofs.Routed.{Every, lookup-every}
 
 -- A route that is well formed, and whose addresses all lie in the position (n, a).
 pub record Within (w n a : ℕ) (r : Route) : Type 0 where
@@ -45,25 +46,10 @@ lookup-outside w n a x (cons {r = r} {t = t} p ps) out = go (matches w r x) refl
 
 -- A match is at least so long.
 abbrev pub Deep : ℕ → Match → Type 0
-Deep k miss = Unit {0}
-Deep k (hit l h) = k ≤ l
-
-deep-longer : (k : ℕ) (m l : Match) → Deep k m → Deep k l → Deep k (longer m l)
-deep-longer k miss l p q = q
-deep-longer k (hit i h) miss p q = p
-deep-longer k (hit i h) (hit j g) p q = go (ltb j i)
-  where
-    go : (b : Bool) → Deep k (cond b (hit i h) (hit j g))
-    go true = p
-    go false = q
+Deep k m = Every (λ l h. k ≤ l) m
 
 pub lookup-deep : (w n a x : ℕ) {t : List Route} → All (Within w n a) t → Deep (w - n) (lookup w t x)
-lookup-deep w n a x nil = tt
-lookup-deep w n a x (cons {r = r} {t = t} p ps) = deep-longer (w - n) (tried w r x) (lookup w t x) (go (matches w r x)) (lookup-deep w n a x ps)
-  where
-    go : (b : Bool) → Deep (w - n) (cond b (hit (r .len) (r .hop)) miss)
-    go true = p .deep
-    go false = tt
+lookup-deep w n a x h = lookup-every (λ l h. w - n ≤ l) w x (all-map (λ r i. i .deep) h)
 
 pub lookup-append-left : (w x : ℕ) (s t : List Route) → lookup w t x ≡ miss → lookup w (s ++ t) x ≡ lookup w s x
 lookup-append-left w x [] t e = e

@@ -1,8 +1,9 @@
 -- Positions as aligned blocks of 2 ^ n addresses: their halves, and that an address is in one exactly when its leading bits are the block's.
 use Prim.Native.Nat.{ℕ, zero, suc, _+_, _*_, _/_, _^_, _≤_, _<_}
 use mathlib.Core.Path.{_≡_, refl, sym, ap, _∙_}
-use native.Mathlib.Nat.{pow-suc, mul-assoc, mul-comm, suc-mul, one-le-pow, le-antisymm, le-div-iff-mul-le, div-lt-iff-lt-mul, le-of-suc-le-suc, zero-mul, mul-le-mul-right, lt-of-mul-lt-mul-right, eq-or-lt-of-le, div-mul-le-self, lt-div-mul-add}
-use native.Mathlib.Decide.{decLt}
+use mathlib.Core.HLevel.{hedberg, Σ-prop-path}
+use native.Mathlib.Nat.{pow-suc, mul-assoc, mul-comm, suc-mul, one-le-pow, le-antisymm, le-div-iff-mul-le, div-lt-iff-lt-mul, le-of-suc-le-suc, zero-mul, mul-le-mul-right, lt-of-mul-lt-mul-right, eq-of-mul-eq-mul-right, eq-or-lt-of-le, div-mul-le-self, lt-div-mul-add}
+use native.Mathlib.Decide.{ℕ-discrete, decLt}
 use native.Mathlib.Omega.{arith}
 use mathlib.Core.Logic.{_⊎_, inl, inr}
 use Rattle.theory.specs.Results.{In, startOf}
@@ -13,6 +14,11 @@ pow-pos n = one-le-pow n 2 (omega arith)
 
 pub aligned-zero : (n : ℕ) → Aligned n 0
 aligned-zero n = (0, sym (zero-mul (2 ^ n)))
+
+-- There is one such multiple.
+pub aligned-prop : (n a : ℕ) → IsProp (Aligned n a)
+aligned-prop n a d e =
+    Σ-prop-path (λ q. hedberg ℕ-discrete a (q * 2 ^ n)) (eq-of-mul-eq-mul-right (2 ^ n) (pow-pos n) (d .0) (e .0) (sym (d .1) ∙ e .1))
 
 double : (q m : ℕ) → q * (m * 2) ≡ q * 2 * m
 double q m = ap (λ (k : ℕ). q * k) (mul-comm m 2) ∙ sym (mul-assoc q 2 m)
@@ -45,6 +51,7 @@ in-left n a x i = omega (arith, pow-suc 2 n)
 pub in-right : (n a x : ℕ) → In n (a + 2 ^ n) x → In (suc n) a x
 in-right n a x i = omega (arith, pow-suc 2 n)
 
+-- An address of a position is one of a half.
 pub in-halves : (n a x : ℕ) → In (suc n) a x → In n a x ⊎ In n (a + 2 ^ n) x
 in-halves n a x i = go (decLt x (a + 2 ^ n))
   where

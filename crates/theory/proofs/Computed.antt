@@ -17,7 +17,8 @@ valid-unhopped (cons v vs) = cons (record { short = v .short; clean = v .clean; 
 
 module _ (choose : List ℕ → ℕ) (law : Chooses choose) (w : ℕ) {t : List Route} (valid : All (Valid w) t) where
   -- The rewrite of a table's answers, over what is said of unrouted addresses.
-  whole-computed : (f : ℕ → Answer) (cover : Answer) → ((x : ℕ) → under cover (lookup w t x) ≡ f x) → whole choose w f ≡ ortcOf choose w w 0 cover none t
+  whole-computed : (f : ℕ → Answer) (cover : Answer) → ((x : ℕ) → under cover (lookup w t x) ≡ f x)
+      → whole choose w f ≡ ortcOf choose w w 0 cover none t
   whole-computed f cover sem =
       ortc-quick choose w f law w 0 cover none t (le-refl w) (aligned-zero w) (all-map (valid-within w) valid) (λ x i. sem x)
 

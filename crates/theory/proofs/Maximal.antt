@@ -1,10 +1,12 @@
 -- Mode 1: what a position's cover means, which prefixes are maximal, and that they are the rewrite of a map with the one hop 0.
 use Prim.Native.Nat.{ℕ, zero, suc, _+_, _-_, _^_, _≤_, _<_}
 use mathlib.Core.Path.{_≡_, refl, sym, ap, ap₂, _∙_}
-use mathlib.Core.Bool.{Bool, true, false, cond, _&&_, true≢false, and-eq-true-iff}
+use mathlib.Core.Bool.{Bool, true, false, cond, _&&_, true≢false, Bool-set, and-eq-true-iff}
 use mathlib.Core.List.{List, [], _∷_, _++_}
 use mathlib.Core.Logic.{_↔_, _⊎_, inl, inr, ⊎-elim}
 use native.Mathlib.Nat.{le-refl, eq-or-lt-of-le}
+use mathlib.Core.HLevel.{hedberg}
+use native.Mathlib.Decide.{ℕ-discrete}
 use native.Mathlib.Omega.{arith}
 use Rattle.theory.specs.Results.{In, throughout, prefix, maximal, startOf, Maximal, unhopped, leaf, combine, sets, smallest, Chooses, here, ortc, whole, aggregateSet, aggregateMapDrop, result}
 use Rattle.theory.specs.Routes.{Route, matches, held, Answer, none, via, answer, Aligned, Valid, All, nil, cons, Table, Member, head}
@@ -15,7 +17,7 @@ use Rattle.theory.proofs.Lists.{all-append, all-map, all-member, member
 use Rattle.theory.proofs.Order.{hops, whole-valid, whole-ascending}
 use Rattle.theory.proofs.Preserve.{has-one, back, answers}
 use Rattle.theory.proofs.Quick.{ortc-uniform}
-use Rattle.theory.proofs.Routed.{matches-in, routed, held-answer, marked, routed-marked, Bare, answer-bare, all-unhopped, unhopped-bare, held-unhopped}
+use Rattle.theory.proofs.Routed.{valid-prop, matches-in, routed, held-answer, marked, routed-marked, Bare, answer-bare, all-unhopped, unhopped-bare, held-unhopped}
 
 -- ---- Covered: each of the position's addresses.
 
@@ -95,6 +97,7 @@ module _ (choose : List ℕ → ℕ) (law : Chooses choose) (w : ℕ) (p : ℕ �
   here-marked true n a = rw (has-one (choose (0 ∷ [])) 0 (law 0 []))
   here-marked false n a = refl
 
+  -- The maximal prefixes of a position are its rewrite.
   pub maximal-is-ortc : (n a : ℕ) → maximal w p n a ≡ ortc choose w (λ x. marked (p x)) n a none
   unfolding maximal ortc sets
   maximal-is-ortc zero a = sym (here-marked (p a) zero a)
@@ -106,7 +109,11 @@ module _ (choose : List ℕ → ℕ) (law : Chooses choose) (w : ℕ) (p : ℕ �
       go : (b : Bool) → throughout p (suc n) a ≡ b → maximal w p n a ≡ ortc choose w f n a none
           → maximal w p n (a + 2 ^ n) ≡ ortc choose w f n (a + 2 ^ n) none
           → cond b (prefix w (suc n) a ∷ []) (maximal w p n a ++ maximal w p n (a + 2 ^ n)) ≡ ortc choose w f (suc n) a none
-      go true e l r = sym (ortc-uniform choose w law f (via 0) (suc n) a none (λ x i. ap marked (throughout-each p (suc n) a .0 e x i)) ∙ here-marked true (suc n) a)
+      go true e l r =
+          sym (
+          ortc-uniform choose w law f (via 0) (suc n) a none (λ x i. ap marked (throughout-each p (suc n) a .0 e x i))
+          ∙ here-marked true (suc n) a
+          )
       go false e l r = rw (sets-marked p (suc n) a, e) (ap₂ _++_ l r)
 
 -- ---- So the laws of the rewrite are laws of mode 1; any choice serves, here the smallest.
@@ -172,23 +179,39 @@ module _ (w : ℕ) (p : ℕ → Bool) where
     covered : throughout p k b ≡ true
     widest : k < n → throughout p (suc k) (startOf (suc k) b) ≡ false
 
+  -- r is the prefix of such a position.
   abbrev Found : ℕ → ℕ → Route → Type 0
   Found n a r = (k : ℕ) × ((b : ℕ) × (Largest n a k b × (r ≡ prefix w k b)))
 
+  -- A covered position is its own largest.
   itself : (n a : ℕ) → Aligned n a → throughout p n a ≡ true → All (Found n a) (prefix w n a ∷ [])
   itself n a d e =
-      cons (n, (a, (record { inside = le-refl n; at = omega (arith, pow-pos n); aligned = d; covered = e; widest = λ lt. absurd (omega arith) }, refl))) nil
+      cons (n, (a, (one, refl))) nil
+    where
+      one : Largest n a n a
+      one = record { inside = le-refl n; at = omega (arith, pow-pos n); aligned = d; covered = e; widest = λ lt. absurd (omega arith) }
 
-  -- What is found in a half of a position that is not covered.
+  -- What is found in a half of a position that is not covered is found in the position.
   outward : (n a c : ℕ) → Aligned (suc n) a → throughout p (suc n) a ≡ false → ((x : ℕ) → In n c x → In (suc n) a x)
       → (r : Route) → Found n c r → Found (suc n) a r
   outward n a c d e half r (k, (b, (l, q))) =
-      (k, (b, (record { inside = omega (arith, l .inside); at = half b (l .at); aligned = l .aligned; covered = l .covered; widest = λ lt. go (eq-or-lt-of-le (l .inside)) }, q)))
+      (k, (b, (up, q)))
     where
       go : (k ≡ n) ⊎ (k < n) → throughout p (suc k) (startOf (suc k) b) ≡ false
       go (inl z) = rw (z, start-is (suc n) a b d (half b (l .at))) e
       go (inr lt) = l .widest lt
 
+      up : Largest (suc n) a k b
+      up =
+          record {
+            inside = omega (arith, l .inside);
+            at = half b (l .at);
+            aligned = l .aligned;
+            covered = l .covered;
+            widest = λ lt. go (eq-or-lt-of-le (l .inside));
+          }
+
+  -- Every listed route is found.
   all-found : (n a : ℕ) → Aligned n a → All (Found n a) (maximal w p n a)
   unfolding maximal
   all-found zero a d = go (p a) refl
@@ -205,17 +228,19 @@ module _ (w : ℕ) (p : ℕ → Bool) where
       go false e l r =
           all-append (all-map (outward n a a d e (in-left n a)) l) (all-map (outward n a (a + 2 ^ n) d e (in-right n a)) r)
 
-  -- Every position inside a covered one is covered, so the largest is the position itself.
+  -- Every position inside a covered one is covered, so none of them is a largest one.
   not-inside : (n a k b : ℕ) → Aligned n a → Largest n a k b → throughout p n a ≡ true → k < n → ⊥
   not-inside n a k b d l e lt =
       let z = throughout-not p (suc k) (startOf (suc k) b) (l .widest lt) in
       let i : In n a (z .0) = in-nested (suc k) n a b (z .0) lt d (l .at) (z .1 .0) in
       true≢false (sym (throughout-each p n a .0 e (z .0) i) ∙ z .1 .1)
 
+  -- A largest one of a position is one of the half that it is in.
   inward : (n a c k b : ℕ) → k ≤ n → In n c b → Largest (suc n) a k b → Largest n c k b
   inward n a c k b le i l =
       record { inside = le; at = i; aligned = l .aligned; covered = l .covered; widest = λ lt. l .widest (omega arith) }
 
+  -- Every largest one is listed.
   listed : (n a k b : ℕ) → Aligned n a → Largest n a k b → Member (prefix w k b) (maximal w p n a)
   unfolding maximal
   listed zero a k b d l =
@@ -251,13 +276,33 @@ module _ (w : ℕ) (p : ℕ → Bool) where
             widest = λ lt. rw q (l .widest (omega arith));
           }
 
-  maximal-found : (r : Route) → Maximal w p r → Member r (maximal w p w 0)
-  maximal-found r m =
+  maximal-member : (r : Route) → Maximal w p r → Member r (maximal w p w 0)
+  maximal-member r m =
       let e : r ≡ prefix w (w - r .len) (r .addr) =
       ap₂ (λ (k h : ℕ). record { addr = r .addr; len = k; hop = h }) (sym (back w (r .len) (m .valid .short))) (m .bare) in
-      rw e (listed w 0 (w - r .len) (r .addr) (aligned-zero w)
-      (record { inside = omega arith; at = omega (arith, m .valid .small); aligned = m .valid .clean; covered = m .covered; widest = λ lt. m .widest (omega arith) }))
+      rw e (listed w 0 (w - r .len) (r .addr) (aligned-zero w) one)
+    where
+      one : Largest w 0 (w - r .len) (r .addr)
+      one =
+          record {
+            inside = omega arith;
+            at = omega (arith, m .valid .small);
+            aligned = m .valid .clean;
+            covered = m .covered;
+            widest = λ lt. m .widest (omega arith);
+          }
 
   -- A route is listed exactly when it is a maximal prefix.
   pub maximal-listed : (r : Route) → Member r (maximal w p w 0) ↔ Maximal w p r
-  maximal-listed r = (λ m. found-maximal r (all-member (all-found w 0 (aligned-zero w)) m), maximal-found r)
+  maximal-listed r = (λ m. found-maximal r (all-member (all-found w 0 (aligned-zero w)) m), maximal-member r)
+
+-- A route is maximal in one way only.
+pub maximal-prop : (w : ℕ) (p : ℕ → Bool) (r : Route) → IsProp (Maximal w p r)
+maximal-prop w p r l m =
+    λ i.
+    record {
+      valid = valid-prop w r (l .valid) (m .valid) i;
+      bare = hedberg ℕ-discrete (r .hop) 0 (l .bare) (m .bare) i;
+      covered = Bool-set _ _ (l .covered) (m .covered) i;
+      widest = λ lt. Bool-set _ _ (l .widest lt) (m .widest lt) i;
+    }

@@ -1,4 +1,4 @@
--- Whether a table holds an address, read off its longest match; and tables whose hops are all 0.
+-- What a route matches, what a longest match inherits from the routes, whether a table holds an address; and tables whose hops are all 0.
 use Prim.Native.Nat.{ℕ, _-_}
 use mathlib.Core.Path.{_≡_, refl, sym, ap, ap₂, _∙_}
 use mathlib.Core.Bool.{Bool, true, false, cond, _||_}
@@ -6,14 +6,26 @@ use mathlib.Core.List.{List, [], _∷_}
 use mathlib.Core.Logic.{_↔_}
 use lib.Dec.{ltb}
 use borrow.Author.Tests.{eq-eqb, eqb-true}
+use native.Mathlib.Bridge.{le-prop}
 use native.Mathlib.Omega.{arith}
 use Rattle.theory.specs.Results.{In, unhopped}
 use Rattle.theory.specs.Routes.{Route, matches, held, Match, miss, hit, longer, tried, lookup, Answer, none, via, under, answer, Valid, All, nil, cons}
-use Rattle.theory.proofs.Blocks.{in→block, block→in}
+use Rattle.theory.proofs.Blocks.{aligned-prop, in→block, block→in}
 
--- ---- The addresses that a route matches are those of its position.
+-- ---- Valid routes.
+
+-- A route is valid in one way only.
+pub valid-prop : (w : ℕ) (r : Route) → IsProp (Valid w r)
+valid-prop w r u v =
+    λ i.
+    record {
+      short = le-prop (u .short) (v .short) i;
+      clean = aligned-prop (w - r .len) (r .addr) (u .clean) (v .clean) i;
+      small = le-prop (u .small) (v .small) i;
+    }
 
 module _ (w : ℕ) {r : Route} (v : Valid w r) where
+  -- It matches the addresses of its position.
   pub matches-in : (x : ℕ) → (matches w r x ≡ true) ↔ In (w - r .len) (r .addr) x
   matches-in x = (
     λ e. block→in (w - r .len) (r .addr) x (v .clean) (eqb-true _ _ e),
@@ -73,7 +85,10 @@ held-answer w x (r ∷ t) =
 
 -- Exactly when there is a match.
 pub held-lookup : (w x : ℕ) (t : List Route) → (held w t x ≡ true) ↔ ((k : ℕ) × ((h : ℕ) × (lookup w t x ≡ hit k h)))
-held-lookup w x t = (λ e. hits (lookup w t x) refl (sym (held-answer w x t) ∙ e), λ z. held-answer w x t ∙ ap (λ (m : Match). routed (under none m)) (z .1 .1))
+held-lookup w x t = (
+  λ e. hits (lookup w t x) refl (sym (held-answer w x t) ∙ e),
+  λ z. held-answer w x t ∙ ap (λ (m : Match). routed (under none m)) (z .1 .1),
+)
   where
     hits : (m : Match) → lookup w t x ≡ m → routed (under none (lookup w t x)) ≡ true → (k : ℕ) × ((h : ℕ) × (lookup w t x ≡ hit k h))
     hits miss e q = let z : _≡_ {A = ℕ} 0 1 = cc in absurd (omega arith)
@@ -105,11 +120,12 @@ pub all-unhopped : (t : List Route) → All Bare (unhopped t)
 all-unhopped [] = nil
 all-unhopped (r ∷ t) = cons refl (all-unhopped t)
 
--- A set is its own; and hops do not matter to what a table holds.
+-- A set without its hops is itself.
 pub unhopped-bare : {t : List Route} → All Bare t → unhopped t ≡ t
 unhopped-bare nil = refl
 unhopped-bare (cons {r = r} h hs) = ap₂ _∷_ (ap (λ (k : ℕ). record { addr = r .addr; len = r .len; hop = k }) (sym h)) (unhopped-bare hs)
 
+-- Hops do not matter to what a table holds.
 pub held-unhopped : (w x : ℕ) (t : List Route) → held w (unhopped t) x ≡ held w t x
 held-unhopped w x [] = refl
 held-unhopped w x (r ∷ t) = ap (λ (b : Bool). matches w r x || b) (held-unhopped w x t)

@@ -58,3 +58,9 @@ next-block k a b d e lt =
     let m : d .0 * 2 ^ k < e .0 * 2 ^ k = omega arith in
     let l : d .0 < e .0 = lt-of-mul-lt-mul-right (2 ^ k) m in
     omega (arith, mul-le-mul-right (2 ^ k) l, suc-mul (d .0) (2 ^ k))
+
+-- Blocks of one size that share their leading bits start at one address.
+pub same-block : (n a b : ℕ) → Aligned n a → Aligned n b → a / 2 ^ n ≡ b / 2 ^ n → a ≡ b
+same-block n a b d e q =
+    let p : d .0 ≡ e .0 = sym (block n a a d (omega (arith, pow-pos n))) ∙ q ∙ block n b b e (omega (arith, pow-pos n)) in
+    d .1 ∙ ap (λ (k : ℕ). k * 2 ^ n) p ∙ sym (e .1)

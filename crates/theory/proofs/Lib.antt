@@ -11,3 +11,4 @@ pub mod Repeat
 pub mod Parts
 pub mod Halves
 pub mod Quick
+pub mod LongestMatch

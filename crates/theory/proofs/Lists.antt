@@ -1,6 +1,6 @@
 -- Laws of lists of routes: a property of every route.
-use mathlib.Core.List.{List, _++_}
-use Rattle.theory.specs.Routes.{Route, All, nil, cons}
+use mathlib.Core.List.{List, [], _∷_, _++_}
+use Rattle.theory.specs.Routes.{Route, All, nil, cons, Member, head, later}
 
 pub all-append : {P : Route → Type 0} {s t : List Route} → All P s → All P t → All P (s ++ t)
 all-append nil q = q
@@ -9,3 +9,12 @@ all-append (cons p ps) q = cons p (all-append ps q)
 pub all-map : {P Q : Route → Type 0} {t : List Route} → ((r : Route) → P r → Q r) → All P t → All Q t
 all-map k nil = nil
 all-map k (cons {r = r} p ps) = cons (k r p) (all-map k ps)
+
+-- A property of every route is one of every member.
+pub all-member : {P : Route → Type 0} {t : List Route} {r : Route} → All P t → Member r t → P r
+all-member (cons p ps) head = p
+all-member (cons p ps) (later m) = all-member ps m
+
+pub member-all : {P : Route → Type 0} (t : List Route) → ((r : Route) → Member r t → P r) → All P t
+member-all [] k = nil
+member-all (r ∷ t) k = cons (k r head) (member-all t (λ s m. k s (later m)))

@@ -12,3 +12,4 @@ pub mod Parts
 pub mod Halves
 pub mod Quick
 pub mod LongestMatch
+pub mod Kept

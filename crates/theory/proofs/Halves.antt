@@ -1,6 +1,6 @@
 -- A position's routes taken apart: those at its top, those of its left half and those of its right half, and what each half then answers.
 use Prim.Native.Nat.{ℕ, suc, _+_, _-_, _^_, _≤_, _<_}
-use mathlib.Core.Path.{_≡_, refl, sym, ap, ap₂, _∙_}
+use mathlib.Core.Path.{_≡_, sym, ap, _∙_}
 use mathlib.Core.Bool.{Bool, true, false}
 use mathlib.Core.List.{List}
 use native.Mathlib.Nat.{pow-suc, eq-or-lt-of-le}
@@ -9,7 +9,7 @@ use mathlib.Core.Logic.{_⊎_, inl, inr}
 use lib.Dec.{ltb}
 use borrow.Author.Tests.{ltb-true, ltb-false, eqb-true, eqb-false, eq-eqb}
 use Rattle.theory.specs.Results.{In, part}
-use Rattle.theory.specs.Routes.{Route, matches, Match, longer, tried, lookup, Answer, under, Aligned, All, nil, cons}
+use Rattle.theory.specs.Routes.{Route, matches, Match, lookup, Answer, under, Aligned, All}
 use Rattle.theory.proofs.Blocks.{pow-pos, aligned-right, in→block, in-left, in-right, aligned-down, next-block}
 use Rattle.theory.proofs.Lists.{all-map}
 use Rattle.theory.proofs.Parts.{rest, all-part, all-rest, lookup-shallow, under-longer, lookup-part, lookup-rest, lookup-alike, ofLen, part-len, lookup-lens}

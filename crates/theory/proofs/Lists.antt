@@ -1,4 +1,4 @@
--- Laws of lists of routes: a property of every route.
+-- Laws of lists of routes: a property of every route, and of every member.
 use mathlib.Core.List.{List, [], _∷_, _++_}
 use Rattle.theory.specs.Routes.{Route, All, nil, cons, Member, head, later}
 

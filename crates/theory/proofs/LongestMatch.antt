@@ -10,9 +10,10 @@ use lib.Dec.{ltb}
 use borrow.Author.Tests.{ltb-true, ltb-false, eqb-true}
 use Rattle.theory.specs.Longest.{IsLongest}
 use Rattle.theory.specs.Results.{isMiss}
-use Rattle.theory.specs.Routes.{Route, matches, held, Match, miss, hit, longer, tried, lookup, Valid, Ascending, first, Table, Member, head, later}
-use Rattle.theory.proofs.Blocks.{same-block}
-use Rattle.theory.proofs.Lists.{all-member}
+use Rattle.theory.specs.Routes.{Route, matches, held, Match, miss, hit, longer, tried, lookup, Valid, All, Ascending, first, Table, Member, head, later}
+use Rattle.theory.proofs.Blocks.{same-block, fewer-bits}
+use Rattle.theory.proofs.Lists.{all-map, all-member}
+use Rattle.theory.proofs.Parts.{lookup-alike}
 
 hit-same : {k h j g : ℕ} → hit k h ≡ hit j g → (k ≡ j) × (h ≡ g)
 hit-same e = (cc, cc)
@@ -94,7 +95,9 @@ module _ (w : ℕ) where
   pub lookup-found : (t : List Route) (x : ℕ) {k h : ℕ} → lookup w t x ≡ hit k h → (r : Route) × IsLongest w t x r × (r .len ≡ k) × (r .hop ≡ h)
   lookup-found t x e =
       let z = lookup-member t x e in
-      (z .0, record { member = z .1; matching = z .2; longest = λ s m q. let y = lookup-longest x m q in omega (arith, hit-same (sym e ∙ y .2) .0) }, z .3, z .4)
+      let most : (s : Route) → Member s t → matches w s x ≡ true → s .len ≤ z .0 .len =
+      λ s m q. let y = lookup-longest x m q in omega (arith, hit-same (sym e ∙ y .2) .0) in
+      (z .0, record { member = z .1; matching = z .2; longest = most }, z .3, z .4)
 
   -- There is no match exactly where no route of the table matches.
   pub lookup-none : (t : List Route) (x : ℕ) → (lookup w t x ≡ miss) ↔ ((r : Route) → Member r t → matches w r x ≡ true → ⊥)
@@ -117,8 +120,17 @@ module _ (w : ℕ) where
       go true c = refl
       go false c = refl
 
+  -- A route of at most k bits matches both or neither of two addresses that share their first k bits.
+  pub matches-bits : (k x y : ℕ) (r : Route) → r .len ≤ k → x / 2 ^ (w - k) ≡ y / 2 ^ (w - k) → matches w r x ≡ matches w r y
+  matches-bits k x y r le e = rw (fewer-bits w (r .len) k x y le e)
+
+  -- So the longest match among such routes is settled by the first k bits.
+  pub lookup-bits : (k x y : ℕ) {t : List Route} → All (λ r. r .len ≤ k) t → x / 2 ^ (w - k) ≡ y / 2 ^ (w - k) → lookup w t x ≡ lookup w t y
+  lookup-bits k x y lens e = lookup-alike w x y (all-map (λ r le. matches-bits k x y r le e) lens)
+
   -- Two valid routes of one length that match one address have one address themselves.
-  same-address : {r s : Route} (x : ℕ) → Valid w r → Valid w s → r .len ≡ s .len → matches w r x ≡ true → matches w s x ≡ true → r .addr ≡ s .addr
+  same-address : {r s : Route} (x : ℕ) → Valid w r → Valid w s → r .len ≡ s .len → matches w r x ≡ true → matches w s x ≡ true
+      → r .addr ≡ s .addr
   same-address {r} {s} x v u e p q =
       let other : x / 2 ^ (w - r .len) ≡ s .addr / 2 ^ (w - r .len) = rw e (eqb-true _ _ q) in
       same-block (w - r .len) (r .addr) (s .addr) (v .clean) (rw e (u .clean)) (sym (eqb-true _ _ p) ∙ other)

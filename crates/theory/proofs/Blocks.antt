@@ -1,10 +1,11 @@
 -- Positions as aligned blocks of 2 ^ n addresses: their halves, and that an address is in one exactly when its leading bits are the block's.
-use Prim.Native.Nat.{ℕ, zero, suc, _+_, _*_, _/_, _^_, _≤_, _<_}
+use Prim.Native.Nat.{ℕ, zero, suc, _+_, _-_, _*_, _/_, _^_, _≤_, _<_}
 use mathlib.Core.Path.{_≡_, refl, sym, ap, _∙_}
 use mathlib.Core.HLevel.{hedberg, Σ-prop-path}
 use native.Mathlib.Nat.{pow-suc, mul-assoc, mul-comm, suc-mul, one-le-pow, le-antisymm, le-div-iff-mul-le, div-lt-iff-lt-mul, le-of-suc-le-suc, zero-mul, mul-le-mul-right, lt-of-mul-lt-mul-right, eq-of-mul-eq-mul-right, eq-or-lt-of-le, div-mul-le-self, lt-div-mul-add}
 use native.Mathlib.Decide.{ℕ-discrete, decLt}
 use native.Mathlib.Omega.{arith}
+use lib.Pow.{shr-shr}
 use mathlib.Core.Logic.{_⊎_, inl, inr}
 use Rattle.theory.specs.Results.{In, startOf}
 use Rattle.theory.specs.Routes.{Aligned}
@@ -102,3 +103,15 @@ in-nested k n a x y le d i j = (low (decLt (startOf k x) a), omega (arith, high)
     low : Dec (startOf k x < a) → a ≤ y
     low (yes lt) = omega (arith, next-block k (startOf k x) a (aligned-start k x) (aligned-down k n a le d) lt, in-start k x)
     low (no ge) = omega arith
+
+-- Blocks of one size that share their leading bits start at one address.
+pub same-block : (n a b : ℕ) → Aligned n a → Aligned n b → a / 2 ^ n ≡ b / 2 ^ n → a ≡ b
+same-block n a b d e q =
+    let p : d .0 ≡ e .0 = sym (block n a a d (omega (arith, pow-pos n))) ∙ q ∙ block n b b e (omega (arith, pow-pos n)) in
+    d .1 ∙ ap (λ (k : ℕ). k * 2 ^ n) p ∙ sym (e .1)
+
+-- Addresses that share their first k of w bits share each shorter run of first bits.
+pub fewer-bits : (w l k x y : ℕ) → l ≤ k → x / 2 ^ (w - k) ≡ y / 2 ^ (w - k) → x / 2 ^ (w - l) ≡ y / 2 ^ (w - l)
+fewer-bits w l k x y le e =
+    let m : (w - k) + ((w - l) - (w - k)) ≡ w - l = omega arith in
+    rw (← m, ← shr-shr x (w - k) ((w - l) - (w - k)), ← shr-shr y (w - k) ((w - l) - (w - k)), e)

@@ -1,6 +1,6 @@
 -- A position's routes taken apart: those at its top, those of its left half and those of its right half, and what each half then answers.
 use Prim.Native.Nat.{ℕ, suc, _+_, _-_, _^_, _≤_, _<_}
-use mathlib.Core.Path.{_≡_, refl, sym, ap, ap₂, _∙_}
+use mathlib.Core.Path.{_≡_, sym, ap, _∙_}
 use mathlib.Core.Bool.{Bool, true, false}
 use mathlib.Core.List.{List}
 use native.Mathlib.Nat.{pow-suc, eq-or-lt-of-le}
@@ -9,10 +9,10 @@ use mathlib.Core.Logic.{_⊎_, inl, inr}
 use lib.Dec.{ltb}
 use borrow.Author.Tests.{ltb-true, ltb-false, eqb-true, eqb-false, eq-eqb}
 use Rattle.theory.specs.Results.{In, part}
-use Rattle.theory.specs.Routes.{Route, matches, Match, longer, tried, lookup, Answer, under, Aligned, All, nil, cons}
+use Rattle.theory.specs.Routes.{Route, matches, Match, lookup, Answer, under, Aligned, All}
 use Rattle.theory.proofs.Blocks.{pow-pos, aligned-right, in→block, in-left, in-right, aligned-down, next-block}
 use Rattle.theory.proofs.Lists.{all-map}
-use Rattle.theory.proofs.Parts.{rest, all-part, all-rest, lookup-shallow, under-longer, lookup-part, lookup-rest, ofLen, part-len, lookup-lens}
+use Rattle.theory.proofs.Parts.{rest, all-part, all-rest, lookup-shallow, under-longer, lookup-part, lookup-rest, lookup-alike, ofLen, part-len, lookup-lens}
 use Rattle.theory.proofs.Preserve.{Within, lookup-outside, lookup-deep}
 
 -- A position's routes: those at its top, those of its left half and those of its right half; and what those at its top hand down.
@@ -33,10 +33,6 @@ rights w n a t = rest (isLow n a) (below w n t)
 
 abbrev pub handed : ℕ → ℕ → ℕ → Answer → List Route → Answer
 handed w n a g t = under g (lookup w (tops w n t) a)
-
-lookup-const : (w x y : ℕ) {t : List Route} → All (λ r. (matches w r x ≡ true) × (matches w r y ≡ true)) t → lookup w t x ≡ lookup w t y
-lookup-const w x y nil = refl
-lookup-const w x y (cons {r = r} p ps) = let e : tried w r x ≡ tried w r y = rw (p .0, p .1) in ap₂ longer e (lookup-const w x y ps)
 
 -- A position's routes: those at its top, those of its left half and those of its right half.
 module _ (w n a : ℕ) (le : suc n ≤ w) (d : Aligned (suc n) a) (t : List Route) (tw : All (Within w (suc n) a) t) where
@@ -92,7 +88,7 @@ module _ (w n a : ℕ) (le : suc n ≤ w) (d : Aligned (suc n) a) (t : List Rout
     below-sem : (x : ℕ) → In (suc n) a x → under (handed w n a g t) (lookup w (below w n t) x) ≡ f x
     below-sem x i =
         ap (λ (m : Match). under (under g m) (lookup w (below w n t) x))
-        (lookup-const w a x (all-part (ofLen (w - suc n)) (λ r p e. (top-match a (omega (arith, pow-pos (suc n))) r p e, top-match x i r p e)) tw))
+        (lookup-alike w a x (all-part (ofLen (w - suc n)) (λ r p e. top-match a (omega (arith, pow-pos (suc n))) r p e ∙ sym (top-match x i r p e)) tw))
         ∙ sym (under-longer (w - suc n) g (lookup w (tops w n t) x) (lookup w (below w n t) x) (lookup-shallow w (w - suc n) x (part-len lens))
         (lookup-deep w (suc n) a x (all-map (λ r p. p .0) below-inner)))
         ∙ ap (under g) (sym (lookup-lens w x (w - suc n) lens))

@@ -12,5 +12,7 @@ pub mod Repeat
 pub mod Parts
 pub mod Halves
 pub mod Quick
+pub mod LongestMatch
+pub mod Kept
 pub mod Maximal
 pub mod Computed

@@ -10,6 +10,7 @@ pub all-map : {P Q : Route → Type 0} {t : List Route} → ((r : Route) → P r
 all-map k nil = nil
 all-map k (cons {r = r} p ps) = cons (k r p) (all-map k ps)
 
+-- A property of every route is one of every member, and the other way.
 pub all-member : {P : Route → Type 0} {r : Route} {t : List Route} → All P t → Member r t → P r
 all-member (cons p ps) head = p
 all-member (cons p ps) (later m) = all-member ps m
@@ -21,3 +22,7 @@ member-left t (later m) = later (member-left t m)
 pub member-right : {r : Route} (s : List Route) {t : List Route} → Member r t → Member r (s ++ t)
 member-right [] m = m
 member-right (u ∷ s) m = later (member-right s m)
+
+pub member-all : {P : Route → Type 0} (t : List Route) → ((r : Route) → Member r t → P r) → All P t
+member-all [] k = nil
+member-all (r ∷ t) k = cons (k r head) (member-all t (λ s m. k s (later m)))

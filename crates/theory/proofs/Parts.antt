@@ -1,15 +1,17 @@
 -- A table taken apart by a test, and the longest match of the whole from those of the parts.
 use Prim.Native.Nat.{ℕ, suc, _+_, _-_, _≤_, _<_}
-use mathlib.Core.Path.{_≡_, refl, sym, ap, _∙_}
+use mathlib.Core.Path.{_≡_, refl, sym, ap, ap₂, _∙_}
 use mathlib.Core.Bool.{Bool, true, false, cond}
 use mathlib.Core.List.{List, [], _∷_}
+use mathlib.Core.Logic.{_↔_}
 use native.Mathlib.Decide.{decLt}
 use native.Mathlib.Omega.{arith}
 use lib.Dec.{eqb}
 use lib.ListN.{length}
 use borrow.Author.Tests.{lt-ltb, le-ltb, eqb-true, eqb-false}
 use Rattle.theory.specs.Results.{part}
-use Rattle.theory.specs.Routes.{Route, matches, Match, miss, hit, longer, tried, lookup, Answer, under, All, nil, cons}
+use Rattle.theory.specs.Routes.{Route, matches, Match, miss, hit, longer, tried, lookup, Answer, under, All, nil, cons, Ascending, empty, first, Table, Member, head, later}
+use Rattle.theory.proofs.Lists.{all-member, member-all}
 use Rattle.theory.proofs.Preserve.{Deep, longer-miss}
 use Rattle.theory.proofs.Routed.{Every, lookup-every}
 
@@ -100,6 +102,11 @@ module _ (w x : ℕ) (p : Route → Bool) where
           let both : (tried w r x ≡ miss) × (lookup w (part p t) x ≡ miss) = longer-miss (tried w r x) (lookup w (part p t) x) q in
           ap (λ (m : Match). longer m (lookup w t x)) (both .0) ∙ ih (both .1)
 
+-- Routes that match both or neither of two addresses have one longest match of both.
+pub lookup-alike : (w x y : ℕ) {t : List Route} → All (λ r. matches w r x ≡ matches w r y) t → lookup w t x ≡ lookup w t y
+lookup-alike w x y nil = refl
+lookup-alike w x y (cons {r = r} p ps) = let e : tried w r x ≡ tried w r y = rw p in ap₂ longer e (lookup-alike w x y ps)
+
 -- the routes of length k
 abbrev pub ofLen : ℕ → Route → Bool
 ofLen k r = eqb (r .len) k
@@ -136,3 +143,58 @@ lookup-lens w x k (cons {r = r} {t = t} h hs) = go (ofLen k r) refl (lookup-lens
         ∙ longer-assoc (tried w r x) e i
         ∙ ap (λ (m : Match). longer m i) (longer-comm k (tried w r x) e (deep (matches w r x) q) (lookup-shallow w k x (part-len hs)))
         ∙ sym (longer-assoc e (tried w r x) i)
+
+in-part : (p : Route → Bool) {t : List Route} {r : Route} → Member r t → p r ≡ true → Member r (part p t)
+in-part p head e = rw e head
+in-part p {r} (later {s = s} {t = t} m) e = go (p s) (in-part p m e)
+  where
+    go : (b : Bool) → Member r (part p t) → Member r (cond b (s ∷ part p t) (part p t))
+    go true ih = later ih
+    go false ih = ih
+
+-- The members of a part are the members that pass its test; those of the rest fail it.
+pub member-part : (p : Route → Bool) (t : List Route) {r : Route} → Member r (part p t) ↔ (Member r t × (p r ≡ true))
+member-part p t = (
+  all-member {P = λ r. Member r t × (p r ≡ true)} (all-part p (λ r m e. (m, e)) (member-all t (λ r m. m))),
+  λ z. in-part p (z .0) (z .1),
+)
+
+pub member-rest : (p : Route → Bool) (t : List Route) {r : Route} → Member r (rest p t) → Member r t × (p r ≡ false)
+member-rest p t = all-member {P = λ r. Member r t × (p r ≡ false)} (all-rest p (λ r m e. (m, e)) (member-all t (λ r m. m)))
+
+pub ascending-part : (p : Route → Bool) {t : List Route} → Ascending t → Ascending (part p t)
+ascending-part p empty = empty
+ascending-part p (first {r = r} {t = t} b o) = go (p r) (ascending-part p o)
+  where
+    go : (c : Bool) → Ascending (part p t) → Ascending (cond c (r ∷ part p t) (part p t))
+    go true ih = first (all-part p (λ s q e. q) b) ih
+    go false ih = ih
+
+-- A part of a table is a table.
+pub table-part : (w : ℕ) (p : Route → Bool) {t : List Route} → Table w t → Table w (part p t)
+table-part w p table = record { valid = all-part p (λ r v e. v) (table .valid); order = ascending-part p (table .order) }
+
+-- Parts by tests that agree on the members are equal; a part by a test that all pass is the whole.
+pub part-agree : (p q : Route → Bool) (t : List Route) → ((r : Route) → Member r t → p r ≡ q r) → part p t ≡ part q t
+part-agree p q [] k = refl
+part-agree p q (r ∷ t) k = rw (k r head, part-agree p q t (λ s m. k s (later m)))
+
+pub part-whole : (p : Route → Bool) (t : List Route) → ((r : Route) → Member r t → p r ≡ true) → part p t ≡ t
+part-whole p [] k = refl
+part-whole p (r ∷ t) k = rw (k r head, part-whole p t (λ s m. k s (later m)))
+
+-- A part of a part, by both tests in either order.
+pub part-swap : (p q : Route → Bool) (t : List Route) → part p (part q t) ≡ part q (part p t)
+part-swap p q [] = refl
+part-swap p q (r ∷ t) = go (p r) refl (q r) refl (part-swap p q t)
+  where
+    go : (b : Bool) → p r ≡ b → (c : Bool) → q r ≡ c → part p (part q t) ≡ part q (part p t)
+        → part p (cond c (r ∷ part q t) (part q t)) ≡ part q (cond b (r ∷ part p t) (part p t))
+    go true e true d ih = rw (e, d, ih)
+    go true e false d ih = rw d ih
+    go false e true d ih = rw e ih
+    go false e false d ih = ih
+
+-- A part of a part, where whatever passes the first test passes the second.
+pub part-twice : (p q : Route → Bool) (t : List Route) → ((r : Route) → p r ≡ true → q r ≡ true) → part p (part q t) ≡ part p t
+part-twice p q t k = part-swap p q t ∙ part-whole q (part p t) (λ r m. k r (member-part p t .0 m .1))

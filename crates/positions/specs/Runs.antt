@@ -1,0 +1,46 @@
+-- The routes of a table at a position and inside it, and the hops that cover the positions of a node.
+-- A node (m + 5, a) has five levels of positions, position j of level l standing at (m + 5 - l, a + j * 2 ^ (m + 5 - l)), and 32 slots, its level 5.
+use Prim.Native.Nat.{ℕ, zero, suc, _+_, _-_, _*_, _/_, _^_}
+use mathlib.Core.Bool.{Bool, true, false, _&&_}
+use mathlib.Core.List.{List, [], _∷_}
+use lib.Dec.{eqb, leb, ltb}
+use Rattle.theory.specs.Routes.{Route, Answer, none, via}
+use Rattle.theory.specs.Results.{part}
+
+-- Does the route stand at the position: is it the position's own?
+abbrev pub isAt : ℕ → ℕ → ℕ → Route → Bool
+isAt w n a r = eqb (r .len) (w - n) && eqb (r .addr) a
+
+-- Does the route lie in the position?
+abbrev pub isIn : ℕ → ℕ → ℕ → Route → Bool
+isIn w n a r = leb (w - n) (r .len) && (leb a (r .addr) && ltb (r .addr) (a + 2 ^ n))
+
+-- The routes that lie in the position.
+abbrev pub inside : ℕ → ℕ → ℕ → List Route → List Route
+inside w n a t = part (isIn w n a) t
+
+-- The hop of the first route, if there is one.
+abbrev pub headHop : List Route → Answer
+headHop [] = none
+headHop (r ∷ t) = via (r .hop)
+
+-- The position's own hop, if a route stands there.
+abbrev pub own : ℕ → ℕ → ℕ → List Route → Answer
+own w n a t = headHop (part (isAt w n a) t)
+
+-- The first answer, or, where it says nothing, the other.
+abbrev pub orElse : Answer → Answer → Answer
+orElse none g = g
+orElse (via h) g = via h
+
+-- The size and the address of position j of level l in a node (m + 5, a); the slots are level 5.
+abbrev pub sizeAt : ℕ → ℕ → ℕ
+sizeAt m l = m + (5 - l)
+
+abbrev pub placeAt : ℕ → ℕ → ℕ → ℕ → ℕ
+placeAt m a l j = a + j * 2 ^ sizeAt m l
+
+-- What covers position j of level l, its own route included, where g covers the node from above.
+unfoldable pub cover : ℕ → ℕ → ℕ → List Route → Answer → ℕ → ℕ → Answer
+cover w m a t g zero j = orElse (own w (sizeAt m zero) (placeAt m a zero j) t) g
+cover w m a t g (suc l) j = orElse (own w (sizeAt m (suc l)) (placeAt m a (suc l) j) t) (cover w m a t g l (j / 2))

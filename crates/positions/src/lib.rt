@@ -1,0 +1,1 @@
+// Positions, runs and walks have no code: definitions in specs/, laws in proofs/.

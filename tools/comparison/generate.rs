@@ -488,7 +488,7 @@ pub fn seeded(seed: u64, index: u64) -> Made {
     }
     let mode = if call == REWRITE { random.within(1, 5) as u8 } else { random.pick(&[0, 1, 6, 255]) };
     let shape = if random.chance(2) { random.within(LARGE, SHAPES.len() - 1) } else { random.below(LARGE) };
-    let rooms = if random.chance(40) { 0 } else { random.below(ROOMS.len()) };
+    let rooms = if random.chance(70) { random.below(2) } else { random.within(2, ROOMS.len() - 1) };
     whole(random, call, mode, shape, rooms)
 }
 
@@ -558,12 +558,13 @@ pub fn fixed() -> Vec<Made> {
     {
         list.push(small(random, REWRITE, mode, shape, rooms));
     }
-    // Fill that writes 1,025 records, with exactly the room for them and with one byte less.
+    // 1,024 records, none near another, with the most nodes: fill writes 1,025 records. Exactly the rooms for that, then one byte less,
+    // then one word less.
     let routes: Vec<Route> = (0..1024u32).map(|part| (part << 22, 32, 1 + (part % 63) as u8)).collect();
-    for short in [0, 1] {
+    for (rooms, work, room) in [("exact", MOST_WORK, 8_200), ("one byte short", MOST_WORK, 8_199), ("one word short", MOST_WORK - 1, 8_200)] {
         let mut case = blank(REWRITE, 5);
-        (case.work, case.room, case.table) = (MOST_WORK, 8_200 - short, table_of(&routes));
-        list.push(Made { case, shape: "1,024: most nodes", rooms: ["exact", "one byte short"][short as usize], damage: None });
+        (case.work, case.room, case.table) = (work, room, table_of(&routes));
+        list.push(Made { case, shape: "1,024: most nodes", rooms, damage: None });
     }
     // Work rooms that document 01 names: 160 words for no record or a /4, 320 for a /5, 1,120 for a /32.
     for (length, words) in [(None, 160), (Some(4), 160), (Some(5), 320), (Some(32), 1_120)] {

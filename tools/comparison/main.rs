@@ -151,23 +151,29 @@ fn hold_replay(command: &str, made: &[Made], texts: &[String]) {
     made.iter().for_each(|made| made.case.write(&mut bytes));
     let wrote = replay(command, &bytes);
     let mut rest = wrote.as_str();
-    for (made, text) in made.iter().zip(texts) {
+    for (i, text) in texts.iter().enumerate() {
         match rest.strip_prefix(text.as_str()) {
             Some(after) => rest = after,
             None => {
-                let mut bytes = Vec::new();
-                made.case.write(&mut bytes);
-                let alone = replay(command, &bytes);
-                if alone == *text {
-                    println!("compare: run alone, replay answers this case as expected; after the cases before it, it writes:");
-                    println!("{}", rest.lines().take(20).collect::<Vec<_>>().join("\n"));
+                // A line too many shows only at the next case, so the case before is tried alone too.
+                for i in [i.saturating_sub(1), i] {
+                    let mut bytes = Vec::new();
+                    made[i].case.write(&mut bytes);
+                    let alone = replay(command, &bytes);
+                    if alone != texts[i] {
+                        differ(&made[i].case, ("the crate and the model", &texts[i]), ("replay", &alone));
+                    }
                 }
-                differ(&made.case, ("expected, and the crate or the model,", text), ("replay", &alone));
+                println!("compare: replay differs here only after the cases before this one, all in {FOLDER}/run.bin");
+                let _ = fs::write(format!("{FOLDER}/run.bin"), &bytes);
+                let has: String = rest.lines().take(text.lines().count() + 1).map(|line| format!("{line}\n")).collect();
+                differ(&made[i].case, ("the crate and the model", text), ("replay, in a run of cases,", &has));
             }
         }
     }
     if !rest.is_empty() {
-        fail(format!("replay writes more than the answers to its cases: {}", rest.lines().next().unwrap_or("")));
+        println!("compare: replay writes more than the answers to its cases: {}", rest.lines().next().unwrap_or(""));
+        exit(1);
     }
 }
 

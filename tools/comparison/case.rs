@@ -1,0 +1,144 @@
+//! The case format of docs/CASES.md: a case as bytes and as text, and an answer as text.
+
+use std::fmt::Write;
+
+/// Address, length, hop.
+pub type Route = (u32, u8, u8);
+
+pub const REWRITE: u8 = 0;
+pub const COVER: u8 = 1;
+pub const LOOKUP: u8 = 2;
+pub const HELD: u8 = 3;
+
+/// The most words of work room that a case asks for: 160 for each of 5,153 nodes.
+pub const MOST_WORK: u32 = 824_480;
+
+#[derive(Clone)]
+pub struct Case {
+    pub call: u8,
+    pub mode: u8,
+    pub default: u8,
+    pub query_length: u8,
+    pub query: u32,
+    pub work: u32,
+    pub room: u16,
+    pub table: Vec<u8>,
+}
+
+impl Case {
+    pub fn write(&self, to: &mut Vec<u8>) {
+        to.extend([self.call, self.mode, self.default, self.query_length]);
+        to.extend(self.query.to_be_bytes());
+        to.extend(self.work.to_be_bytes());
+        to.extend(self.room.to_be_bytes());
+        to.extend((self.table.len() as u16).to_be_bytes());
+        to.extend(&self.table);
+    }
+
+    /// The first case of `from` and the bytes after it; or the line that ends a run there.
+    pub fn read(from: &[u8]) -> Result<(Case, &[u8]), &'static str> {
+        if from.len() < 16 {
+            return Err("case cut short");
+        }
+        let (head, rest) = from.split_at(16);
+        let word = |at: usize| u32::from_be_bytes([head[at], head[at + 1], head[at + 2], head[at + 3]]);
+        let length = (word(12) & 0xFFFF) as usize;
+        if rest.len() < length {
+            return Err("case cut short");
+        }
+        let case = Case {
+            call: head[0],
+            mode: head[1],
+            default: head[2],
+            query_length: head[3],
+            query: word(4),
+            work: word(8),
+            room: (word(12) >> 16) as u16,
+            table: rest[..length].to_vec(),
+        };
+        if case.call > HELD {
+            return Err("no such call");
+        }
+        if case.work > MOST_WORK {
+            return Err("work room too large");
+        }
+        Ok((case, &rest[length..]))
+    }
+
+    /// The case in words, its table a record a line.
+    pub fn describe(&self) -> String {
+        let mut text = match self.call {
+            REWRITE if self.mode == 5 => format!("rewrite, mode 5, default {}", self.default),
+            REWRITE => format!("rewrite, mode {}", self.mode),
+            COVER => format!("cover query of {}/{}", dotted(self.query), self.query_length),
+            LOOKUP => format!("lookup of {}", dotted(self.query)),
+            _ => "addresses held".to_string(),
+        };
+        let _ = writeln!(
+            text,
+            "; {} words of work room, {} bytes of output, {} bytes of table",
+            self.work,
+            self.room,
+            self.table.len()
+        );
+        for record in self.table.chunks(8) {
+            if let [a, b, c, d, length, hop, 0, 0] = record {
+                let _ = writeln!(text, "  {a}.{b}.{c}.{d}/{length} {hop}");
+            } else {
+                let _ = writeln!(text, "  bytes {}", hex(record));
+            }
+        }
+        text
+    }
+}
+
+pub enum Answer {
+    /// Records and change of a rewrite.
+    Rewritten(Vec<Route>, i64),
+    Refused(u8, usize),
+    Covered(bool),
+    Match(Option<(u8, u8)>),
+    Addresses(u64),
+}
+
+impl Answer {
+    pub fn text(&self, mode: u8) -> String {
+        let mut text = String::new();
+        let _ = match self {
+            Answer::Rewritten(routes, change) => {
+                for &(address, length, hop) in routes {
+                    let _ = match mode {
+                        1 | 2 => writeln!(text, "{}/{length}", dotted(address)),
+                        _ => writeln!(text, "{}/{length} {hop}", dotted(address)),
+                    };
+                }
+                writeln!(text, "change {change}")
+            }
+            Answer::Refused(number, at) => writeln!(text, "refused {number} at {at}"),
+            Answer::Covered(true) => writeln!(text, "covered"),
+            Answer::Covered(false) => writeln!(text, "uncovered"),
+            Answer::Match(Some((hop, length))) => writeln!(text, "hop {hop} length {length}"),
+            Answer::Match(None) => writeln!(text, "no route"),
+            Answer::Addresses(n) => writeln!(text, "addresses {n}"),
+        };
+        text
+    }
+}
+
+pub fn table_of(routes: &[Route]) -> Vec<u8> {
+    let mut table = Vec::new();
+    for &(address, length, hop) in routes {
+        table.extend(address.to_be_bytes());
+        table.extend([length, hop, 0, 0]);
+    }
+    table
+}
+
+pub fn dotted(address: u32) -> String {
+    let [a, b, c, d] = address.to_be_bytes();
+    format!("{a}.{b}.{c}.{d}")
+}
+
+pub fn hex(bytes: &[u8]) -> String {
+    bytes.iter().map(|b| format!("{b:02X}")).collect::<Vec<_>>().join(" ")
+}

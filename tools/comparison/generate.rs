@@ -1,0 +1,612 @@
+//! Makes cases: tables of every shape of docs/CASES.md, whole and damaged, with rooms exactly enough, one short and otherwise.
+//! Case `i` of a seed depends on the seed and `i` alone.
+
+use std::collections::BTreeMap;
+
+use crate::case::{table_of, Case, Route, COVER, HELD, LOOKUP, MOST_WORK, REWRITE};
+use crate::model::{self, Fault};
+
+/// A case, what it is, and the refusal that its damage was planned to give.
+pub struct Made {
+    pub case: Case,
+    pub shape: &'static str,
+    pub rooms: &'static str,
+    pub damage: Option<Damage>,
+}
+
+pub struct Damage {
+    pub first: u8,
+    /// The second number, 0 where there is one fault.
+    pub second: u8,
+    pub expect: (u8, usize),
+}
+
+/// Random numbers (splitmix64).
+pub struct Random(u64);
+
+impl Random {
+    pub fn new(seed: u64, index: u64) -> Self {
+        let mut random = Random(seed.wrapping_mul(0x9E37_79B9_7F4A_7C15) ^ index.wrapping_mul(0xD1B5_4A32_D192_ED03));
+        random.next();
+        random
+    }
+
+    fn next(&mut self) -> u64 {
+        self.0 = self.0.wrapping_add(0x9E37_79B9_7F4A_7C15);
+        let mut z = self.0;
+        z = (z ^ z >> 30).wrapping_mul(0xBF58_476D_1CE4_E5B9);
+        z = (z ^ z >> 27).wrapping_mul(0x94D0_49BB_1331_11EB);
+        z ^ z >> 31
+    }
+
+    /// A number below `n`.
+    fn below(&mut self, n: usize) -> usize {
+        (self.next() % n as u64) as usize
+    }
+
+    fn within(&mut self, low: usize, high: usize) -> usize {
+        low + self.below(high - low + 1)
+    }
+
+    fn chance(&mut self, percent: usize) -> bool {
+        self.below(100) < percent
+    }
+
+    fn pick<T: Copy>(&mut self, from: &[T]) -> T {
+        from[self.below(from.len())]
+    }
+
+    fn address(&mut self) -> u32 {
+        self.next() as u32
+    }
+}
+
+fn mask(length: u32) -> u32 {
+    u32::MAX.checked_shl(32 - length).unwrap_or(0)
+}
+
+/// The shapes of tables. The last ones are of about 1,024 records.
+pub const SHAPES: [&str; 24] = [
+    "empty",
+    "one record",
+    "every length, one address",
+    "every length, many addresses",
+    "lengths 0 to 2",
+    "lengths 4 to 6",
+    "lengths 9 to 11",
+    "lengths 14 to 16",
+    "lengths 19 to 21",
+    "lengths 24 to 26",
+    "lengths 29 to 32",
+    "dense block of /30 to /32",
+    "nested chain",
+    "chain with neighbours",
+    "scattered",
+    "subtree, split",
+    "whole space, split",
+    "whole space but one hole",
+    "many hops side by side",
+    "1,024: most nodes",
+    "1,024: every /10",
+    "1,024: /32 side by side",
+    "1,024: scattered",
+    "about 1,024: whole space, split",
+];
+const LARGE: usize = 19;
+
+struct Building<'a> {
+    random: &'a mut Random,
+    hops: Vec<u8>,
+    routes: BTreeMap<(u32, u8), u8>,
+}
+
+impl Building<'_> {
+    fn put(&mut self, address: u32, length: usize) {
+        let hop = self.random.pick(&self.hops);
+        self.routes.insert((address & mask(length as u32), length as u8), hop);
+    }
+
+    /// Records with lengths of `low` to `high` that differ only in a few bits before `high`.
+    fn near(&mut self, low: usize, high: usize) {
+        let base = self.random.address();
+        let from = low.saturating_sub(self.random.below(4));
+        for _ in 0..self.random.within(1, 40) {
+            let address = base & mask(from as u32) | self.random.address() & !mask(from as u32);
+            let length = self.random.within(low, high);
+            self.put(address, length);
+        }
+    }
+
+    /// Splits a prefix again and again until `parts` are left; each part has an entry with the given chance, and some of the
+    /// prefixes that were split have one too.
+    fn split(&mut self, address: u32, length: usize, parts: usize, filled: usize, above: usize) {
+        let mut open = vec![(address, length)];
+        while open.len() < parts {
+            let at = self.random.below(open.len());
+            let (address, length) = open[at];
+            if length == 32 {
+                break;
+            }
+            if self.random.chance(above) {
+                self.put(address, length);
+            }
+            open[at] = (address, length + 1);
+            open.push((address | 1 << (31 - length), length + 1));
+        }
+        for (address, length) in open {
+            if self.random.chance(filled) {
+                self.put(address, length);
+            }
+        }
+    }
+}
+
+/// The routes of a table of the given shape, with as many different hops.
+fn routes_of(random: &mut Random, shape: usize, hop_count: usize) -> Vec<Route> {
+    let mut hops: Vec<u8> = (0..64).collect();
+    for i in 0..hop_count {
+        let other = random.within(i, 63);
+        hops.swap(i, other);
+    }
+    hops.truncate(hop_count);
+    let mut b = Building { random, hops, routes: BTreeMap::new() };
+    match shape {
+        0 => {}
+        1 => {
+            let (address, length) = (b.random.address(), b.random.within(0, 32));
+            b.put(address, length);
+        }
+        2 => {
+            let address = b.random.address();
+            (0..=32).for_each(|length| b.put(address, length));
+        }
+        3 => {
+            for length in 0..=32 {
+                let address = b.random.address();
+                b.put(address, length);
+            }
+        }
+        4 => b.near(0, 2),
+        5 => b.near(4, 6),
+        6 => b.near(9, 11),
+        7 => b.near(14, 16),
+        8 => b.near(19, 21),
+        9 => b.near(24, 26),
+        10 => b.near(29, 32),
+        11 => {
+            let (base, size, filled) = (b.random.address(), b.random.within(1, 6), b.random.pick(&[50, 80, 95, 100]));
+            let base = base & mask(32 - size as u32);
+            for host in 0..1 << size {
+                for length in 30..=32 {
+                    let first = host & !mask(length as u32) == 0;
+                    if first && b.random.chance(if length == 32 { filled } else { filled / 3 }) {
+                        b.put(base | host, length);
+                    }
+                }
+            }
+        }
+        12 | 13 => {
+            let address = b.random.address();
+            let taken = b.random.pick(&[20, 50, 90]);
+            for length in 0..=32 {
+                if b.random.chance(taken) {
+                    b.put(address, length);
+                }
+                if shape == 13 && length > 0 && b.random.chance(taken) {
+                    b.put(address ^ 1 << (32 - length), length);
+                }
+            }
+        }
+        14 => {
+            let base = b.random.address();
+            let common = b.random.pick(&[0, 0, 8, 16]);
+            for _ in 0..b.random.within(2, 60) {
+                let address = base & mask(common as u32) | b.random.address() & !mask(common as u32);
+                let length = b.random.within(common, 32);
+                b.put(address, length);
+            }
+        }
+        15 => {
+            let (address, length) = (b.random.address(), b.random.within(1, 30));
+            let (parts, filled, above) = (b.random.within(2, 60), b.random.pick(&[60, 90, 100]), b.random.pick(&[0, 10, 40]));
+            b.split(address & mask(length as u32), length, parts, filled, above);
+        }
+        16 => {
+            let (parts, above) = (b.random.within(2, 80), b.random.pick(&[0, 10, 40]));
+            b.split(0, 0, parts, 100, above);
+        }
+        17 => {
+            let parts = b.random.within(2, 60);
+            b.split(0, 0, parts, 100, 0);
+            let at = b.random.below(b.routes.len());
+            let hole = *b.routes.keys().nth(at).unwrap();
+            b.routes.remove(&hole);
+        }
+        18 => {
+            let bits = b.random.within(1, 6);
+            let length = b.random.within(0, 32 - bits);
+            let base = b.random.address() & mask(length as u32);
+            for part in 0..1u32 << bits {
+                let address = base | part << (32 - length - bits);
+                let hop = b.hops[part as usize % b.hops.len()];
+                b.routes.insert((address, (length + bits) as u8), hop);
+            }
+        }
+        19 => {
+            for part in 0..1024 {
+                let (tail, length) = (b.random.address() >> 10, b.random.within(30, 32));
+                b.put(part << 22 | tail, length);
+            }
+        }
+        20 => (0..1024).for_each(|part| b.put(part << 22, 10)),
+        21 => {
+            let base = b.random.address() & if b.random.chance(50) { mask(22) } else { mask(31) };
+            (0..1024).for_each(|host| b.put(base.wrapping_add(host), 32));
+        }
+        22 => {
+            while b.routes.len() < 1024 {
+                let (address, length) = (b.random.address(), b.random.within(6, 32));
+                b.put(address, length);
+            }
+        }
+        _ => {
+            let (parts, above) = (b.random.within(900, 1024), b.random.pick(&[0, 0, 5]));
+            b.split(0, 0, parts, 100, above);
+        }
+    }
+    b.routes.into_iter().map(|((address, length), hop)| (address, length, hop)).take(1024).collect()
+}
+
+fn without_hops(routes: Vec<Route>) -> Vec<Route> {
+    routes.into_iter().map(|(address, length, _)| (address, length, 0)).collect()
+}
+
+fn is_set(call: u8, mode: u8) -> bool {
+    call == COVER || call == REWRITE && mode <= 2
+}
+
+/// A prefix to ask for: a record's, one near it, or any.
+fn ask(random: &mut Random, case: &mut Case, routes: &[Route]) {
+    case.query = random.address();
+    case.query_length = random.within(0, 32) as u8;
+    if !routes.is_empty() && random.chance(85) {
+        let (address, length, _) = random.pick(routes);
+        let tail = !mask(length as u32);
+        case.query = match random.below(6) {
+            0 => address,
+            1 => address | tail,
+            2 => (address | tail).wrapping_add(1),
+            3 => address.wrapping_sub(1),
+            _ => address | random.address() & tail,
+        };
+        let near = length as i64 + random.within(0, 6) as i64 - 4;
+        if random.chance(80) {
+            case.query_length = near.clamp(0, 32) as u8;
+        }
+    }
+}
+
+pub const ROOMS: [&str; 7] = ["exact", "roomy", "one word short", "one byte short", "both one short", "no work room", "no output"];
+
+/// Sets the rooms of a case by what the model needs.
+fn make_room(random: &mut Random, case: &mut Case, rooms: usize) {
+    let Ok(routes) = model::accepted(case, Fault::None) else {
+        case.work = random.pick(&[0, 1, 159, 160, 16_384]);
+        case.room = random.pick(&[0, 7, 8, 8_200]);
+        return;
+    };
+    if case.call == LOOKUP || case.call == HELD {
+        case.work = 0;
+        case.room = 0;
+        return;
+    }
+    let work = 160 * model::nodes(&routes, Fault::None) as u32;
+    case.work = MOST_WORK;
+    case.room = u16::MAX;
+    let room = match model::answer(case, Fault::None) {
+        crate::case::Answer::Rewritten(out, _) => 8 * out.len() as u16,
+        _ => 0,
+    };
+    (case.work, case.room) = match rooms {
+        0 => (work, room),
+        1 => ((work + random.within(1, 400) as u32).min(MOST_WORK), room + random.within(1, 100) as u16),
+        2 => (work - 1, room),
+        3 => (work, room.saturating_sub(1)),
+        4 => (work - 1, room.saturating_sub(1)),
+        5 => (0, room),
+        _ => (work, 0),
+    };
+}
+
+fn blank(call: u8, mode: u8) -> Case {
+    Case { call, mode, default: 0, query_length: 0, query: 0, work: 0, room: 0, table: Vec::new() }
+}
+
+/// A call on an accepted table.
+fn whole(random: &mut Random, call: u8, mode: u8, shape: usize, rooms: usize) -> Made {
+    let hop_count = if shape == 18 && random.chance(50) { 64 } else { random.pick(&[1, 2, 2, 3, 4, 5, 8, 16, 63, 64]) };
+    let mut routes = routes_of(random, shape, hop_count);
+    let mut case = blank(call, mode);
+    // What a call does not read is no less arbitrary.
+    case.default = if call == REWRITE && mode == 5 { random.below(64) as u8 } else { random.pick(&[0, 63, 64, 255]) };
+    if call == REWRITE && mode == 5 && !routes.is_empty() && random.chance(50) {
+        case.default = random.pick(&routes).2;
+    }
+    if is_set(call, mode) {
+        routes = without_hops(routes);
+    }
+    ask(random, &mut case, &routes);
+    case.table = table_of(&routes);
+    make_room(random, &mut case, rooms);
+    Made { case, shape: SHAPES[shape], rooms: ROOMS[rooms], damage: None }
+}
+
+/// The numbers that a call can give.
+pub fn numbers(call: u8) -> &'static [u8] {
+    match call {
+        REWRITE => &[1, 2, 3, 4, 5, 6, 7, 8, 10, 11],
+        COVER => &[3, 4, 5, 6, 7, 8, 9, 10],
+        _ => &[3, 4, 5, 6, 7, 8],
+    }
+}
+
+/// Where two faults of records stand: both in one record, or one in each of two.
+#[derive(Clone, Copy, PartialEq)]
+pub enum Order {
+    Same,
+    FirstEarlier,
+    FirstLater,
+}
+
+/// Every pair of numbers that one call can deserve at once, with every order where both are faults of records.
+pub fn pairs(call: u8) -> Vec<(u8, u8, Order)> {
+    let mut pairs = Vec::new();
+    for (i, &first) in numbers(call).iter().enumerate() {
+        for &second in &numbers(call)[i + 1..] {
+            if (first, second) == (1, 2) {
+                continue; // one needs a mode that is not 1 to 5, the other mode 5
+            }
+            pairs.push((first, second, Order::Same));
+            if (5..=8).contains(&first) && (5..=8).contains(&second) {
+                pairs.push((first, second, Order::FirstEarlier));
+                pairs.push((first, second, Order::FirstLater));
+            }
+        }
+    }
+    pairs
+}
+
+/// Damages record `at` so that it deserves `number`. Order (8) comes first where it is wanted, as it moves records.
+fn spoil(random: &mut Random, table: &mut [u8], at: usize, number: u8, is_set: bool) {
+    let (from, to) = (8 * at, 8 * at + 8);
+    match number {
+        5 => table[from + 4] = random.pick(&[33, 33, 34, 64, 128, 255]),
+        6 => table[from + 3] |= 1,
+        7 => match random.below(3) {
+            0 => table[from + 5] = if is_set { random.pick(&[1, 63, 64, 255]) } else { random.pick(&[64, 64, 65, 128, 255]) },
+            1 => table[from + 6] = random.pick(&[1, 128, 255]),
+            _ => table[from + 7] = random.pick(&[1, 128, 255]),
+        },
+        _ if random.chance(50) => table.copy_within(from - 8..from, from),
+        _ => {
+            for byte in from..to {
+                table.swap(byte - 8, byte);
+            }
+        }
+    }
+}
+
+/// A call with one fault, or with two of them (`second` not 0).
+fn damaged(random: &mut Random, call: u8, first: u8, second: u8, order: Order) -> Made {
+    let has = |number: u8| first == number || second == number;
+    let mode = match call {
+        REWRITE if has(1) => random.pick(&[0, 6, 255]),
+        REWRITE if has(2) => 5,
+        REWRITE => random.within(1, 5) as u8,
+        _ => random.pick(&[0, 1, 6, 255]),
+    };
+    let set = is_set(call, mode) || call == REWRITE && has(1);
+    let mut case = blank(call, mode);
+    case.default = if has(2) { random.pick(&[64, 64, 65, 255]) } else { random.pick(&[0, 62, 63]) };
+    // Lengths of 11 to 30 leave a host bit to set, and no record lies in another: every mode has a result.
+    let count = if has(4) { random.pick(&[1025, 1025, 1026, 1100]) } else { random.within(8, 14) };
+    let bits = if has(4) { 11 } else { 4 };
+    let mut routes: Vec<Route> = (0..count as u32)
+        .map(|i| {
+            let length = random.within(11, 30) as u32;
+            ((i << (32 - bits) | random.address() >> bits) & mask(length), length as u8, random.below(64) as u8)
+        })
+        .collect();
+    if set {
+        routes = without_hops(routes);
+    }
+    case.table = table_of(&routes);
+    ask(random, &mut case, &routes);
+    case.query_length = if has(9) { random.pick(&[33, 33, 34, 64, 255]) } else { random.pick(&[0, 8, 31, 32]) };
+    if has(1) || has(2) || has(4) || has(9) {
+        // The need of work room or output is not defined here, or does not matter: none, or plenty.
+        case.work = if has(10) { 0 } else { MOST_WORK.min(160 * 7 * count as u32) };
+        case.room = if has(11) { 0 } else { 8 * (count as u16 + 1) };
+    } else {
+        make_room(random, &mut case, 0);
+        if has(10) {
+            case.work = if random.chance(70) { case.work - 1 } else { 0 };
+        }
+        if has(11) {
+            case.room = if random.chance(70) { case.room - 1 } else { 0 };
+        }
+    }
+    // Records 0 to count - 1; a fault of order needs a record before it, and moves that one.
+    let (early, late) = (random.within(1, 3), random.within(5, 7));
+    let (at_first, at_second) = match order {
+        Order::Same => (late, late),
+        Order::FirstEarlier => (early, late),
+        Order::FirstLater => (late, early),
+    };
+    let mut faults = vec![(first, at_first), (second, at_second)];
+    faults.sort_by_key(|&(number, _)| number != 8);
+    for (number, at) in faults {
+        if (5..=8).contains(&number) {
+            spoil(random, &mut case.table, at, number, set);
+        }
+    }
+    if has(3) {
+        for _ in 0..random.within(1, 7) {
+            case.table.push(random.pick(&[0, 0, 1, 255]));
+        }
+    }
+    let place = |number, at| if (5..=8).contains(&number) { (number, at) } else { (number, 0) };
+    let expect = match order {
+        Order::FirstLater => place(second, at_second),
+        _ => place(first, at_first),
+    };
+    let shape = if has(4) { "damaged, over 1,024 records" } else { "damaged" };
+    Made { case, shape, rooms: "as the damage asks", damage: Some(Damage { first, second, expect }) }
+}
+
+/// Case `index` of a seed.
+pub fn seeded(seed: u64, index: u64) -> Made {
+    let random = &mut Random::new(seed, index);
+    let call = match random.below(100) {
+        0..=64 => REWRITE,
+        65..=82 => COVER,
+        83..=93 => LOOKUP,
+        _ => HELD,
+    };
+    if random.chance(20) {
+        // Damage by number 4 needs a long table, and comes less often.
+        let pairs = pairs(call);
+        loop {
+            let (mut first, mut second, mut order) = random.pick(&pairs);
+            if random.chance(30) {
+                (first, second, order) = (random.pick(numbers(call)), 0, Order::Same);
+            }
+            if first != 4 && second != 4 || random.chance(15) {
+                return damaged(random, call, first, second, order);
+            }
+        }
+    }
+    let mode = if call == REWRITE { random.within(1, 5) as u8 } else { random.pick(&[0, 1, 6, 255]) };
+    let shape = if random.chance(2) { random.within(LARGE, SHAPES.len() - 1) } else { random.below(LARGE) };
+    let rooms = if random.chance(70) { random.below(2) } else { random.within(2, ROOMS.len() - 1) };
+    whole(random, call, mode, shape, rooms)
+}
+
+fn prefix(text: &str) -> Route {
+    let (prefix, hop) = text.split_once('>').unwrap_or((text, "0"));
+    let (address, length) = prefix.split_once('/').unwrap();
+    let octets: Vec<u8> = address.split('.').map(|octet| octet.parse().unwrap()).collect();
+    (u32::from_be_bytes([octets[0], octets[1], octets[2], octets[3]]), length.parse().unwrap(), hop.parse().unwrap())
+}
+
+/// The worked routes of document 01: number, mode, default, input, result, change.
+pub const WORKED: [(u8, u8, u8, &str, &str, i64); 16] = [
+    (1, 1, 0, "", "", 0),
+    (2, 1, 0, "10.0.0.0/9 10.128.0.0/9", "10.0.0.0/8", -1),
+    (3, 2, 0, "10.0.0.0/9 10.128.0.0/9", "10.0.0.0/9 10.128.0.0/9", 0),
+    (4, 1, 0, "10.0.0.0/8 10.1.0.0/16", "10.0.0.0/8", -1),
+    (4, 2, 0, "10.0.0.0/8 10.1.0.0/16", "10.0.0.0/8", -1),
+    (5, 1, 0, "0.0.0.0/1 128.0.0.0/1", "0.0.0.0/0", -1),
+    (6, 1, 0, "192.0.2.0/32 192.0.2.1/32", "192.0.2.0/31", -1),
+    (7, 1, 0, "192.0.2.1/32 192.0.2.2/32", "192.0.2.1/32 192.0.2.2/32", 0),
+    (8, 3, 0, "10.0.0.0/8>1 10.1.0.0/16>1", "10.0.0.0/8>1", -1),
+    (9, 3, 0, "10.0.0.0/8>1 10.1.0.0/16>2 10.1.2.0/24>1", "10.0.0.0/8>1 10.1.0.0/16>2 10.1.2.0/24>1", 0),
+    (10, 4, 0, "10.0.0.0/8>1 10.0.0.0/9>2 10.128.0.0/9>2", "10.0.0.0/8>2", -2),
+    (11, 4, 0, "10.0.0.0/9>1 10.128.0.0/9>2", "10.0.0.0/8>1 10.128.0.0/9>2", 0),
+    (12, 4, 0, "0.0.0.0/1>1", "0.0.0.0/1>1", 0),
+    (13, 5, 3, "", "0.0.0.0/0>3", 1),
+    (14, 5, 3, "0.0.0.0/1>3", "0.0.0.0/0>3", 0),
+    (15, 5, 0, "10.0.0.0/8>5", "0.0.0.0/0>0 10.0.0.0/8>5", 1),
+];
+
+/// A worked case with the rooms of document 01's programs, and the routes that the document says come out.
+pub fn worked(at: usize) -> (Case, Vec<Route>, i64) {
+    let (_, mode, default, input, result, change) = WORKED[at];
+    let routes = |text: &str| text.split_whitespace().map(prefix).collect::<Vec<Route>>();
+    let mut case = blank(REWRITE, mode);
+    (case.default, case.work, case.room) = (default, 16_384, 8_200);
+    case.table = table_of(&routes(input));
+    (case, routes(result), change)
+}
+
+/// The fixed list: the worked cases first, then every mode on every shape, every call, every refusal, every pair of faults, and
+/// rooms at their edges.
+pub fn fixed() -> Vec<Made> {
+    let random = &mut Random::new(1999, 0);
+    let mut list: Vec<Made> = (0..WORKED.len())
+        .map(|at| Made { case: worked(at).0, shape: "worked", rooms: "of the programs", damage: None })
+        .collect();
+    let small = |random: &mut Random, call, mode, shape, rooms| loop {
+        let made = whole(random, call, mode, shape, rooms);
+        if made.case.table.len() <= 320 || shape >= LARGE {
+            return made;
+        }
+    };
+    for shape in 0..LARGE {
+        for mode in 1..=5 {
+            list.push(small(random, REWRITE, mode, shape, 0));
+            let rooms = random.within(1, 4);
+            list.push(small(random, REWRITE, mode, shape, rooms));
+        }
+        for call in [COVER, COVER, LOOKUP, LOOKUP, HELD] {
+            let rooms = random.pick(&[0, 0, 1, 2]);
+            list.push(small(random, call, 0, shape, rooms));
+        }
+    }
+    for (mode, shape, rooms) in
+        [(1, 21, 0), (1, 20, 0), (2, 22, 0), (3, 23, 0), (4, 23, 0), (4, 20, 2), (4, 19, 0), (5, 22, 3), (5, 20, 0)]
+    {
+        list.push(small(random, REWRITE, mode, shape, rooms));
+    }
+    // 1,024 records, none near another, with the most nodes: fill writes 1,025 records. Exactly the rooms for that, then one byte less,
+    // then one word less.
+    let routes: Vec<Route> = (0..1024u32).map(|part| (part << 22, 32, 1 + (part % 63) as u8)).collect();
+    for (rooms, work, room) in [("exact", MOST_WORK, 8_200), ("one byte short", MOST_WORK, 8_199), ("one word short", MOST_WORK - 1, 8_200)] {
+        let mut case = blank(REWRITE, 5);
+        (case.work, case.room, case.table) = (work, room, table_of(&routes));
+        list.push(Made { case, shape: "1,024: most nodes", rooms, damage: None });
+    }
+    // Work rooms that document 01 names: 160 words for no record or a /4, 320 for a /5, 1,120 for a /32.
+    for (length, words) in [(None, 160), (Some(4), 160), (Some(5), 320), (Some(32), 1_120)] {
+        for (call, mode) in [(REWRITE, 1), (REWRITE, 4), (COVER, 0)] {
+            for short in [0, 1] {
+                let mut case = blank(call, mode);
+                let routes: Vec<Route> = length.map(|length| (0, length, 0)).into_iter().collect();
+                (case.work, case.room, case.table) = (words - short, 8, table_of(&routes));
+                list.push(Made { case, shape: "named in document 01", rooms: ["exact", "one word short"][short as usize], damage: None });
+            }
+        }
+    }
+    for call in [REWRITE, COVER, LOOKUP, HELD] {
+        for &number in numbers(call) {
+            list.push(damaged(random, call, number, 0, Order::Same));
+        }
+        for (first, second, order) in pairs(call) {
+            // The long tables of number 4 are kept to the calls that differ.
+            if (first == 4 || second == 4) && (call == HELD || second == 6 || second == 7) {
+                continue;
+            }
+            list.push(damaged(random, call, first, second, order));
+        }
+    }
+    // The edges of modes, defaults and query lengths.
+    let table = table_of(&[prefix("10.0.0.0/8>63"), prefix("10.0.0.0/9>0")]);
+    let set = table_of(&[prefix("0.0.0.0/1"), prefix("128.0.0.0/1")]);
+    for mode in [0, 6, 255] {
+        list.push(edge(REWRITE, mode, 0, 0, &table));
+    }
+    for (mode, default) in [(5, 63), (5, 64), (5, 255), (4, 64), (3, 255)] {
+        list.push(edge(REWRITE, mode, default, 0, &table));
+    }
+    for length in [0, 1, 31, 32, 33, 255] {
+        list.push(edge(COVER, 0, 0, length, &set));
+    }
+    list
+}
+
+fn edge(call: u8, mode: u8, default: u8, query_length: u8, table: &[u8]) -> Made {
+    let mut case = blank(call, mode);
+    (case.default, case.query_length, case.query) = (default, query_length, 0x0A01_0203);
+    (case.work, case.room, case.table) = (16_384, 8_200, table.to_vec());
+    Made { case, shape: "edge of a number", rooms: "of the programs", damage: None }
+}

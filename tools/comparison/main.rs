@@ -1,0 +1,417 @@
+//! The comparison behind tools/compare: the crate (tools/oracle), the model (model.rs) and, where it is built, the program replay
+//! answer the same cases. Words are those of tools/compare, which says what they do; it adds `--replay COMMAND` and
+//! `--fixed-list STDIN STDOUT`.
+
+mod case;
+mod generate;
+mod model;
+
+use std::collections::BTreeMap;
+use std::fs;
+use std::io::{Read, Write};
+use std::process::{exit, Command, Stdio};
+use std::thread;
+
+use case::{Answer, Case, COVER, LOOKUP, REWRITE};
+use generate::Made;
+use model::Fault;
+
+const FOLDER: &str = "target/comparison";
+const BATCH: u64 = 2_000;
+const QUICK_CASES: u64 = 20_000;
+const QUICK_REPLAY_CASES: u64 = 2_000;
+
+/// The answer that is expected: refusals 1 to 9 and addresses held by the model, all else by the crate.
+fn expected(case: &Case) -> Answer {
+    let routes = match model::accepted(case, Fault::None) {
+        Err((number, at)) => return Answer::Refused(number, at),
+        Ok(routes) => routes,
+    };
+    let work_short = || (case.work as usize) < 160 * oracle::nodes(&routes);
+    match case.call {
+        REWRITE if work_short() => Answer::Refused(10, 0),
+        REWRITE => {
+            let (out, change) = oracle::rewrite(case.mode, case.default, &routes);
+            if (case.room as usize) < 8 * out.len() {
+                Answer::Refused(11, 0)
+            } else {
+                Answer::Rewritten(out, change)
+            }
+        }
+        COVER if work_short() => Answer::Refused(10, 0),
+        COVER => Answer::Covered(oracle::covers(&routes, case.query, case.query_length)),
+        LOOKUP => Answer::Match(oracle::lookup(&routes, case.query)),
+        _ => Answer::Addresses(model::addresses(&routes, Fault::None)),
+    }
+}
+
+/// Prints a case on which two answers differ, keeps it in a file, and ends the run.
+fn differ(case: &Case, one: (&str, &str), other: (&str, &str)) -> ! {
+    let mut bytes = Vec::new();
+    case.write(&mut bytes);
+    let file = format!("{FOLDER}/difference.bin");
+    println!("compare: the answers differ on a case of {} bytes:", bytes.len());
+    println!("{}", case::hex(&bytes));
+    print!("{}", case.describe());
+    print!("{} answers:\n{}{} answers:\n{}", one.0, one.1, other.0, other.1);
+    match fs::write(&file, &bytes) {
+        Ok(()) => println!("compare: the case is in {file}"),
+        Err(error) => println!("compare: the case could not be written to {file}: {error}"),
+    }
+    exit(1);
+}
+
+fn fail(message: String) -> ! {
+    println!("compare: {message}");
+    exit(2);
+}
+
+/// The expected text of a case, after the model and the damage's plan were held to it.
+fn settle(made: &Made) -> (String, Answer) {
+    let case = &made.case;
+    let answer = expected(case);
+    let text = answer.text(case.mode);
+    let by_model = model::answer(case, Fault::None).text(case.mode);
+    if text != by_model {
+        differ(case, ("the crate", &text), ("the model", &by_model));
+    }
+    if let Some(damage) = &made.damage {
+        let planned = Answer::Refused(damage.expect.0, damage.expect.1).text(case.mode);
+        if text != planned {
+            differ(case, ("the model", &text), ("the plan of the damage", &planned));
+        }
+    }
+    (text, answer)
+}
+
+#[derive(Default)]
+struct Counts(BTreeMap<String, u64>);
+
+impl Counts {
+    fn add(&mut self, what: String) {
+        *self.0.entry(what).or_default() += 1;
+    }
+
+    fn see(&mut self, made: &Made, answer: &Answer) {
+        let call = match made.case.call {
+            REWRITE => format!("rewrite, mode {}", made.case.mode),
+            COVER => "cover query".to_string(),
+            LOOKUP => "lookup".to_string(),
+            _ => "addresses held".to_string(),
+        };
+        let outcome = match answer {
+            Answer::Rewritten(_, change) if *change < 0 => "shorter",
+            Answer::Rewritten(_, change) if *change > 0 => "longer",
+            Answer::Rewritten(..) => "as long",
+            Answer::Refused(..) => "refused",
+            Answer::Covered(true) => "covered",
+            Answer::Covered(false) => "uncovered",
+            Answer::Match(Some(_)) => "a hop",
+            Answer::Match(None) => "no route",
+            Answer::Addresses(_) => "a total",
+        };
+        self.add(format!("call     {call}: {outcome}"));
+        if let Answer::Refused(number, _) = answer {
+            self.add(format!("refusal  {number:2}"));
+        }
+        self.add(format!("shape    {}", made.shape));
+        self.add(format!("rooms    {}", made.rooms));
+        if let Some(damage) = made.damage.as_ref().filter(|damage| damage.second != 0) {
+            self.add(format!("pair     {:2} with {:2}", damage.first, damage.second));
+        }
+    }
+
+    fn print(&self) {
+        for (what, count) in &self.0 {
+            println!("{count:9}  {what}");
+        }
+    }
+}
+
+/// What replay writes for these bytes of cases.
+fn replay(command: &str, bytes: &[u8]) -> String {
+    let file = format!("{FOLDER}/replay.stdin");
+    fs::write(&file, bytes).unwrap_or_else(|error| fail(format!("cannot write {file}: {error}")));
+    let input = fs::File::open(&file).unwrap_or_else(|error| fail(format!("cannot read {file}: {error}")));
+    let output = Command::new(command)
+        .arg("replay")
+        .stdin(input)
+        .stderr(Stdio::inherit())
+        .output()
+        .unwrap_or_else(|error| fail(format!("cannot run {command}: {error}")));
+    if !output.status.success() {
+        fail(format!("replay ended with {}; its cases are in {file}", output.status));
+    }
+    String::from_utf8_lossy(&output.stdout).into_owned()
+}
+
+/// Holds replay to the expected texts of some cases, taken in one run.
+fn hold_replay(command: &str, made: &[Made], texts: &[String]) {
+    let mut bytes = Vec::new();
+    made.iter().for_each(|made| made.case.write(&mut bytes));
+    let wrote = replay(command, &bytes);
+    let mut rest = wrote.as_str();
+    for (i, text) in texts.iter().enumerate() {
+        match rest.strip_prefix(text.as_str()) {
+            Some(after) => rest = after,
+            None => {
+                // A line too many shows only at the next case, so the case before is tried alone too.
+                for i in [i.saturating_sub(1), i] {
+                    let mut bytes = Vec::new();
+                    made[i].case.write(&mut bytes);
+                    let alone = replay(command, &bytes);
+                    if alone != texts[i] {
+                        differ(&made[i].case, ("the crate and the model", &texts[i]), ("replay", &alone));
+                    }
+                }
+                println!("compare: replay differs here only after the cases before this one, all in {FOLDER}/run.bin");
+                let _ = fs::write(format!("{FOLDER}/run.bin"), &bytes);
+                let has: String = rest.lines().take(text.lines().count() + 1).map(|line| format!("{line}\n")).collect();
+                differ(&made[i].case, ("the crate and the model", text), ("replay, in a run of cases,", &has));
+            }
+        }
+    }
+    if !rest.is_empty() {
+        println!("compare: replay writes more than the answers to its cases: {}", rest.lines().next().unwrap_or(""));
+        exit(1);
+    }
+}
+
+/// Runs seeded cases in batches: the crate against the model, and the first `by_replay` of them against replay.
+fn run(cases: u64, seed: u64, command: Option<&str>, by_replay: u64) {
+    let workers = thread::available_parallelism().map_or(1, |n| n.get() as u64).min(8);
+    let mut counts = Counts::default();
+    let mut replayed = 0;
+    let mut start = 0;
+    while start < cases {
+        let end = cases.min(start + BATCH);
+        let share = (end - start).div_ceil(workers);
+        let parts: Vec<Vec<(Made, String, Answer)>> = thread::scope(|scope| {
+            let part = |worker: u64| {
+                let from = (start + worker * share).min(end);
+                scope.spawn(move || {
+                    (from..end.min(from + share))
+                        .map(|index| {
+                            let made = generate::seeded(seed, index);
+                            let (text, answer) = settle(&made);
+                            (made, text, answer)
+                        })
+                        .collect()
+                })
+            };
+            let started: Vec<_> = (0..workers).map(part).collect();
+            started.into_iter().map(|thread| thread.join().unwrap_or_else(|_| exit(2))).collect()
+        });
+        let (mut made, mut texts) = (Vec::new(), Vec::new());
+        for (one, text, answer) in parts.into_iter().flatten() {
+            counts.see(&one, &answer);
+            made.push(one);
+            texts.push(text);
+        }
+        if let Some(command) = command {
+            let count = by_replay.saturating_sub(start).min(end - start) as usize;
+            if count > 0 {
+                hold_replay(command, &made[..count], &texts[..count]);
+                replayed += count;
+            }
+        }
+        start = end;
+        if start % 100_000 == 0 {
+            println!("compare: {start} cases agree so far");
+        }
+    }
+    counts.print();
+    let pairs = counts.0.keys().filter(|what| what.starts_with("pair ")).count();
+    println!("compare: {pairs} pairs of refusal numbers in one call");
+    println!("compare: seed {seed}: the crate and the model agree on {cases} cases; replay agrees on {replayed} of them");
+}
+
+/// Document 01's worked routes, by the crate and by the model.
+fn run_worked() {
+    for at in 0..generate::WORKED.len() {
+        let (case, routes, change) = generate::worked(at);
+        let paper = Answer::Rewritten(routes, change).text(case.mode);
+        let (text, _) = settle(&Made { case: case.clone(), shape: "worked", rooms: "of the programs", damage: None });
+        if text != paper {
+            differ(&case, ("document 01", &paper), ("the crate", &text));
+        }
+    }
+    println!("compare: the crate and the model give document 01's results on its worked routes, {} of them", generate::WORKED.len());
+}
+
+fn read(file: &str) -> Vec<u8> {
+    fs::read(file).unwrap_or_else(|error| fail(format!("cannot read {file}: {error}")))
+}
+
+/// The cases of a file's bytes and the line that ends the run early, if there is one.
+fn parse(mut bytes: &[u8]) -> (Vec<Case>, Option<&'static str>) {
+    let mut cases = Vec::new();
+    while !bytes.is_empty() {
+        match Case::read(bytes) {
+            Ok((case, rest)) => {
+                cases.push(case);
+                bytes = rest;
+            }
+            Err(line) => return (cases, Some(line)),
+        }
+    }
+    (cases, None)
+}
+
+fn check_fixed(stdin: &str, stdout: &str) {
+    let bytes = read(stdin);
+    let (cases, end) = parse(&bytes);
+    if let Some(line) = end {
+        fail(format!("{stdin}: {line}"));
+    }
+    let answers = String::from_utf8_lossy(&read(stdout)).into_owned();
+    let mut rest = answers.as_str();
+    let count = cases.len();
+    for case in cases {
+        let made = Made { case, shape: "", rooms: "", damage: None };
+        let (text, _) = settle(&made);
+        match rest.strip_prefix(text.as_str()) {
+            Some(after) => rest = after,
+            None => {
+                let has: String = rest.lines().take(text.lines().count()).map(|line| format!("{line}\n")).collect();
+                differ(&made.case, ("the crate", &text), (stdout, &has));
+            }
+        }
+    }
+    if !rest.is_empty() || count == 0 {
+        fail(format!("{stdout} has answers to more cases than {stdin}, or there is no case"));
+    }
+    println!("compare: the crate and the model agree with the fixed list, {count} cases");
+}
+
+fn write_fixed(stdin: &str, stdout: &str) {
+    let (mut bytes, mut text) = (Vec::new(), String::new());
+    let mut counts = Counts::default();
+    let list = generate::fixed();
+    for made in &list {
+        let (answer_text, answer) = settle(made);
+        counts.see(made, &answer);
+        made.case.write(&mut bytes);
+        text.push_str(&answer_text);
+    }
+    for (file, content) in [(stdin, &bytes[..]), (stdout, text.as_bytes())] {
+        fs::write(file, content).unwrap_or_else(|error| fail(format!("cannot write {file}: {error}")));
+    }
+    counts.print();
+    println!("compare: {} cases, {} bytes, in {stdin}; their answers in {stdout}", list.len(), bytes.len());
+}
+
+/// How a run ends: input cut in a header or in a table, a call that there is not, a work room over the bound.
+fn check_ends(command: &str) {
+    let (case, _, _) = generate::worked(1);
+    let mut good = Vec::new();
+    case.write(&mut good);
+    let text = expected(&case).text(case.mode);
+    let mut tries = vec![(Vec::new(), String::new())];
+    for cut in [1, 15, 16, good.len() - 1] {
+        tries.push((good[..cut].to_vec(), String::new()));
+        tries.push(([&good[..], &good[..cut]].concat(), text.clone()));
+    }
+    for (at, byte) in [(0, 4), (0, 255), (8, 1)] {
+        let mut odd = good.clone();
+        odd[at] = byte;
+        tries.push(([&good[..], &odd].concat(), text.clone()));
+    }
+    for (bytes, mut expect) in tries {
+        if let Some(line) = parse(&bytes).1 {
+            expect.push_str(line);
+            expect.push('\n');
+        }
+        let wrote = replay(command, &bytes);
+        if wrote != expect {
+            println!("compare: on the input {} replay writes:\n{wrote}expected:\n{expect}", case::hex(&bytes));
+            exit(1);
+        }
+    }
+    println!("compare: replay ends a run as docs/CASES.md says");
+}
+
+/// Every planted fault of the model must be found.
+fn self_test() {
+    let mut left: Vec<(Fault, &str)> = model::FAULTS.to_vec();
+    let mut index = 0;
+    while !left.is_empty() && index < QUICK_CASES {
+        let made = generate::seeded(1, index);
+        let text = expected(&made.case).text(made.case.mode);
+        left.retain(|&(fault, what)| {
+            let same = model::answer(&made.case, fault).text(made.case.mode) == text;
+            if !same {
+                println!("compare: planted fault found by case {index:5} of seed 1: {what}");
+            }
+            same
+        });
+        index += 1;
+    }
+    for (_, what) in &left {
+        println!("compare: planted fault NOT found in {index} cases: {what}");
+    }
+    if !left.is_empty() {
+        exit(1);
+    }
+    println!("compare: all {} planted faults are found", model::FAULTS.len());
+}
+
+/// Answers, or puts into words, the cases of standard input.
+fn stream(explain: bool) {
+    let mut bytes = Vec::new();
+    std::io::stdin().read_to_end(&mut bytes).unwrap_or_else(|error| fail(format!("cannot read standard input: {error}")));
+    let (cases, end) = parse(&bytes);
+    let mut out = std::io::stdout().lock();
+    let mut put = |text: String| out.write_all(text.as_bytes()).unwrap_or_else(|_| exit(2));
+    for case in cases {
+        let (text, _) = settle(&Made { case: case.clone(), shape: "", rooms: "", damage: None });
+        put(if explain { format!("{}{text}\n", case.describe()) } else { text });
+    }
+    if let Some(line) = end {
+        put(format!("{line}\n"));
+    }
+}
+
+fn number(words: &mut impl Iterator<Item = String>, word: &str) -> u64 {
+    words.next().and_then(|n| n.parse().ok()).unwrap_or_else(|| fail(format!("{word} needs a number")))
+}
+
+fn main() {
+    let mut words = std::env::args().skip(1);
+    let (mut what, mut cases, mut seed, mut command) = (String::new(), 0, 1, None);
+    let mut fixed_list = (String::new(), String::new());
+    while let Some(word) = words.next() {
+        match word.as_str() {
+            "--cases" => {
+                what = word.clone();
+                cases = number(&mut words, &word);
+            }
+            "--seed" => seed = number(&mut words, &word),
+            "--replay" => command = words.next(),
+            "--fixed-list" => fixed_list = (words.next().unwrap_or_default(), words.next().unwrap_or_default()),
+            "--quick" | "--self-test" | "--fixed" | "--answer" | "--explain" => what = word,
+            _ => fail(format!("there is no word {word}")),
+        }
+    }
+    let command = command.as_deref();
+    match what.as_str() {
+        "--cases" => run(cases, seed, command, cases),
+        "--quick" => {
+            run_worked();
+            check_fixed(&fixed_list.0, &fixed_list.1);
+            self_test();
+            if let Some(command) = command {
+                check_ends(command);
+            }
+            run(QUICK_CASES, seed, command, QUICK_REPLAY_CASES);
+        }
+        "--self-test" => self_test(),
+        "--fixed" => {
+            run_worked();
+            write_fixed(&fixed_list.0, &fixed_list.1);
+        }
+        "--answer" => stream(false),
+        "--explain" => stream(true),
+        _ => fail("nothing to do; see tools/compare --help".to_string()),
+    }
+}

@@ -1,0 +1,375 @@
+//! A plain model of document 01, written from its text by recursion on the bits of an address. It shares no code with the oracle
+//! and knows no nodes but in the count of the work room.
+//!
+//! A call of the model can be given a fault, a planted mistake: `tools/compare --self-test` shows with them that the comparison
+//! finds mistakes. `Fault::None` is the model itself.
+
+use crate::case::{Answer, Case, Route, COVER, HELD, LOOKUP, REWRITE};
+
+#[derive(Clone, Copy, PartialEq, Eq, Debug)]
+pub enum Fault {
+    None,
+    LargestHop,
+    HoleIsEmptySet,
+    AlwaysSmallest,
+    AlwaysUnion,
+    NodeEdgeInherits,
+    DefaultIsZero,
+    AnyAncestor,
+    ParentOnly,
+    MergeUnaligned,
+    NoMerge,
+    ChangeBackwards,
+    QueryTailCounts,
+    CoverWithoutMerge,
+    ShortestMatch,
+    AddressesOnce,
+    NodeShortOfFive,
+    NodesNotShared,
+    HostBitsMasked,
+    EqualRecordsTaken,
+    OrderBeforeHop,
+    LastBadRecord,
+    OutputBeforeWork,
+    RecordBeforeCount,
+    DefaultAlwaysRead,
+    SetTakesHops,
+}
+
+/// Each planted mistake and what it does wrong.
+pub const FAULTS: [(Fault, &str); 25] = [
+    (Fault::LargestHop, "modes 4, 5: the largest hop of a set instead of the smallest"),
+    (Fault::HoleIsEmptySet, "mode 4: a hole taken as an empty set"),
+    (Fault::AlwaysSmallest, "modes 4, 5: the smallest hop even where the hop above is in the set"),
+    (Fault::AlwaysUnion, "modes 4, 5: the union of two sets even where they have a hop in common"),
+    (Fault::NodeEdgeInherits, "modes 4, 5: a node's position 0 assumed equal to the position above it"),
+    (Fault::DefaultIsZero, "mode 5: the default read as 0"),
+    (Fault::AnyAncestor, "mode 3: compared with any entry above instead of the nearest"),
+    (Fault::ParentOnly, "mode 2: only members one bit longer dropped"),
+    (Fault::MergeUnaligned, "mode 1: neighbours merged without alignment"),
+    (Fault::NoMerge, "mode 1: neighbours not merged"),
+    (Fault::ChangeBackwards, "modes 1 to 5: the change with the other sign"),
+    (Fault::QueryTailCounts, "cover query: query bits past the length are read"),
+    (Fault::CoverWithoutMerge, "cover query: only a member at or above the query covers it"),
+    (Fault::ShortestMatch, "lookup: the shortest match"),
+    (Fault::AddressesOnce, "addresses held: nested records counted once"),
+    (Fault::NodeShortOfFive, "work room: no node at the depth that equals a record's length"),
+    (Fault::NodesNotShared, "work room: records share no node"),
+    (Fault::HostBitsMasked, "number 6: never given"),
+    (Fault::EqualRecordsTaken, "number 8: a record equal to the one before is taken"),
+    (Fault::OrderBeforeHop, "numbers 7 and 8: checked in the other order"),
+    (Fault::LastBadRecord, "numbers 5 to 8: the last bad record named"),
+    (Fault::OutputBeforeWork, "numbers 10 and 11: checked in the other order"),
+    (Fault::RecordBeforeCount, "numbers 4 and 5 to 8: the records checked first"),
+    (Fault::DefaultAlwaysRead, "number 2: given in every mode"),
+    (Fault::SetTakesHops, "number 7: a set may have hops"),
+];
+
+/// The first `length` bits set.
+fn mask(length: u32) -> u32 {
+    u32::MAX.checked_shl(32 - length).unwrap_or(0)
+}
+
+/// The lowest number against a record, whose index is not 0 where there is one before it.
+fn bad_record(record: &[u8], before: Option<&[u8]>, is_map: bool, fault: Fault) -> Option<u8> {
+    let address = |r: &[u8]| u32::from_be_bytes([r[0], r[1], r[2], r[3]]);
+    let (here, length, hop) = (address(record), record[4], record[5]);
+    if length > 32 {
+        return Some(5);
+    }
+    if here & !mask(length as u32) != 0 && fault != Fault::HostBitsMasked {
+        return Some(6);
+    }
+    let most = if is_map || fault == Fault::SetTakesHops { 63 } else { 0 };
+    let bytes_bad = hop > most || record[6] != 0 || record[7] != 0;
+    let order_bad = before.is_some_and(|b| match fault {
+        Fault::EqualRecordsTaken => (here, length) < (address(b), b[4]),
+        _ => (here, length) <= (address(b), b[4]),
+    });
+    if fault == Fault::OrderBeforeHop && order_bad {
+        return Some(8);
+    }
+    if bytes_bad {
+        return Some(7);
+    }
+    if order_bad {
+        return Some(8);
+    }
+    None
+}
+
+/// The routes of an accepted call's table, or the refusal by a number of 1 to 9.
+pub fn accepted(case: &Case, fault: Fault) -> Result<Vec<Route>, (u8, usize)> {
+    if case.call == REWRITE {
+        if !(1..=5).contains(&case.mode) {
+            return Err((1, 0));
+        }
+        if (case.mode == 5 || fault == Fault::DefaultAlwaysRead) && case.default > 63 {
+            return Err((2, 0));
+        }
+    }
+    let table = &case.table;
+    if table.len() % 8 != 0 {
+        return Err((3, 0));
+    }
+    let too_many = table.len() / 8 > 1024;
+    if too_many && fault != Fault::RecordBeforeCount {
+        return Err((4, 0));
+    }
+    let is_map = match case.call {
+        REWRITE => case.mode >= 3,
+        COVER => false,
+        _ => true,
+    };
+    let mut bad = None;
+    for (i, record) in table.chunks(8).enumerate() {
+        let before = if i == 0 { None } else { Some(&table[8 * i - 8..8 * i]) };
+        if let Some(number) = bad_record(record, before, is_map, fault) {
+            if bad.is_none() || fault == Fault::LastBadRecord {
+                bad = Some((number, i));
+            }
+        }
+    }
+    if let Some(refusal) = bad {
+        return Err(refusal);
+    }
+    if too_many {
+        return Err((4, 0));
+    }
+    if case.call == COVER && case.query_length > 32 {
+        return Err((9, 0));
+    }
+    Ok(table.chunks(8).map(|r| (u32::from_be_bytes([r[0], r[1], r[2], r[3]]), r[4], r[5])).collect())
+}
+
+/// The root and, for each record of length L, a node at each of the depths 5, 10, up to 5 * floor(L/5).
+pub fn nodes(routes: &[Route], fault: Fault) -> usize {
+    let mut nodes = vec![(0, 0, 0)];
+    for (i, &(address, length, _)) in routes.iter().enumerate() {
+        let mut depth = 5;
+        while depth <= length as u32 && !(fault == Fault::NodeShortOfFive && depth == length as u32) {
+            nodes.push((depth, address & mask(depth), if fault == Fault::NodesNotShared { i } else { 0 }));
+            depth += 5;
+        }
+    }
+    nodes.sort();
+    nodes.dedup();
+    nodes.len()
+}
+
+/// A position of the full binary tree: its address and length, the routes that lie at or below it, in order, and the hop of the
+/// nearest entry at or above it.
+#[derive(Clone, Copy)]
+struct Position<'a> {
+    address: u32,
+    length: u32,
+    routes: &'a [Route],
+    hop: Option<u8>,
+}
+
+impl<'a> Position<'a> {
+    fn root(routes: &'a [Route]) -> Self {
+        Position { address: 0, length: 0, routes, hop: None }.entered()
+    }
+
+    /// The entry that stands exactly here comes first among the routes below.
+    fn entry(&self) -> Option<Route> {
+        self.routes.first().copied().filter(|route| route.1 as u32 == self.length)
+    }
+
+    fn entered(mut self) -> Self {
+        if let Some((_, _, hop)) = self.entry() {
+            self.hop = Some(hop);
+        }
+        self
+    }
+
+    fn below(&self) -> &'a [Route] {
+        &self.routes[self.entry().is_some() as usize..]
+    }
+
+    /// The two halves, or none where no route lies below: there every address has the hop of this position.
+    fn halves(&self) -> Option<(Self, Self)> {
+        let below = self.below();
+        if below.is_empty() {
+            return None;
+        }
+        let upper = self.address | 1 << (31 - self.length);
+        let (zero, one) = below.split_at(below.partition_point(|route| route.0 < upper));
+        let half = |address, routes| Position { address, length: self.length + 1, routes, hop: self.hop }.entered();
+        Some((half(self.address, zero), half(upper, one)))
+    }
+
+    /// Is each address of the position under some member?
+    fn covered(&self) -> bool {
+        self.hop.is_some() || self.halves().is_some_and(|(zero, one)| zero.covered() && one.covered())
+    }
+
+    fn maximal_covered(&self, out: &mut Vec<Route>) {
+        if self.covered() {
+            out.push((self.address, self.length as u8, 0));
+        } else if let Some((zero, one)) = self.halves() {
+            zero.maximal_covered(out);
+            one.maximal_covered(out);
+        }
+    }
+}
+
+/// A set of hops, none for a hole. Bit h is hop h.
+type Set = Option<u64>;
+
+fn combine(zero: Set, one: Set, fault: Fault) -> Set {
+    match (zero, one) {
+        (Some(l), Some(r)) if l & r != 0 && fault != Fault::AlwaysUnion => Some(l & r),
+        (Some(l), Some(r)) => Some(l | r),
+        (l, r) if fault == Fault::HoleIsEmptySet => l.or(r),
+        _ => None,
+    }
+}
+
+/// The sets of a position and of those below it. Where there are no halves all positions below have this set.
+struct Sets {
+    set: Set,
+    halves: Option<Box<(Sets, Sets)>>,
+}
+
+fn sets(position: Position, default: Option<u8>, fault: Fault) -> Sets {
+    match position.halves() {
+        None => Sets { set: position.hop.or(default).map(|hop| 1 << hop), halves: None },
+        Some((zero, one)) => {
+            let halves = (sets(zero, default, fault), sets(one, default, fault));
+            Sets { set: combine(halves.0.set, halves.1.set, fault), halves: Some(Box::new(halves)) }
+        }
+    }
+}
+
+fn assign(sets: &Sets, address: u32, length: u32, above: Option<u8>, fault: Fault, out: &mut Vec<Route>) {
+    let here = match (sets.set, above) {
+        (None, _) => None,
+        (Some(_), Some(hop)) if fault == Fault::NodeEdgeInherits && length % 5 == 0 => Some(hop),
+        (Some(set), Some(hop)) if set >> hop & 1 == 1 && (fault != Fault::AlwaysSmallest || set.trailing_zeros() == hop as u32) => {
+            Some(hop)
+        }
+        (Some(set), _) => {
+            let hop = if fault == Fault::LargestHop { 63 - set.leading_zeros() } else { set.trailing_zeros() } as u8;
+            out.push((address, length as u8, hop));
+            Some(hop)
+        }
+    };
+    if let Some(halves) = &sets.halves {
+        assign(&halves.0, address, length + 1, here, fault, out);
+        assign(&halves.1, address | 1 << (31 - length), length + 1, here, fault, out);
+    }
+}
+
+fn lies_in(inner: &Route, outer: &Route) -> bool {
+    outer.1 < inner.1 && inner.0 & mask(outer.1 as u32) == outer.0
+}
+
+/// The nearest entry above a record is the longest of those above it.
+fn nearest_above<'a>(routes: &'a [Route], route: &Route) -> Option<&'a Route> {
+    routes.iter().filter(|other| lies_in(route, other)).max_by_key(|other| other.1)
+}
+
+fn rewritten(mode: u8, default: u8, routes: &[Route], fault: Fault) -> Vec<Route> {
+    let mut out = Vec::new();
+    match mode {
+        1 if fault == Fault::NoMerge => return rewritten(2, default, routes, Fault::None),
+        1 => {
+            Position::root(routes).maximal_covered(&mut out);
+            if fault == Fault::MergeUnaligned {
+                let mut merged: Vec<Route> = Vec::new();
+                for route in out {
+                    match merged.last_mut() {
+                        Some(last) if last.1 == route.1 && route.1 > 0 && route.0 - last.0 == 1 << (32 - route.1) => last.1 -= 1,
+                        _ => merged.push(route),
+                    }
+                }
+                return merged;
+            }
+        }
+        2 => {
+            for route in routes {
+                let kept = match fault {
+                    Fault::ParentOnly => !routes.iter().any(|other| other.1 + 1 == route.1 && lies_in(route, other)),
+                    _ => nearest_above(routes, route).is_none(),
+                };
+                if kept {
+                    out.push(*route);
+                }
+            }
+        }
+        3 => {
+            for route in routes {
+                let same = match fault {
+                    Fault::AnyAncestor => routes.iter().any(|other| lies_in(route, other) && other.2 == route.2),
+                    _ => nearest_above(routes, route).is_some_and(|above| above.2 == route.2),
+                };
+                if !same {
+                    out.push(*route);
+                }
+            }
+        }
+        _ => {
+            let default = if fault == Fault::DefaultIsZero { 0 } else { default };
+            let sets = sets(Position::root(routes), if mode == 5 { Some(default) } else { None }, fault);
+            assign(&sets, 0, 0, None, fault, &mut out);
+        }
+    }
+    out
+}
+
+fn covers(routes: &[Route], query: u32, length: u8, fault: Fault) -> bool {
+    let length = length as u32;
+    let first = if fault == Fault::QueryTailCounts { query } else { query & mask(length) };
+    if routes.iter().any(|route| route.1 as u32 <= length && first & mask(route.1 as u32) == route.0) {
+        return true;
+    }
+    let within: Vec<Route> = routes.iter().copied().filter(|route| route.0 & mask(length) == first).collect();
+    fault != Fault::CoverWithoutMerge && Position { address: first, length, routes: &within, hop: None }.covered()
+}
+
+fn lookup(routes: &[Route], address: u32, fault: Fault) -> Option<(u8, u8)> {
+    let matches = routes.iter().filter(|route| address & mask(route.1 as u32) == route.0);
+    let best = match fault {
+        Fault::ShortestMatch => matches.min_by_key(|route| route.1),
+        _ => matches.max_by_key(|route| route.1),
+    };
+    best.map(|route| (route.2, route.1))
+}
+
+pub fn addresses(routes: &[Route], fault: Fault) -> u64 {
+    let counted = |route: &&Route| fault != Fault::AddressesOnce || nearest_above(routes, route).is_none();
+    routes.iter().filter(counted).map(|route| 1 << (32 - route.1 as u64)).sum()
+}
+
+/// The model's answer to a case.
+pub fn answer(case: &Case, fault: Fault) -> Answer {
+    let routes = match accepted(case, fault) {
+        Err((number, at)) => return Answer::Refused(number, at),
+        Ok(routes) => routes,
+    };
+    let work_short = || (case.work as usize) < 160 * nodes(&routes, fault);
+    match case.call {
+        REWRITE => {
+            let out = rewritten(case.mode, case.default, &routes, fault);
+            let output_short = (case.room as usize) < 8 * out.len();
+            if fault == Fault::OutputBeforeWork && output_short {
+                return Answer::Refused(11, 0);
+            }
+            if work_short() {
+                return Answer::Refused(10, 0);
+            }
+            if output_short {
+                return Answer::Refused(11, 0);
+            }
+            let change = out.len() as i64 - routes.len() as i64;
+            Answer::Rewritten(out, if fault == Fault::ChangeBackwards { -change } else { change })
+        }
+        COVER if work_short() => Answer::Refused(10, 0),
+        COVER => Answer::Covered(covers(&routes, case.query, case.query_length, fault)),
+        LOOKUP => Answer::Match(lookup(&routes, case.query, fault)),
+        HELD => Answer::Addresses(addresses(&routes, fault)),
+        _ => unreachable!("a case names a call"),
+    }
+}

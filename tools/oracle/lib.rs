@@ -1,0 +1,120 @@
+//! The oracle: drives the crate's own table. The five modules are files of the crate prefix-trie, unchanged; tools/oracle/build lays
+//! them beside this file under target/ and compiles the whole. The crate's map and set front ends are not at hand, so this file does
+//! what they would: it fills a `Table`, calls the table's method, and reads the trie back.
+
+mod aggregate;
+mod allocator;
+mod node;
+mod prefix;
+mod table;
+
+// The crate's files name this item at the crate's root.
+pub use prefix::Prefix;
+
+use aggregate::Aggregation;
+use allocator::Loc;
+use table::{reconstruct_prefix, DataIdx, Table, K};
+
+/// A route: address, length, hop. Sets have hop 0.
+pub type Route = (u32, u8, u8);
+
+fn filled<T>(routes: &[Route], value: impl Fn(u8) -> T) -> Table<T> {
+    let mut table = Table::default();
+    for &(address, length, hop) in routes {
+        match table.find_or_insert_mut(address, length as u32) {
+            Ok(present) => {
+                present.replace(value(hop));
+            }
+            Err(empty) => {
+                empty.insert(value(hop));
+            }
+        }
+    }
+    table
+}
+
+/// Every node of the trie below `loc`, with the entries that it holds. The address of a node is had from the child slots above it.
+fn walk<T>(table: &Table<T>, loc: Loc, depth: u32, key: u32, see: &mut impl FnMut(u32, u8, Option<&T>)) {
+    let node = *table.node(loc);
+    see(key, depth as u8, None);
+    for data in node.data_locs() {
+        let (address, length): (u32, u8) = reconstruct_prefix(key, depth, data.bit as usize);
+        let index = DataIdx { node: loc, bit: data.bit, depth };
+        // SAFETY: the table is not changed during the walk, and `loc` is a live node of it.
+        let present = unsafe { index.resolve(table) }.expect("the bit is set");
+        see(address, length, Some(present.get()));
+    }
+    for child in node.child_locs() {
+        walk(table, child, depth + K, node::extend_repr(key, depth, child.bit), see);
+    }
+}
+
+fn entries<T>(table: &Table<T>, hop: impl Fn(&T) -> u8) -> Vec<Route> {
+    let mut routes = Vec::new();
+    walk(table, Loc::root(), 0, 0, &mut |address, length, value| {
+        if let Some(value) = value {
+            routes.push((address, length, hop(value)));
+        }
+    });
+    routes.sort();
+    routes
+}
+
+/// The number of nodes of the trie that holds `routes`.
+pub fn nodes(routes: &[Route]) -> usize {
+    let mut count = 0;
+    walk(&filled(routes, |hop| hop), Loc::root(), 0, 0, &mut |_, _, value| {
+        if value.is_none() {
+            count += 1;
+        }
+    });
+    count
+}
+
+/// Modes 1 to 5: the entries afterwards, sorted, and the change that the crate's method answers.
+pub fn rewrite(mode: u8, default: u8, routes: &[Route]) -> (Vec<Route>, i64) {
+    let set = || filled(routes, |_| ());
+    let map = || filled(routes, |hop| hop);
+    // SAFETY: the root is always a live node.
+    match mode {
+        1 => {
+            let mut table = set();
+            let (_, change) = unsafe { table.aggregate_set(Loc::root(), 0) };
+            (entries(&table, |_| 0), change)
+        }
+        2 => {
+            let mut table = set();
+            let change = unsafe { table.aggregate_consistent_set(Loc::root(), 0) };
+            (entries(&table, |_| 0), change)
+        }
+        3 => {
+            let mut table = map();
+            let (_, change) = unsafe { table.aggregate_consistent_map(Loc::root(), 0, None) };
+            (entries(&table, |hop| *hop), change)
+        }
+        4 => {
+            let mut table = map();
+            let change = table.aggregate_map::<u32, fn() -> u8>(Aggregation::Drop);
+            (entries(&table, |hop| *hop), change)
+        }
+        5 => {
+            let mut table = map();
+            let change = table.aggregate_map::<u32, _>(Aggregation::Fill(|| default));
+            (entries(&table, |hop| *hop), change)
+        }
+        _ => panic!("the crate has no mode {mode}"),
+    }
+}
+
+/// Does the set cover every address of the prefix? The crate passes over address bits past the length.
+pub fn covers(routes: &[Route], address: u32, length: u8) -> bool {
+    filled(routes, |_| ()).covers_in_aggregate(address, length as u32)
+}
+
+/// The crate's longest match of an address: hop and length.
+pub fn lookup(routes: &[Route], address: u32) -> Option<(u8, u8)> {
+    let table = filled(routes, |hop| hop);
+    let present = table.find_lpm(address, 32)?;
+    let (_, length): (u32, u8) = present.prefix(address);
+    Some((*present.get(), length))
+}

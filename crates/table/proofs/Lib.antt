@@ -1,0 +1,3 @@
+-- The laws of the table on the wire.
+pub mod Laws
+pub mod Judging

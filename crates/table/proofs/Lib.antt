@@ -1,0 +1,5 @@
+-- The laws of the table on the wire.
+pub mod Laws
+pub mod Judging
+pub mod Reading
+pub mod Accepted

@@ -1,0 +1,4 @@
+-- The laws of words.
+pub mod BitLaws
+pub mod PrefixLaws
+pub mod Ladders

@@ -1,15 +1,38 @@
 -- The bits of what each operation on words gives, and that a word is its bits. Assumes nothing.
-use mathlib.Core.Path.{_≡_, refl, sym, ap, _∙_}
-use mathlib.Core.Bool.{Bool, true, false, not, _&&_, _||_}
+use mathlib.Core.Path.{_≡_, refl, sym, ap, ap₂, _∙_}
+use mathlib.Core.Bool.{Bool, true, false, true≢false, not, _&&_, _||_, and-true, and-false}
 use Prim.Native.Nat.{ℕ, zero, suc, _+_, _-_, _*_, _/_, _%_, _^_, _≤_, _<_, min, max}
 use native.Mathlib.Nat.{pow-suc, div-lt-iff-lt-mul, mod-lt, lt-of-lt-of-le, add-sub-of-le, mul-mod-left, div-eq-of-lt, mul-assoc}
 use native.Mathlib.Omega.{arith}
-use lib.Dec.{eqb, lit<}
+use lib.Dec.{eqb, ltb, leb, lit<}
 use lib.Arith.{digits-mod}
-use lib.Pow.{pow-pos, pow-mono, pow-add, shr-shr, shl-shr, field, mod-mod-pow}
-use lib.Bits.{bitAnd, bitOr, and-step, or-step, and-shr, or-shr}
-use borrow.Author.Tests.{eqb-true, eqb-false, eq-eqb, ne-eqb}
+use lib.Pow.{pow-pos, pow-mono, pow-add, high, shr-shr, shl-shr, field, mod-mod-pow}
+use lib.Bits.{bitAnd, bitOr, and-step, or-step, and-shr, or-shr, and-lt}
+use borrow.Author.Tests.{ltb-true, ltb-false, leb-true, leb-false, eqb-true, eqb-false, eq-eqb, ne-eqb}
 use Rattle.words.specs.Bits.{bit}
+
+-- ---- a test by cases, with what it says
+
+pub if-lt : (P : Bool → Type 0) (a b : ℕ) → (a < b → P true) → (b ≤ a → P false) → P (ltb a b)
+if-lt P a b f g = go (ltb a b) refl
+  where
+    go : (t : Bool) → ltb a b ≡ t → P t
+    go true e = f (ltb-true a b e)
+    go false e = g (ltb-false a b e)
+
+pub if-le : (P : Bool → Type 0) (a b : ℕ) → (a ≤ b → P true) → (b < a → P false) → P (leb a b)
+if-le P a b f g = go (leb a b) refl
+  where
+    go : (t : Bool) → leb a b ≡ t → P t
+    go true e = f (leb-true a b e)
+    go false e = g (leb-false a b e)
+
+pub if-eq : (P : Bool → Type 0) (a b : ℕ) → (a ≡ b → P true) → ((a ≡ b → ⊥) → P false) → P (eqb a b)
+if-eq P a b f g = go (eqb a b) refl
+  where
+    go : (t : Bool) → eqb a b ≡ t → P t
+    go true e = f (eqb-true a b e)
+    go false e = g (eqb-false a b e)
 
 -- ---- digits, 0 or 1, and the Bools that bits are
 
@@ -122,6 +145,32 @@ bit-shl-low w x j k h l =
     ∙ sym (mul-assoc x (2 ^ (j - suc k)) 2))
     ∙ ap (λ (m : ℕ). eqb m 1) (mul-mod-left (x * 2 ^ (j - suc k)) 2)
 
+-- The bits of `!x`.
+pub bit-not : (w x k : ℕ) → x < 2 ^ w → k < w → bit ((2 ^ w - 1) - x) k ≡ not (bit x k)
+unfolding bit
+bit-not zero x k h l = absurd (omega arith)
+bit-not (suc w) x zero h l =
+    let e : ((2 ^ suc w - 1) - x) / 1 % 2 ≡ 1 - x / 1 % 2 = omega (arith, pow-suc 2 w) in
+    ap (λ (n : ℕ). eqb n 1) e ∙ test-not (digit x 0) (digit-lt x 0)
+bit-not (suc w) x (suc k) h l =
+    let g : x / 2 < 2 ^ w = omega (arith, pow-suc 2 w) in
+    let e : ((2 ^ suc w - 1) - x) / 2 ≡ (2 ^ w - 1) - x / 2 = omega (arith, pow-suc 2 w) in
+    ap (bit ((2 ^ suc w - 1) - x)) (sym (one-more k)) ∙ sym (bit-shr ((2 ^ suc w - 1) - x) 1 k) ∙ ap (λ (n : ℕ). bit n k) e
+    ∙ bit-not w (x / 2) k g (omega arith) ∙ ap not (bit-shr x 1 k ∙ ap (bit x) (one-more k))
+  where
+    one-more : (n : ℕ) → 1 + n ≡ suc n
+    one-more n = omega arith
+
+-- The bits of `1 << k`.
+pub bit-one : (w k i : ℕ) → k < w → i < w → bit (1 * 2 ^ k % 2 ^ w) i ≡ eqb i k
+unfolding bit
+bit-one w k i h l = if-le (λ _. bit (1 * 2 ^ k % 2 ^ w) i ≡ eqb i k) k i
+    (λ m. bit-shl w 1 k i m l
+    ∙ if-eq (λ t. bit 1 (i - k) ≡ t) i k
+    (λ e. let z : i - k ≡ 0 = omega arith in ap (bit 1) z)
+    (λ e. bit-over 1 1 (i - k) (lit< tt) (omega arith)))
+    (λ m. bit-shl-low w 1 k i m l ∙ sym (ne-eqb i k (λ e. omega arith)))
+
 -- ---- a word is its bits
 
 -- Two words of n bits that agree bit by bit are equal: so a rule for each bit has one answer.
@@ -134,3 +183,41 @@ same-bits (suc n) {x} {y} h g e =
     (λ k l. bit-shr x 1 k ∙ e (1 + k) (omega arith) ∙ sym (bit-shr y 1 k)) in
     let b : x / 1 % 2 ≡ y / 1 % 2 = same-digit x 0 y 0 (e 0 (omega arith)) in
     omega arith
+
+-- A word of w + 1 bits with bit w clear is below 2 ^ w. (The other way round it is `bit-over w x w`.)
+pub top-clear : (w x : ℕ) → x < 2 ^ suc w → bit x w ≡ false → x < 2 ^ w
+unfolding bit
+top-clear w x h e = go (ltb x (2 ^ w)) refl
+  where
+    one : 2 ^ w ≤ x → x / 2 ^ w ≡ 1
+    one l =
+        let g : x - 2 ^ w < 2 ^ w = omega (arith, pow-suc 2 w) in
+        let q : 1 * 2 ^ w + (x - 2 ^ w) ≡ x = omega arith in
+        ap (λ (n : ℕ). n / 2 ^ w) (sym q) ∙ high 1 w g
+
+    go : (t : Bool) → ltb x (2 ^ w) ≡ t → x < 2 ^ w
+    go true q = ltb-true x (2 ^ w) q
+    go false q = absurd (true≢false (sym (ap (λ (n : ℕ). eqb (n % 2) 1) (one (ltb-false x (2 ^ w) q))) ∙ e))
+
+-- The test `x & (1 << k) != 0` reads bit k.
+pub bit-test : (w x k : ℕ) → x < 2 ^ w → k < w → not (eqb (bitAnd x (1 * 2 ^ k % 2 ^ w)) 0) ≡ bit x k
+bit-test w x k h l = go (bit x k) refl
+  where
+    at : (i : ℕ) → i < w → bit (bitAnd x (1 * 2 ^ k % 2 ^ w)) i ≡ (bit x i && eqb i k)
+    at i b = bit-and x (1 * 2 ^ k % 2 ^ w) i ∙ ap (λ (t : Bool). bit x i && t) (bit-one w k i l b)
+
+    none : bit x k ≡ false → (i : ℕ) → i < w → bit (bitAnd x (1 * 2 ^ k % 2 ^ w)) i ≡ bit 0 i
+    none e i b =
+        at i b
+        ∙ if-eq (λ t. (bit x i && t) ≡ false) i k (λ q. and-true (bit x i) ∙ ap (bit x) q ∙ e) (λ q. and-false (bit x i))
+        ∙ sym (bit-zero i)
+
+    go : (t : Bool) → bit x k ≡ t → not (eqb (bitAnd x (1 * 2 ^ k % 2 ^ w)) 0) ≡ t
+    go true e =
+        ap not
+        (ne-eqb (bitAnd x (1 * 2 ^ k % 2 ^ w)) 0
+        (λ q. true≢false (sym (at k l ∙ ap₂ _&&_ e (eq-eqb k k refl)) ∙ ap (λ (n : ℕ). bit n k) q ∙ bit-zero k)))
+    go false e =
+        ap not
+        (eq-eqb (bitAnd x (1 * 2 ^ k % 2 ^ w)) 0
+        (same-bits w (and-lt w x (1 * 2 ^ k % 2 ^ w) h (mod-lt (1 * 2 ^ k) (pow-pos w))) (pow-pos w) (none e)))

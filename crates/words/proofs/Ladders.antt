@@ -4,17 +4,16 @@
 use mathlib.Core.Path.{_≡_, refl, sym, ap, ap₂, _∙_}
 use mathlib.Core.Bool.{Bool, true, false, _&&_, _||_, and-true, or-false, and-assoc, or-assoc, and-or-distrib-left, and-or-distrib-right, and-comm}
 use mathlib.Core.List.{List, [], _∷_, _++_}
-use Prim.Native.Nat.{ℕ, zero, suc, _+_, _-_, _*_, _/_, _%_, _^_, _≤_, _<_}
+use Prim.Native.Nat.{ℕ, zero, suc, _+_, _-_, _*_, _/_, _%_, _^_, _<_}
 use native.Mathlib.Nat.{mod-lt}
 use native.Mathlib.Omega.{arith}
 use lib.Dec.{ltb, leb, eqb}
 use lib.Pow.{pow-pos}
 use lib.Bits.{bitAnd, bitOr}
-use borrow.Author.Tests.{ltb-true, ltb-false, leb-true, leb-false, eqb-true, eqb-false}
 use Rattle.words.specs.Bits.{bit}
 use Rattle.words.specs.Positions.{atLevel, first}
-use Rattle.words.specs.Rules.{foldBit, pushBit, stray, Folded, Pushed, PushedSlots}
-use Rattle.words.proofs.BitLaws.{bit-and, bit-or, bit-shr, bit-over, bit-shl, bit-shl-low}
+use Rattle.words.specs.Rules.{pushBit, Folded, Pushed, PushedSlots}
+use Rattle.words.proofs.BitLaws.{if-lt, if-le, if-eq, bit-and, bit-or, bit-shr, bit-over, bit-shl, bit-shl-low}
 
 infixl 60 _&_
 infixl 50 _∣_
@@ -104,28 +103,6 @@ formula (a ∣ b) k = formula a k ++ formula b k
 formula (a >> j) k = formula a (j + k)
 formula (a << j) k = pick (ltb k 32) (pick (leb j k) (formula a (k - j)))
 formula (a mask m) k = pick (eqb (m / 2 ^ k % 2) 1) (formula a k)
-
--- A test by cases, with what it says.
-if-lt : (P : Bool → Type 0) (a b : ℕ) → (a < b → P true) → (b ≤ a → P false) → P (ltb a b)
-if-lt P a b f g = go (ltb a b) refl
-  where
-    go : (t : Bool) → ltb a b ≡ t → P t
-    go true e = f (ltb-true a b e)
-    go false e = g (ltb-false a b e)
-
-if-le : (P : Bool → Type 0) (a b : ℕ) → (a ≤ b → P true) → (b < a → P false) → P (leb a b)
-if-le P a b f g = go (leb a b) refl
-  where
-    go : (t : Bool) → leb a b ≡ t → P t
-    go true e = f (leb-true a b e)
-    go false e = g (leb-false a b e)
-
-if-eq : (P : Bool → Type 0) (a b : ℕ) → (a ≡ b → P true) → ((a ≡ b → ⊥) → P false) → P (eqb a b)
-if-eq P a b f g = go (eqb a b) refl
-  where
-    go : (t : Bool) → eqb a b ≡ t → P t
-    go true e = f (eqb-true a b e)
-    go false e = g (eqb-false a b e)
 
 -- A formula under a test.
 picked : (x : ℕ) (t : Bool) (f : Formula) → anyOf x (pick t f) ≡ (t && anyOf x f)

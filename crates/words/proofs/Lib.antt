@@ -2,3 +2,5 @@
 pub mod BitLaws
 pub mod PrefixLaws
 pub mod Ladders
+pub mod PositionLaws
+pub mod CoverageLaws

@@ -8,7 +8,7 @@ use lib.Dec.{eqb}
 use lib.Pow.{pow-pos, pow-mono, high, ones-lt, ones-split, shl-shr, shr-mod}
 use lib.Bits.{bitAnd, and-high, and-mask}
 use borrow.Author.Tests.{eqb-true, eqb-false, eq-eqb, ne-eqb}
-use Rattle.words.specs.Prefix.{maskOf, agree, hostClear}
+use Rattle.words.specs.Prefix.{maskOf, agree}
 
 -- `!(!0 >> n)` is the mask of length n.
 pub mask-shift : (w n : ℕ) → n ≤ w → (2 ^ w - 1) - (2 ^ w - 1) / 2 ^ n ≡ maskOf w n

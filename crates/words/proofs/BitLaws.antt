@@ -1,0 +1,223 @@
+-- The bits of what each operation on words gives, and that a word is its bits. Assumes nothing.
+use mathlib.Core.Path.{_≡_, refl, sym, ap, ap₂, _∙_}
+use mathlib.Core.Bool.{Bool, true, false, true≢false, not, _&&_, _||_, and-true, and-false}
+use Prim.Native.Nat.{ℕ, zero, suc, _+_, _-_, _*_, _/_, _%_, _^_, _≤_, _<_, min, max}
+use native.Mathlib.Nat.{pow-suc, div-lt-iff-lt-mul, mod-lt, lt-of-lt-of-le, add-sub-of-le, mul-mod-left, div-eq-of-lt, mul-assoc}
+use native.Mathlib.Omega.{arith}
+use lib.Dec.{eqb, ltb, leb, lit<}
+use lib.Arith.{digits-mod}
+use lib.Pow.{pow-pos, pow-mono, pow-add, high, shr-shr, shl-shr, field, mod-mod-pow}
+use lib.Bits.{bitAnd, bitOr, and-step, or-step, and-shr, or-shr, and-lt}
+use borrow.Author.Tests.{ltb-true, ltb-false, leb-true, leb-false, eqb-true, eqb-false, eq-eqb, ne-eqb}
+use Rattle.words.specs.Bits.{bit}
+
+-- ---- a test by cases, with what it says
+
+pub if-lt : (P : Bool → Type 0) (a b : ℕ) → (a < b → P true) → (b ≤ a → P false) → P (ltb a b)
+if-lt P a b f g = go (ltb a b) refl
+  where
+    go : (t : Bool) → ltb a b ≡ t → P t
+    go true e = f (ltb-true a b e)
+    go false e = g (ltb-false a b e)
+
+pub if-le : (P : Bool → Type 0) (a b : ℕ) → (a ≤ b → P true) → (b < a → P false) → P (leb a b)
+if-le P a b f g = go (leb a b) refl
+  where
+    go : (t : Bool) → leb a b ≡ t → P t
+    go true e = f (leb-true a b e)
+    go false e = g (leb-false a b e)
+
+pub if-eq : (P : Bool → Type 0) (a b : ℕ) → (a ≡ b → P true) → ((a ≡ b → ⊥) → P false) → P (eqb a b)
+if-eq P a b f g = go (eqb a b) refl
+  where
+    go : (t : Bool) → eqb a b ≡ t → P t
+    go true e = f (eqb-true a b e)
+    go false e = g (eqb-false a b e)
+
+-- ---- digits, 0 or 1, and the Bools that bits are
+
+-- The digit of 2 ^ k in x.
+abbrev digit : ℕ → ℕ → ℕ
+digit x k = x / 2 ^ k % 2
+
+digit-lt : (x k : ℕ) → digit x k < 2
+digit-lt x k = mod-lt (x / 2 ^ k) (lit< tt)
+
+test-min : (p q : ℕ) → p < 2 → q < 2 → eqb (min p q) 1 ≡ (eqb p 1 && eqb q 1)
+test-min zero zero h g = refl
+test-min zero (suc zero) h g = refl
+test-min (suc zero) zero h g = refl
+test-min (suc zero) (suc zero) h g = refl
+test-min (suc (suc p)) q h g = absurd (omega arith)
+test-min zero (suc (suc q)) h g = absurd (omega arith)
+test-min (suc zero) (suc (suc q)) h g = absurd (omega arith)
+
+test-max : (p q : ℕ) → p < 2 → q < 2 → eqb (max p q) 1 ≡ (eqb p 1 || eqb q 1)
+test-max zero zero h g = refl
+test-max zero (suc zero) h g = refl
+test-max (suc zero) zero h g = refl
+test-max (suc zero) (suc zero) h g = refl
+test-max (suc (suc p)) q h g = absurd (omega arith)
+test-max zero (suc (suc q)) h g = absurd (omega arith)
+test-max (suc zero) (suc (suc q)) h g = absurd (omega arith)
+
+test-not : (p : ℕ) → p < 2 → eqb (1 - p) 1 ≡ not (eqb p 1)
+test-not zero h = refl
+test-not (suc zero) h = refl
+test-not (suc (suc p)) h = absurd (omega arith)
+
+test-same : (p q : ℕ) → p < 2 → q < 2 → eqb p 1 ≡ eqb q 1 → p ≡ q
+test-same zero zero h g e = refl
+test-same zero (suc zero) h g e = let z : false ≡ true = e in let n : _≡_ {A = ℕ} 0 1 = cc in n
+test-same (suc zero) zero h g e = let z : true ≡ false = e in let n : _≡_ {A = ℕ} 1 0 = cc in n
+test-same (suc zero) (suc zero) h g e = refl
+test-same (suc (suc p)) q h g e = absurd (omega arith)
+test-same zero (suc (suc q)) h g e = absurd (omega arith)
+test-same (suc zero) (suc (suc q)) h g e = absurd (omega arith)
+
+-- Equal bits are equal digits.
+pub same-digit : (x k y i : ℕ) → bit x k ≡ bit y i → x / 2 ^ k % 2 ≡ y / 2 ^ i % 2
+unfolding bit
+same-digit x k y i e = test-same (digit x k) (digit y i) (digit-lt x k) (digit-lt y i) e
+
+-- ---- a bit of each operation
+
+-- The bits of zero.
+pub bit-zero : (k : ℕ) → bit 0 k ≡ false
+unfolding bit
+bit-zero k = ap (λ (n : ℕ). eqb (n % 2) 1) (div-eq-of-lt (pow-pos k))
+
+-- The bits of `a & b`.
+pub bit-and : (a b k : ℕ) → bit (bitAnd a b) k ≡ (bit a k && bit b k)
+unfolding bit
+bit-and a b k =
+    ap (λ (n : ℕ). eqb n 1)
+    (ap (λ (n : ℕ). n % 2) (and-shr a b k ∙ and-step (a / 2 ^ k) (b / 2 ^ k))
+    ∙ digits-mod (bitAnd (a / 2 ^ k / 2) (b / 2 ^ k / 2)) (let p : digit a k < 2 = digit-lt a k in let q : digit b k < 2 = digit-lt b k in omega arith))
+    ∙ test-min (digit a k) (digit b k) (digit-lt a k) (digit-lt b k)
+
+-- The bits of `a | b`.
+pub bit-or : (a b k : ℕ) → bit (bitOr a b) k ≡ (bit a k || bit b k)
+unfolding bit
+bit-or a b k =
+    ap (λ (n : ℕ). eqb n 1)
+    (ap (λ (n : ℕ). n % 2) (or-shr a b k ∙ or-step (a / 2 ^ k) (b / 2 ^ k))
+    ∙ digits-mod (bitOr (a / 2 ^ k / 2) (b / 2 ^ k / 2)) (let p : digit a k < 2 = digit-lt a k in let q : digit b k < 2 = digit-lt b k in omega arith))
+    ∙ test-max (digit a k) (digit b k) (digit-lt a k) (digit-lt b k)
+
+-- The bits of `x >> j`.
+pub bit-shr : (x j k : ℕ) → bit (x / 2 ^ j) k ≡ bit x (j + k)
+unfolding bit
+bit-shr x j k = ap (λ (n : ℕ). eqb (n % 2) 1) (shr-shr x j k)
+
+-- Past its width a word has no bit.
+pub bit-over : (w x k : ℕ) → x < 2 ^ w → w ≤ k → bit x k ≡ false
+unfolding bit
+bit-over w x k h l = ap (λ (n : ℕ). eqb (n % 2) 1) (div-eq-of-lt (lt-of-lt-of-le h (pow-mono l)))
+
+-- What is past w bits and cut off does not reach bit k below w.
+bit-cut : (w n k : ℕ) → k < w → bit (n % 2 ^ w) k ≡ bit n k
+unfolding bit
+bit-cut w n k l =
+    let e : w - suc k + 1 + k ≡ w = omega arith in
+    ap (λ (m : ℕ). eqb m 1)
+    (ap (λ (v : ℕ). n % 2 ^ v / 2 ^ k % 2) (sym e) ∙ ap (λ (m : ℕ). m % 2) (field n (w - suc k + 1) k) ∙ mod-mod-pow (n / 2 ^ k) (w - suc k) 1)
+
+-- The bits of `x << j`, from j on.
+pub bit-shl : (w x j k : ℕ) → j ≤ k → k < w → bit (x * 2 ^ j % 2 ^ w) k ≡ bit x (k - j)
+bit-shl w x j k h l =
+    bit-cut w (x * 2 ^ j) k l
+    ∙ ap (λ (m : ℕ). bit (x * 2 ^ j) m) (sym (add-sub-of-le h))
+    ∙ sym (bit-shr (x * 2 ^ j) j (k - j)) ∙ ap (λ (m : ℕ). bit m (k - j)) (shl-shr x j)
+
+-- The bits of `x << j`, below j.
+pub bit-shl-low : (w x j k : ℕ) → k < j → k < w → bit (x * 2 ^ j % 2 ^ w) k ≡ false
+unfolding bit
+bit-shl-low w x j k h l =
+    let e : j - suc k + 1 + k ≡ j = omega arith in
+    bit-cut w (x * 2 ^ j) k l
+    ∙ ap (λ (m : ℕ). bit (x * 2 ^ m) k) (sym e)
+    ∙ ap (λ (m : ℕ). bit (x * m) k) (pow-add 2 (j - suc k + 1) k)
+    ∙ ap (λ (m : ℕ). bit m k) (sym (mul-assoc x (2 ^ (j - suc k + 1)) (2 ^ k)))
+    ∙ ap (λ (m : ℕ). eqb (m % 2) 1)
+    (shl-shr (x * 2 ^ (j - suc k + 1)) k
+    ∙ ap (λ (m : ℕ). x * m) (pow-add 2 (j - suc k) 1)
+    ∙ sym (mul-assoc x (2 ^ (j - suc k)) 2))
+    ∙ ap (λ (m : ℕ). eqb m 1) (mul-mod-left (x * 2 ^ (j - suc k)) 2)
+
+-- The bits of `!x`.
+pub bit-not : (w x k : ℕ) → x < 2 ^ w → k < w → bit ((2 ^ w - 1) - x) k ≡ not (bit x k)
+unfolding bit
+bit-not zero x k h l = absurd (omega arith)
+bit-not (suc w) x zero h l =
+    let e : ((2 ^ suc w - 1) - x) / 1 % 2 ≡ 1 - x / 1 % 2 = omega (arith, pow-suc 2 w) in
+    ap (λ (n : ℕ). eqb n 1) e ∙ test-not (digit x 0) (digit-lt x 0)
+bit-not (suc w) x (suc k) h l =
+    let g : x / 2 < 2 ^ w = omega (arith, pow-suc 2 w) in
+    let e : ((2 ^ suc w - 1) - x) / 2 ≡ (2 ^ w - 1) - x / 2 = omega (arith, pow-suc 2 w) in
+    ap (bit ((2 ^ suc w - 1) - x)) (sym (one-more k)) ∙ sym (bit-shr ((2 ^ suc w - 1) - x) 1 k) ∙ ap (λ (n : ℕ). bit n k) e
+    ∙ bit-not w (x / 2) k g (omega arith) ∙ ap not (bit-shr x 1 k ∙ ap (bit x) (one-more k))
+  where
+    one-more : (n : ℕ) → 1 + n ≡ suc n
+    one-more n = omega arith
+
+-- The bits of `1 << k`.
+pub bit-one : (w k i : ℕ) → k < w → i < w → bit (1 * 2 ^ k % 2 ^ w) i ≡ eqb i k
+unfolding bit
+bit-one w k i h l = if-le (λ _. bit (1 * 2 ^ k % 2 ^ w) i ≡ eqb i k) k i
+    (λ m. bit-shl w 1 k i m l
+    ∙ if-eq (λ t. bit 1 (i - k) ≡ t) i k
+    (λ e. let z : i - k ≡ 0 = omega arith in ap (bit 1) z)
+    (λ e. bit-over 1 1 (i - k) (lit< tt) (omega arith)))
+    (λ m. bit-shl-low w 1 k i m l ∙ sym (ne-eqb i k (λ e. omega arith)))
+
+-- ---- a word is its bits
+
+-- Two words of n bits that agree bit by bit are equal: so a rule for each bit has one answer.
+pub same-bits : (n : ℕ) {x y : ℕ} → x < 2 ^ n → y < 2 ^ n → ((k : ℕ) → k < n → bit x k ≡ bit y k) → x ≡ y
+same-bits zero h g e = omega arith
+same-bits (suc n) {x} {y} h g e =
+    let p : x < 2 ^ n * 2 = rw pow-suc at h in
+    let q : y < 2 ^ n * 2 = rw pow-suc at g in
+    let t : x / 2 ≡ y / 2 = same-bits n (div-lt-iff-lt-mul (lit< tt) .1 p) (div-lt-iff-lt-mul (lit< tt) .1 q)
+    (λ k l. bit-shr x 1 k ∙ e (1 + k) (omega arith) ∙ sym (bit-shr y 1 k)) in
+    let b : x / 1 % 2 ≡ y / 1 % 2 = same-digit x 0 y 0 (e 0 (omega arith)) in
+    omega arith
+
+-- A word of w + 1 bits with bit w clear is below 2 ^ w. (The other way round it is `bit-over w x w`.)
+pub top-clear : (w x : ℕ) → x < 2 ^ suc w → bit x w ≡ false → x < 2 ^ w
+unfolding bit
+top-clear w x h e = go (ltb x (2 ^ w)) refl
+  where
+    one : 2 ^ w ≤ x → x / 2 ^ w ≡ 1
+    one l =
+        let g : x - 2 ^ w < 2 ^ w = omega (arith, pow-suc 2 w) in
+        let q : 1 * 2 ^ w + (x - 2 ^ w) ≡ x = omega arith in
+        ap (λ (n : ℕ). n / 2 ^ w) (sym q) ∙ high 1 w g
+
+    go : (t : Bool) → ltb x (2 ^ w) ≡ t → x < 2 ^ w
+    go true q = ltb-true x (2 ^ w) q
+    go false q = absurd (true≢false (sym (ap (λ (n : ℕ). eqb (n % 2) 1) (one (ltb-false x (2 ^ w) q))) ∙ e))
+
+-- The test `x & (1 << k) != 0` reads bit k.
+pub bit-test : (w x k : ℕ) → x < 2 ^ w → k < w → not (eqb (bitAnd x (1 * 2 ^ k % 2 ^ w)) 0) ≡ bit x k
+bit-test w x k h l = go (bit x k) refl
+  where
+    at : (i : ℕ) → i < w → bit (bitAnd x (1 * 2 ^ k % 2 ^ w)) i ≡ (bit x i && eqb i k)
+    at i b = bit-and x (1 * 2 ^ k % 2 ^ w) i ∙ ap (λ (t : Bool). bit x i && t) (bit-one w k i l b)
+
+    none : bit x k ≡ false → (i : ℕ) → i < w → bit (bitAnd x (1 * 2 ^ k % 2 ^ w)) i ≡ bit 0 i
+    none e i b =
+        at i b
+        ∙ if-eq (λ t. (bit x i && t) ≡ false) i k (λ q. and-true (bit x i) ∙ ap (bit x) q ∙ e) (λ q. and-false (bit x i))
+        ∙ sym (bit-zero i)
+
+    go : (t : Bool) → bit x k ≡ t → not (eqb (bitAnd x (1 * 2 ^ k % 2 ^ w)) 0) ≡ t
+    go true e =
+        ap not
+        (ne-eqb (bitAnd x (1 * 2 ^ k % 2 ^ w)) 0
+        (λ q. true≢false (sym (at k l ∙ ap₂ _&&_ e (eq-eqb k k refl)) ∙ ap (λ (n : ℕ). bit n k) q ∙ bit-zero k)))
+    go false e =
+        ap not
+        (eq-eqb (bitAnd x (1 * 2 ^ k % 2 ^ w)) 0
+        (same-bits w (and-lt w x (1 * 2 ^ k % 2 ^ w) h (mod-lt (1 * 2 ^ k) (pow-pos w))) (pow-pos w) (none e)))

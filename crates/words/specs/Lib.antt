@@ -1,0 +1,6 @@
+-- What the contracts of words say, in the order to read it: bits, prefixes, the positions of a node, the rules of folds and pushes, coverage.
+pub mod Bits
+pub mod Prefix
+pub mod Positions
+pub mod Rules
+pub mod Coverage

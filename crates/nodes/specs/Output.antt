@@ -1,0 +1,29 @@
+-- What is written of a node: records laid one after another at the start of the output, where they fit.
+use Prim.Native.Nat.{ℕ, _+_, _-_, _*_, _≤_, _<_}
+use mathlib.Core.Path.{_≡_}
+use mathlib.Core.Bool.{Bool, cond}
+use mathlib.Core.List.{List, [], _∷_, _++_}
+use lib.ListN.{length, getD, take, drop}
+use Rattle.theory.specs.Routes.{Route}
+use Rattle.table.specs.Wire.{bytesOf}
+use Rattle.words.specs.Bits.{bit}
+use Rattle.words.specs.Positions.{position}
+use Rattle.positions.specs.Runs.{placeAt}
+use Rattle.positions.specs.Wide.{narrowed}
+use Rattle.nodes.specs.Node.{spare, slotSize}
+
+-- The bytes of wide routes on the wire.
+abbrev pub wireOf : List Route → List ℕ
+wireOf rs = bytesOf (narrowed spare rs)
+
+-- o′ is o with the routes laid after its first `done` records, if they fit, and k records stand there then.
+pub record Wrote (rs : List Route) (done k : ℕ) (o o′ : List ℕ) : Type 0 where
+  pub counted : k ≡ done + length rs
+  pub laid : k * 8 ≤ length o → o′ ≡ take (done * 8) o ++ (wireOf rs ++ drop (k * 8) o)
+
+-- The entry of position j of level l, where the bits say which positions have one, and the list their hops.
+abbrev pub entryAt : ℕ → List ℕ → ℕ → ℕ → ℕ → ℕ → List Route
+entryAt entries hops depth key l j =
+    cond (bit entries (position l j))
+    (record { addr = placeAt (slotSize depth) key l j; len = depth + l; hop = getD hops (position l j) 0 } ∷ [])
+    []

@@ -1,0 +1,133 @@
+// One pass over a node's run: which records stand at each of its positions, and which lie in each of its slots.
+
+use table::records::addr_at;
+use table::records::hop_at;
+use table::records::len_at;
+use words::bits::with_bit;
+
+ghost use mathlib.Core.Path.{_≡_};
+ghost use Prim.Native.Nat.{ℕ, _+_, _-_, _*_, _/_, _^_, _≤_, _<_};
+ghost use lib.Dec.{eqb};
+ghost use mathlib.Core.Bool.{_||_};
+ghost use lib.ListN.{length, getD};
+ghost use Rattle.theory.specs.Routes.{Answer};
+ghost use Rattle.table.specs.Wire.{records, routeAt};
+ghost use Rattle.words.specs.Bits.{bit};
+ghost use Rattle.words.specs.Positions.{position};
+ghost use Rattle.positions.specs.Runs.{sizeAt, placeAt, cover};
+ghost use Rattle.nodes.specs.Node.{wide, run, slotSize, wideAt, Node, Shows};
+ghost use Rattle.nodes.specs.Gathered.{levelOf, Gathered, firstOf, valueOf, overAt};
+
+// The wide address of record i.
+pub fn wide_at(table: &[u8], i: usize) -> u64
+    requires { ⌜ i < records (now table) ⌝ }
+    ensures { λ r. ⌜ (r ≡ wideAt (now (table .entry)) i .addr) × (r < 2 ^ wide) ⌝ }
+{
+    (addr_at(table, i) as u64) * 8
+}
+
+// The length of record i.
+pub fn size_at(table: &[u8], i: usize) -> usize
+    requires { ⌜ i < records (now table) ⌝ }
+    ensures { λ r. ⌜ (r ≡ wideAt (now (table .entry)) i .len) × (r < 256) ⌝ }
+{
+    len_at(table, i) as usize
+}
+
+// The level of a length in a node at this depth: 0 to 4 for its positions, 5 for its slots.
+pub fn level_of(len: usize, depth: usize) -> usize
+    requires { ⌜ (depth ≤ 30) × (depth ≤ len) ⌝ }
+    ensures { λ r. ⌜ (r ≡ levelOf len depth) × (r ≤ 5) ⌝ }
+{
+    if len < depth + 5 { len - depth } else { 5 }
+}
+
+// The place, in the heap of a node, of the address at a level.
+pub fn heap_index(addr: u64, level: usize, depth: usize, key: u64) -> usize
+    requires { ⌜ (depth ≤ 30) × (level ≤ 5) ⌝ }
+    requires { ⌜ (key ≤ addr) × (addr < key + 2 ^ (wide - depth)) ⌝ }
+    ensures { λ r. ⌜ r ≡ position level ((addr - key) / 2 ^ sizeAt (slotSize depth) level) ⌝ }
+    ensures { λ r. ⌜ (addr - key) / 2 ^ sizeAt (slotSize depth) level < 2 ^ level ⌝ }
+{
+    let below = 35 - depth - level;
+    (1 << level) - 1 + (((addr - key) >> below) as usize)
+}
+
+// Where the records of a place begin, once record i is one of them.
+pub fn first_of(first: usize, end: usize, i: usize) -> usize
+    ensures { λ r. ⌜ r ≡ firstOf first end i ⌝ }
+{
+    if first < end { first } else { i }
+}
+
+// The positions with a record, once place b has one; the places from 31 on are slots.
+pub fn marked(present: u32, b: usize) -> u32
+    requires { ⌜ b < 63 ⌝ }
+    ensures { λ r. ⌜ ((i : ℕ) → i < 31 → bit r i ≡ (eqb i b || bit present i)) ⌝ }
+    ensures { λ r. ⌜ bit r 31 ≡ bit present 31 ⌝ }
+{
+    if b < 31 { with_bit(present, b as u32) } else { present }
+}
+
+// Gathers a node's run: for each place of its heap the records first[b]..end[b], and the positions that have one.
+pub fn gather(
+    table: &[u8],
+    lo: usize,
+    hi: usize,
+    depth: usize,
+    key: u64,
+    first: &mut [usize; 63],
+    end: &mut [usize; 63],
+) -> u32
+    requires { ⌜ Node (now table) lo hi depth key ⌝ }
+    requires { ⌜ ((b : ℕ) → b < 63 → (getD (now first) b 0 ≡ 0) × (getD (now end) b 0 ≡ 0)) ⌝ }
+    ensures { λ r. ⌜ Gathered (now (table .entry)) lo hi depth key (now (first .exit)) (now (end .exit)) r ⌝ }
+{
+    let mut present: u32 = 0;
+    let mut i = lo;
+    while i < hi {
+        let level = level_of(size_at(table, i), depth);
+        let b = heap_index(wide_at(table, i), level, depth, key);
+        first[b] = first_of(first[b], end[b], i);
+        end[b] = i + 1;
+        present = marked(present, b);
+        i += 1;
+    }
+    present
+}
+
+// The hop that covers position b from above.
+pub fn over_at(hops: &[u8; 31], b: usize, above: u8) -> u8
+    requires { ⌜ b < 31 ⌝ }
+    ensures { λ r. ⌜ r ≡ overAt (now (hops .entry)) b above ⌝ }
+{
+    if b == 0 { above } else { hops[(b - 1) / 2] }
+}
+
+// The hop of the first of the records first..end, or the one above where there is none.
+pub fn value_at(table: &[u8], first: usize, end: usize, over: u8) -> u8
+    requires { ⌜ end ≤ records (now table) ⌝ }
+    ensures { λ r. ⌜ r ≡ valueOf (now (table .entry)) first end over ⌝ }
+{
+    if first < end { hop_at(table, first) } else { over }
+}
+
+// The hop that covers each position of a node, its own record included; 64 for none.
+pub fn covering_values(table: &[u8], lo: usize, hi: usize, depth: usize, key: u64, first: &[usize; 63], end: &[usize; 63], inherited: u8) -> [u8; 31]
+{
+    let mut hops = [64u8; 31];
+    let mut b: usize = 0;
+    while b < 31 {
+        hops[b] = value_at(table, first[b], end[b], over_at(&hops, b, inherited));
+        b += 1;
+    }
+    hops
+}
+
+// The wide address of slot c.
+pub fn slot_key(key: u64, depth: usize, c: usize) -> u64
+    requires { ⌜ (depth ≤ 30) × ((c < 32) × (key + 2 ^ (wide - depth) ≤ 2 ^ wide)) ⌝ }
+    ensures { λ r. ⌜ r ≡ placeAt (slotSize depth) key 5 c ⌝ }
+{
+    key + ((c as u64) << (30 - depth))
+}

@@ -13,8 +13,8 @@ use Rattle.theory.specs.Results.{In, throughout, maximal, part, nearest, isOthe
 use Rattle.theory.specs.Routes.{Route, matches, held, Match, longer, tried, lookup, Answer, none, under, answer, orDefault, filled, Aligned, Valid, All, nil, cons, Before, Ascending, empty, first, Table}
 use Rattle.theory.proofs.Agree.{ortc-agree}
 use Rattle.theory.proofs.Blocks.{pow-pos, in-left, in-right}
-use Rattle.theory.proofs.Kept.{isShorter, passes, kept, noneAbove}
 use Rattle.theory.proofs.Chosen.{smallest-chooses}
+use Rattle.theory.proofs.Kept.{isShorter, passes, kept, noneAbove}
 use Rattle.theory.proofs.Maximal.{maximal-agree, maximal-is-ortc}
 use Rattle.theory.proofs.Parts.{all-part}
 use Rattle.theory.proofs.Preserve.{Within}

@@ -51,3 +51,9 @@ valueOf t first end over = cond (ltb first end) (routeAt t first .hop) over
 -- What covers position b from above, by the hops of the positions before it.
 abbrev pub overAt : List ℕ → ℕ → ℕ → ℕ
 overAt hops b above = cond (eqb b 0) above (getD hops ((b - 1) / 2) 0)
+
+-- The hop that covers position j of level l, by the records of each place and the hop that covers the node.
+unfoldable pub coveringAt : List ℕ → List ℕ → List ℕ → ℕ → ℕ → ℕ → ℕ
+coveringAt t first end inherited zero j = valueOf t (getD first (position zero j) 0) (getD end (position zero j) 0) inherited
+coveringAt t first end inherited (suc l) j =
+    valueOf t (getD first (position (suc l) j) 0) (getD end (position (suc l) j) 0) (coveringAt t first end inherited l (j / 2))

@@ -1,7 +1,9 @@
 -- A node as a run of a table's records, at wide addresses.
 use Prim.Native.Nat.{ℕ, _+_, _-_, _*_, _^_, _≤_, _<_}
 use mathlib.Core.Path.{_≡_}
+use mathlib.Core.Bool.{cond}
 use mathlib.Core.List.{List}
+use lib.Dec.{ltb}
 use Rattle.theory.specs.Routes.{Route, All, Table, Aligned, Answer, none, via}
 use Rattle.theory.proofs.Preserve.{Within}
 use Rattle.table.specs.Wire.{records, routesFrom, routeAt}
@@ -26,7 +28,7 @@ run t lo hi = widened spare (routesFrom t lo (hi - lo))
 abbrev pub slotSize : ℕ → ℕ
 slotSize depth = 30 - depth
 
--- The records lo..hi are those of a node at a depth of 0, 5, .. 30 and a key: in order, inside it, and of lengths up to 32.
+-- The records lo..hi are those of a node at a depth of 0, 5, .. 30 and a key: in order, inside it, of lengths up to 32, by hops below 64.
 pub record Node (t : List ℕ) (lo hi depth key : ℕ) : Type 0 where
   pub low : lo ≤ hi
   pub high : hi ≤ records t
@@ -38,8 +40,8 @@ pub record Node (t : List ℕ) (lo hi depth key : ℕ) : Type 0 where
   pub table : Table wide (run t lo hi)
   pub within : All (Within wide (wide - depth) key) (run t lo hi)
   pub short : All (λ r. r .len ≤ 32) (run t lo hi)
+  pub hops : All (λ r. r .hop < 64) (run t lo hi)
 
--- A hop as the code has it: below 64, or 64 for none.
-abbrev pub Shows : ℕ → Answer → Type 0
-Shows h none = h ≡ 64
-Shows h (via k) = (h ≡ k) × (k < 64)
+-- What a hop of the code says: below 64 that hop, from 64 on none.
+abbrev pub hopOf : ℕ → Answer
+hopOf h = cond (ltb h 64) (via h) none

@@ -4,19 +4,17 @@ use table::records::addr_at;
 use table::records::hop_at;
 use table::records::len_at;
 use words::bits::with_bit;
-
 ghost use mathlib.Core.Path.{_≡_};
 ghost use Prim.Native.Nat.{ℕ, _+_, _-_, _*_, _/_, _^_, _≤_, _<_};
 ghost use lib.Dec.{eqb};
 ghost use mathlib.Core.Bool.{_||_};
-ghost use lib.ListN.{length, getD};
-ghost use Rattle.theory.specs.Routes.{Answer};
-ghost use Rattle.table.specs.Wire.{records, routeAt};
+ghost use lib.ListN.{getD};
+ghost use Rattle.table.specs.Wire.{records};
 ghost use Rattle.words.specs.Bits.{bit};
 ghost use Rattle.words.specs.Positions.{position};
-ghost use Rattle.positions.specs.Runs.{sizeAt, placeAt, cover};
-ghost use Rattle.nodes.specs.Node.{wide, run, slotSize, wideAt, Node, Shows};
-ghost use Rattle.nodes.specs.Gathered.{levelOf, Gathered, firstOf, valueOf, overAt};
+ghost use Rattle.positions.specs.Runs.{sizeAt, placeAt};
+ghost use Rattle.nodes.specs.Node.{wide, slotSize, wideAt, Node};
+ghost use Rattle.nodes.specs.Gathered.{levelOf, Gathered, firstOf, valueOf, overAt, coveringAt};
 
 // The wide address of record i.
 pub fn wide_at(table: &[u8], i: usize) -> u64
@@ -66,7 +64,11 @@ pub fn marked(present: u32, b: usize) -> u32
     ensures { λ r. ⌜ ((i : ℕ) → i < 31 → bit r i ≡ (eqb i b || bit present i)) ⌝ }
     ensures { λ r. ⌜ bit r 31 ≡ bit present 31 ⌝ }
 {
-    if b < 31 { with_bit(present, b as u32) } else { present }
+    if b < 31 {
+        with_bit(present, b as u32)
+    } else {
+        present
+    }
 }
 
 // Gathers a node's run: for each place of its heap the records first[b]..end[b], and the positions that have one.
@@ -109,11 +111,22 @@ pub fn value_at(table: &[u8], first: usize, end: usize, over: u8) -> u8
     requires { ⌜ end ≤ records (now table) ⌝ }
     ensures { λ r. ⌜ r ≡ valueOf (now (table .entry)) first end over ⌝ }
 {
-    if first < end { hop_at(table, first) } else { over }
+    if first < end {
+        hop_at(table, first)
+    } else {
+        over
+    }
 }
 
 // The hop that covers each position of a node, its own record included; 64 for none.
-pub fn covering_values(table: &[u8], lo: usize, hi: usize, depth: usize, key: u64, first: &[usize; 63], end: &[usize; 63], inherited: u8) -> [u8; 31]
+pub fn covering_values(
+    table: &[u8],
+    first: &[usize; 63],
+    end: &[usize; 63],
+    inherited: u8,
+) -> [u8; 31]
+    requires { ⌜ ((b : ℕ) → b < 63 → getD (now end) b 0 ≤ records (now table)) ⌝ }
+    ensures { λ r. ⌜ ((l j : ℕ) → l ≤ 4 → j < 2 ^ l → getD r (position l j) 0 ≡ coveringAt (now (table .entry)) (now (first .entry)) (now (end .entry)) inherited l j) ⌝ }
 {
     let mut hops = [64u8; 31];
     let mut b: usize = 0;

@@ -4,4 +4,5 @@
 // positions and its 32 slots. A node at depth d stands at a wide address, its key, with 35 - d bits below it.
 // Positions and slots share one heap: position j of level l is 2^l - 1 + j, and slot c, level 5, is 31 + c.
 
+pub mod emit;
 pub mod gather;

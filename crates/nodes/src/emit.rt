@@ -1,0 +1,87 @@
+// Writing the entries of a node's positions, slot by slot, in table order. Where the output has no room nothing is written, but it is counted.
+
+use words::bits::has_bit;
+ghost use mathlib.Core.Path.{_≡_};
+ghost use Prim.Native.Nat.{_+_, _*_, _^_, _≤_, _<_};
+ghost use mathlib.Core.List.{[], _∷_};
+ghost use lib.ListN.{length};
+ghost use Rattle.nodes.specs.Node.{wide};
+ghost use Rattle.nodes.specs.Output.{Wrote, routeOf, slotHead, slotHeads};
+
+// Where `count` records end in an output of `len` bytes; its end, where they do not fit.
+pub fn past(count: usize, len: usize) -> usize
+    ensures { λ r. ⌜ r ≤ len ⌝ }
+    ensures { λ r. ⌜ (count * 8 ≤ len → r ≡ count * 8) ⌝ }
+{
+    if count <= len / 8 { count * 8 } else { len }
+}
+
+// Writes one record at the start of the output, if there is room for it.
+pub fn put(out: &mut [u8], addr: u64, len: usize, hop: u8)
+    requires { ⌜ (addr < 2 ^ wide) × (len < 256) ⌝ }
+    ensures { λ _. ⌜ Wrote (routeOf addr len hop ∷ []) 0 1 (now (out .entry)) (now (out .exit)) ⌝ }
+{
+    if 8 <= out.len() {
+        let a = addr / 8;
+        out[0] = (a / 16777216 % 256) as u8;
+        out[1] = (a / 65536 % 256) as u8;
+        out[2] = (a / 256 % 256) as u8;
+        out[3] = (a % 256) as u8;
+        out[4] = len as u8;
+        out[5] = hop;
+        out[6] = 0;
+        out[7] = 0;
+    }
+}
+
+// Writes the entry of the position of level l that begins at slot c, after `done` records, if one does and has an entry.
+fn emit_level(
+    entries: u32,
+    hops: &[u8; 31],
+    c: usize,
+    l: usize,
+    addr: u64,
+    depth: usize,
+    done: usize,
+    out: &mut [u8],
+) -> usize
+    requires { ⌜ (c < 32) × ((l < 5) × (depth ≤ 30)) ⌝ }
+    requires { ⌜ (addr < 2 ^ wide) × (done ≤ l) ⌝ }
+    ensures { λ r. ⌜ r ≤ done + 1 ⌝ }
+    ensures { λ r. ⌜ Wrote (slotHead entries (now (hops .entry)) depth addr c l) done r (now (out .entry)) (now (out .exit)) ⌝ }
+{
+    let below = 5 - l;
+    let j = c >> below;
+    if c % (1 << below) != 0 {
+        return done;
+    }
+    let b = (1 << l) - 1 + j;
+    if !has_bit(entries, b as u32) {
+        return done;
+    }
+    let at = past(done, out.len());
+    put(&mut out[at..], addr, depth + l, hops[b]);
+    done + 1
+}
+
+// Writes the entries of the positions that begin at slot c, by rising length, and says how many they are.
+pub fn emit_slot(
+    entries: u32,
+    hops: &[u8; 31],
+    c: usize,
+    addr: u64,
+    depth: usize,
+    out: &mut [u8],
+) -> usize
+    requires { ⌜ (c < 32) × ((depth ≤ 30) × (addr < 2 ^ wide)) ⌝ }
+    ensures { λ r. ⌜ r ≤ 5 ⌝ }
+    ensures { λ r. ⌜ Wrote (slotHeads entries (now (hops .entry)) depth addr c 5) 0 r (now (out .entry)) (now (out .exit)) ⌝ }
+{
+    let mut n: usize = 0;
+    let mut l: usize = 0;
+    while l < 5 {
+        n = emit_level(entries, hops, c, l, addr, depth, n, out);
+        l += 1;
+    }
+    n
+}

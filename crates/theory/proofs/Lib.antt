@@ -16,3 +16,5 @@ pub mod LongestMatch
 pub mod Kept
 pub mod Maximal
 pub mod Computed
+pub mod Modes
+pub mod Cases

@@ -1,4 +1,6 @@
--- The definitions of the theory, in the order to read them: routes and the longest match, the same by the routes alone, then the results of the five modes.
+-- The definitions of the theory, in the order to read them: routes and the longest match, what each mode answers, then the same and what is
+-- demanded of it, said without a walk: the longest match by the routes alone, and what a result must keep.
 pub mod Routes
-pub mod Longest
 pub mod Results
+pub mod Longest
+pub mod Demands

@@ -10,6 +10,7 @@ use std::collections::BTreeMap;
 use std::fs;
 use std::io::{Read, Write};
 use std::process::{exit, Command, Stdio};
+use std::sync::Mutex;
 use std::thread;
 
 use case::{Answer, Case, COVER, LOOKUP, REWRITE};
@@ -45,8 +46,12 @@ fn expected(case: &Case) -> Answer {
     }
 }
 
+/// Held by the thread that ends the run, so that only one speaks.
+static LAST_WORDS: Mutex<()> = Mutex::new(());
+
 /// Prints a case on which two answers differ, keeps it in a file, and ends the run.
 fn differ(case: &Case, one: (&str, &str), other: (&str, &str)) -> ! {
+    let _alone = LAST_WORDS.lock();
     let mut bytes = Vec::new();
     case.write(&mut bytes);
     let file = format!("{FOLDER}/difference.bin");
@@ -62,6 +67,7 @@ fn differ(case: &Case, one: (&str, &str), other: (&str, &str)) -> ! {
 }
 
 fn fail(message: String) -> ! {
+    let _alone = LAST_WORDS.lock();
     println!("compare: {message}");
     exit(2);
 }
@@ -129,8 +135,8 @@ impl Counts {
 }
 
 /// What replay writes for these bytes of cases.
-fn replay(command: &str, bytes: &[u8]) -> String {
-    let file = format!("{FOLDER}/replay.stdin");
+fn replay(command: &str, bytes: &[u8], worker: usize) -> String {
+    let file = format!("{FOLDER}/replay.{worker}.bin");
     fs::write(&file, bytes).unwrap_or_else(|error| fail(format!("cannot write {file}: {error}")));
     let input = fs::File::open(&file).unwrap_or_else(|error| fail(format!("cannot read {file}: {error}")));
     let output = Command::new(command)
@@ -146,10 +152,10 @@ fn replay(command: &str, bytes: &[u8]) -> String {
 }
 
 /// Holds replay to the expected texts of some cases, taken in one run.
-fn hold_replay(command: &str, made: &[Made], texts: &[String]) {
+fn hold_replay(command: &str, made: &[Made], texts: &[String], worker: usize) {
     let mut bytes = Vec::new();
     made.iter().for_each(|made| made.case.write(&mut bytes));
-    let wrote = replay(command, &bytes);
+    let wrote = replay(command, &bytes, worker);
     let mut rest = wrote.as_str();
     for (i, text) in texts.iter().enumerate() {
         match rest.strip_prefix(text.as_str()) {
@@ -159,13 +165,13 @@ fn hold_replay(command: &str, made: &[Made], texts: &[String]) {
                 for i in [i.saturating_sub(1), i] {
                     let mut bytes = Vec::new();
                     made[i].case.write(&mut bytes);
-                    let alone = replay(command, &bytes);
+                    let alone = replay(command, &bytes, worker);
                     if alone != texts[i] {
                         differ(&made[i].case, ("the crate and the model", &texts[i]), ("replay", &alone));
                     }
                 }
                 println!("compare: replay differs here only after the cases before this one, all in {FOLDER}/run.bin");
-                let _ = fs::write(format!("{FOLDER}/run.bin"), &bytes);
+                fs::write(format!("{FOLDER}/run.bin"), &bytes).unwrap_or_else(|error| fail(format!("cannot write run.bin: {error}")));
                 let has: String = rest.lines().take(text.lines().count() + 1).map(|line| format!("{line}\n")).collect();
                 differ(&made[i].case, ("the crate and the model", text), ("replay, in a run of cases,", &has));
             }
@@ -210,10 +216,13 @@ fn run(cases: u64, seed: u64, command: Option<&str>, by_replay: u64) {
         }
         if let Some(command) = command {
             let count = by_replay.saturating_sub(start).min(end - start) as usize;
-            if count > 0 {
-                hold_replay(command, &made[..count], &texts[..count]);
-                replayed += count;
-            }
+            let share = count.div_ceil(workers as usize).max(1);
+            thread::scope(|scope| {
+                for (worker, (made, texts)) in made[..count].chunks(share).zip(texts[..count].chunks(share)).enumerate() {
+                    scope.spawn(move || hold_replay(command, made, texts, worker));
+                }
+            });
+            replayed += count;
         }
         start = end;
         if start % 100_000 == 0 {
@@ -322,7 +331,7 @@ fn check_ends(command: &str) {
             expect.push_str(line);
             expect.push('\n');
         }
-        let wrote = replay(command, &bytes);
+        let wrote = replay(command, &bytes, 0);
         if wrote != expect {
             println!("compare: on the input {} replay writes:\n{wrote}expected:\n{expect}", case::hex(&bytes));
             exit(1);

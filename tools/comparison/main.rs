@@ -9,6 +9,7 @@ mod model;
 use std::collections::BTreeMap;
 use std::fs;
 use std::io::{Read, Write};
+use std::panic::catch_unwind;
 use std::process::{exit, Command, Stdio};
 use std::sync::Mutex;
 use std::thread;
@@ -75,9 +76,9 @@ fn fail(message: String) -> ! {
 /// The expected text of a case, after the model and the damage's plan were held to it.
 fn settle(made: &Made) -> (String, Answer) {
     let case = &made.case;
-    let answer = expected(case);
-    let text = answer.text(case.mode);
     let by_model = model::answer(case, Fault::None).text(case.mode);
+    let answer = catch_unwind(|| expected(case)).unwrap_or_else(|_| differ(case, ("the crate", "a panic\n"), ("the model", &by_model)));
+    let text = answer.text(case.mode);
     if text != by_model {
         differ(case, ("the crate", &text), ("the model", &by_model));
     }
@@ -404,7 +405,7 @@ fn main() {
     }
     let command = command.as_deref();
     match what.as_str() {
-        "--cases" => run(cases, seed, command, cases),
+        "--cases" if cases > 0 => run(cases, seed, command, cases),
         "--quick" => {
             run_worked();
             check_fixed(&fixed_list.0, &fixed_list.1);
@@ -421,6 +422,6 @@ fn main() {
         }
         "--answer" => stream(false),
         "--explain" => stream(true),
-        _ => fail("nothing to do; see tools/compare --help".to_string()),
+        _ => fail("nothing to do: see tools/compare --help".to_string()),
     }
 }

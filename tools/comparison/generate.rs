@@ -322,8 +322,13 @@ fn blank(call: u8, mode: u8) -> Case {
     Case { call, mode, default: 0, query_length: 0, query: 0, work: 0, room: 0, table: Vec::new() }
 }
 
-/// A call on an accepted table.
+/// A call on an accepted table. What `rooms` says of a room that the call is not lent is passed over.
 fn whole(random: &mut Random, call: u8, mode: u8, shape: usize, rooms: usize) -> Made {
+    let rooms = match (call, rooms) {
+        (COVER, 3 | 6) => 0,
+        (COVER, 4) => 2,
+        _ => rooms,
+    };
     let hop_count = if shape == 18 && random.chance(50) { 64 } else { random.pick(&[1, 2, 2, 3, 4, 5, 8, 16, 63, 64]) };
     let mut routes = routes_of(random, shape, hop_count);
     let mut case = blank(call, mode);
@@ -338,7 +343,8 @@ fn whole(random: &mut Random, call: u8, mode: u8, shape: usize, rooms: usize) ->
     ask(random, &mut case, &routes);
     case.table = table_of(&routes);
     make_room(random, &mut case, rooms);
-    Made { case, shape: SHAPES[shape], rooms: ROOMS[rooms], damage: None }
+    let rooms = if call == LOOKUP || call == HELD { "none lent" } else { ROOMS[rooms] };
+    Made { case, shape: SHAPES[shape], rooms, damage: None }
 }
 
 /// The numbers that a call can give.
@@ -560,9 +566,8 @@ pub fn worked(at: usize) -> (Case, Vec<Route>, i64) {
 /// rooms at their edges.
 pub fn fixed() -> Vec<Made> {
     let random = &mut Random::new(1999, 0);
-    let mut list: Vec<Made> = (0..WORKED.len())
-        .map(|at| Made { case: worked(at).0, shape: "worked", rooms: "of the programs", damage: None })
-        .collect();
+    let mut list: Vec<Made> =
+        (0..WORKED.len()).map(|at| Made { case: worked(at).0, shape: "worked", rooms: "of the programs", damage: None }).collect();
     let small = |random: &mut Random, call, mode, shape, rooms| loop {
         let made = whole(random, call, mode, shape, rooms);
         if made.case.table.len() <= 320 || shape >= LARGE {
@@ -588,7 +593,9 @@ pub fn fixed() -> Vec<Made> {
     // 1,024 records, none near another, with the most nodes: fill writes 1,025 records. Exactly the rooms for that, then one byte less,
     // then one word less.
     let routes: Vec<Route> = (0..1024u32).map(|part| (part << 22, 32, 1 + (part % 63) as u8)).collect();
-    for (rooms, work, room) in [("exact", MOST_WORK, 8_200), ("one byte short", MOST_WORK, 8_199), ("one word short", MOST_WORK - 1, 8_200)] {
+    for (rooms, work, room) in
+        [("exact", MOST_WORK, 8_200), ("one byte short", MOST_WORK, 8_199), ("one word short", MOST_WORK - 1, 8_200)]
+    {
         let mut case = blank(REWRITE, 5);
         (case.work, case.room, case.table) = (work, room, table_of(&routes));
         list.push(Made { case, shape: "1,024: most nodes", rooms, damage: None });
@@ -600,7 +607,12 @@ pub fn fixed() -> Vec<Made> {
                 let mut case = blank(call, mode);
                 let routes: Vec<Route> = length.map(|length| (0, length, 0)).into_iter().collect();
                 (case.work, case.room, case.table) = (words - short, 8, table_of(&routes));
-                list.push(Made { case, shape: "named in document 01", rooms: ["exact", "one word short"][short as usize], damage: None });
+                list.push(Made {
+                    case,
+                    shape: "named in document 01",
+                    rooms: ["exact", "one word short"][short as usize],
+                    damage: None,
+                });
             }
         }
     }

@@ -77,7 +77,8 @@ fn fail(message: String) -> ! {
 fn settle(made: &Made) -> (String, Answer) {
     let case = &made.case;
     let by_model = model::answer(case, Fault::None).text(case.mode);
-    let answer = catch_unwind(|| expected(case)).unwrap_or_else(|_| differ(case, ("the crate", "a panic\n"), ("the model", &by_model)));
+    let answer =
+        catch_unwind(|| expected(case)).unwrap_or_else(|_| differ(case, ("the crate", "a panic\n"), ("the model", &by_model)));
     let text = answer.text(case.mode);
     if text != by_model {
         differ(case, ("the crate", &text), ("the model", &by_model));

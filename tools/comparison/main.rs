@@ -59,7 +59,7 @@ fn differ(case: &Case, one: (&str, &str), other: (&str, &str)) -> ! {
     println!("compare: the answers differ on a case of {} bytes:", bytes.len());
     println!("{}", case::hex(&bytes));
     print!("{}", case.describe());
-    print!("{} answers:\n{}{} answers:\n{}", one.0, one.1, other.0, other.1);
+    print!("by {}:\n{}by {}:\n{}", one.0, one.1, other.0, other.1);
     match fs::write(&file, &bytes) {
         Ok(()) => println!("compare: the case is in {file}"),
         Err(error) => println!("compare: the case could not be written to {file}: {error}"),
@@ -175,7 +175,7 @@ fn hold_replay(command: &str, made: &[Made], texts: &[String], worker: usize) {
                 println!("compare: replay differs here only after the cases before this one, all in {FOLDER}/run.bin");
                 fs::write(format!("{FOLDER}/run.bin"), &bytes).unwrap_or_else(|error| fail(format!("cannot write run.bin: {error}")));
                 let has: String = rest.lines().take(text.lines().count() + 1).map(|line| format!("{line}\n")).collect();
-                differ(&made[i].case, ("the crate and the model", text), ("replay, in a run of cases,", &has));
+                differ(&made[i].case, ("the crate and the model", text), ("replay, in a run of cases", &has));
             }
         }
     }

@@ -74,13 +74,8 @@ impl Case {
             LOOKUP => format!("lookup of {}", dotted(self.query)),
             _ => "addresses held".to_string(),
         };
-        let _ = writeln!(
-            text,
-            "; {} words of work room, {} bytes of output, {} bytes of table",
-            self.work,
-            self.room,
-            self.table.len()
-        );
+        let _ =
+            writeln!(text, "; {} words of work room, {} bytes of output, {} bytes of table", self.work, self.room, self.table.len());
         for record in self.table.chunks(8) {
             if let [a, b, c, d, length, hop, 0, 0] = record {
                 let _ = writeln!(text, "  {a}.{b}.{c}.{d}/{length} {hop}");

@@ -322,8 +322,13 @@ fn blank(call: u8, mode: u8) -> Case {
     Case { call, mode, default: 0, query_length: 0, query: 0, work: 0, room: 0, table: Vec::new() }
 }
 
-/// A call on an accepted table.
+/// A call on an accepted table. What `rooms` says of a room that the call is not lent is passed over.
 fn whole(random: &mut Random, call: u8, mode: u8, shape: usize, rooms: usize) -> Made {
+    let rooms = match (call, rooms) {
+        (COVER, 3 | 6) => 0,
+        (COVER, 4) => 2,
+        _ => rooms,
+    };
     let hop_count = if shape == 18 && random.chance(50) { 64 } else { random.pick(&[1, 2, 2, 3, 4, 5, 8, 16, 63, 64]) };
     let mut routes = routes_of(random, shape, hop_count);
     let mut case = blank(call, mode);
@@ -338,7 +343,8 @@ fn whole(random: &mut Random, call: u8, mode: u8, shape: usize, rooms: usize) ->
     ask(random, &mut case, &routes);
     case.table = table_of(&routes);
     make_room(random, &mut case, rooms);
-    Made { case, shape: SHAPES[shape], rooms: ROOMS[rooms], damage: None }
+    let rooms = if call == LOOKUP || call == HELD { "none lent" } else { ROOMS[rooms] };
+    Made { case, shape: SHAPES[shape], rooms, damage: None }
 }
 
 /// The numbers that a call can give.
@@ -396,8 +402,17 @@ fn spoil(random: &mut Random, table: &mut [u8], at: usize, number: u8, is_set: b
     }
 }
 
+/// How many records a table has that is to be damaged. Number 4 takes over 1,024, the others do not.
+#[derive(Clone, Copy, PartialEq)]
+enum Size {
+    Few,
+    Full,
+    Over,
+    Longest,
+}
+
 /// A call with one fault, or with two of them (`second` not 0).
-fn damaged(random: &mut Random, call: u8, first: u8, second: u8, order: Order) -> Made {
+fn damaged(random: &mut Random, call: u8, first: u8, second: u8, order: Order, size: Size) -> Made {
     let has = |number: u8| first == number || second == number;
     let mode = match call {
         REWRITE if has(1) => random.pick(&[0, 6, 255]),
@@ -408,12 +423,17 @@ fn damaged(random: &mut Random, call: u8, first: u8, second: u8, order: Order) -
     let set = is_set(call, mode) || call == REWRITE && has(1);
     let mut case = blank(call, mode);
     case.default = if has(2) { random.pick(&[64, 64, 65, 255]) } else { random.pick(&[0, 62, 63]) };
-    // Lengths of 11 to 30 leave a host bit to set, and no record lies in another: every mode has a result.
-    let count = if has(4) { random.pick(&[1025, 1025, 1026, 1100]) } else { random.within(8, 14) };
-    let bits = if has(4) { 11 } else { 4 };
+    // Lengths of 13 to 30 leave a host bit to set, and no record lies in another: every mode has a result.
+    let count = match size {
+        Size::Few => random.within(8, 14),
+        Size::Full => 1024,
+        Size::Over => random.pick(&[1025, 1025, 1026, 1100]),
+        Size::Longest => 8191,
+    };
+    let bits = if count > 14 { 13 } else { 4 };
     let mut routes: Vec<Route> = (0..count as u32)
         .map(|i| {
-            let length = random.within(11, 30) as u32;
+            let length = random.within(13, 30) as u32;
             ((i << (32 - bits) | random.address() >> bits) & mask(length), length as u8, random.below(64) as u8)
         })
         .collect();
@@ -425,7 +445,7 @@ fn damaged(random: &mut Random, call: u8, first: u8, second: u8, order: Order) -
     case.query_length = if has(9) { random.pick(&[33, 33, 34, 64, 255]) } else { random.pick(&[0, 8, 31, 32]) };
     if has(1) || has(2) || has(4) || has(9) {
         // The need of work room or output is not defined here, or does not matter: none, or plenty.
-        case.work = if has(10) { 0 } else { MOST_WORK.min(160 * 7 * count as u32) };
+        case.work = if has(10) { 0 } else { 16_384 };
         case.room = if has(11) { 0 } else { 8 * (count as u16 + 1) };
     } else {
         make_room(random, &mut case, 0);
@@ -436,10 +456,13 @@ fn damaged(random: &mut Random, call: u8, first: u8, second: u8, order: Order) -
             case.room = if random.chance(70) { case.room - 1 } else { 0 };
         }
     }
-    // Records 0 to count - 1; a fault of order needs a record before it, and moves that one.
-    let (early, late) = (random.within(1, 3), random.within(5, 7));
+    // Two bad records stand in the two halves of the table. A fault of order needs a record before it, and moves that one.
+    let number_early = if order == Order::FirstLater { second } else { first };
+    let early = random.within((number_early == 8) as usize, count / 2 - 2);
+    let late = random.within(count / 2, count - 1);
+    let only = random.within((first == 8 || second == 8) as usize, count - 1);
     let (at_first, at_second) = match order {
-        Order::Same => (late, late),
+        Order::Same => (only, only),
         Order::FirstEarlier => (early, late),
         Order::FirstLater => (late, early),
     };
@@ -460,7 +483,12 @@ fn damaged(random: &mut Random, call: u8, first: u8, second: u8, order: Order) -
         Order::FirstLater => place(second, at_second),
         _ => place(first, at_first),
     };
-    let shape = if has(4) { "damaged, over 1,024 records" } else { "damaged" };
+    let shape = match size {
+        Size::Few => "damaged",
+        Size::Full => "damaged, 1,024 records",
+        Size::Over => "damaged, over 1,024 records",
+        Size::Longest => "damaged, 8,191 records",
+    };
     Made { case, shape, rooms: "as the damage asks", damage: Some(Damage { first, second, expect }) }
 }
 
@@ -481,9 +509,14 @@ pub fn seeded(seed: u64, index: u64) -> Made {
             if random.chance(30) {
                 (first, second, order) = (random.pick(numbers(call)), 0, Order::Same);
             }
-            if first != 4 && second != 4 || random.chance(15) {
-                return damaged(random, call, first, second, order);
-            }
+            let size = match (first == 4 || second == 4, random.below(100)) {
+                (true, 0) => Size::Longest,
+                (true, 1..=14) => Size::Over,
+                (true, _) => continue,
+                (false, 0) => Size::Full,
+                _ => Size::Few,
+            };
+            return damaged(random, call, first, second, order, size);
         }
     }
     let mode = if call == REWRITE { random.within(1, 5) as u8 } else { random.pick(&[0, 1, 6, 255]) };
@@ -533,9 +566,8 @@ pub fn worked(at: usize) -> (Case, Vec<Route>, i64) {
 /// rooms at their edges.
 pub fn fixed() -> Vec<Made> {
     let random = &mut Random::new(1999, 0);
-    let mut list: Vec<Made> = (0..WORKED.len())
-        .map(|at| Made { case: worked(at).0, shape: "worked", rooms: "of the programs", damage: None })
-        .collect();
+    let mut list: Vec<Made> =
+        (0..WORKED.len()).map(|at| Made { case: worked(at).0, shape: "worked", rooms: "of the programs", damage: None }).collect();
     let small = |random: &mut Random, call, mode, shape, rooms| loop {
         let made = whole(random, call, mode, shape, rooms);
         if made.case.table.len() <= 320 || shape >= LARGE {
@@ -561,7 +593,9 @@ pub fn fixed() -> Vec<Made> {
     // 1,024 records, none near another, with the most nodes: fill writes 1,025 records. Exactly the rooms for that, then one byte less,
     // then one word less.
     let routes: Vec<Route> = (0..1024u32).map(|part| (part << 22, 32, 1 + (part % 63) as u8)).collect();
-    for (rooms, work, room) in [("exact", MOST_WORK, 8_200), ("one byte short", MOST_WORK, 8_199), ("one word short", MOST_WORK - 1, 8_200)] {
+    for (rooms, work, room) in
+        [("exact", MOST_WORK, 8_200), ("one byte short", MOST_WORK, 8_199), ("one word short", MOST_WORK - 1, 8_200)]
+    {
         let mut case = blank(REWRITE, 5);
         (case.work, case.room, case.table) = (work, room, table_of(&routes));
         list.push(Made { case, shape: "1,024: most nodes", rooms, damage: None });
@@ -573,22 +607,30 @@ pub fn fixed() -> Vec<Made> {
                 let mut case = blank(call, mode);
                 let routes: Vec<Route> = length.map(|length| (0, length, 0)).into_iter().collect();
                 (case.work, case.room, case.table) = (words - short, 8, table_of(&routes));
-                list.push(Made { case, shape: "named in document 01", rooms: ["exact", "one word short"][short as usize], damage: None });
+                list.push(Made {
+                    case,
+                    shape: "named in document 01",
+                    rooms: ["exact", "one word short"][short as usize],
+                    damage: None,
+                });
             }
         }
     }
+    let size = |first, second| if first == 4 || second == 4 { Size::Over } else { Size::Few };
     for call in [REWRITE, COVER, LOOKUP, HELD] {
         for &number in numbers(call) {
-            list.push(damaged(random, call, number, 0, Order::Same));
+            list.push(damaged(random, call, number, 0, Order::Same, size(number, 0)));
         }
         for (first, second, order) in pairs(call) {
             // The long tables of number 4 are kept to the calls that differ.
             if (first == 4 || second == 4) && (call == HELD || second == 6 || second == 7) {
                 continue;
             }
-            list.push(damaged(random, call, first, second, order));
+            list.push(damaged(random, call, first, second, order, size(first, second)));
         }
     }
+    list.push(damaged(random, REWRITE, 6, 8, Order::FirstLater, Size::Full));
+    list.push(damaged(random, LOOKUP, 8, 0, Order::Same, Size::Full));
     // The edges of modes, defaults and query lengths.
     let table = table_of(&[prefix("10.0.0.0/8>63"), prefix("10.0.0.0/9>0")]);
     let set = table_of(&[prefix("0.0.0.0/1"), prefix("128.0.0.0/1")]);

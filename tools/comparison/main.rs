@@ -9,7 +9,9 @@ mod model;
 use std::collections::BTreeMap;
 use std::fs;
 use std::io::{Read, Write};
+use std::panic::catch_unwind;
 use std::process::{exit, Command, Stdio};
+use std::sync::Mutex;
 use std::thread;
 
 use case::{Answer, Case, COVER, LOOKUP, REWRITE};
@@ -45,15 +47,19 @@ fn expected(case: &Case) -> Answer {
     }
 }
 
+/// Held by the thread that ends the run, so that only one speaks.
+static LAST_WORDS: Mutex<()> = Mutex::new(());
+
 /// Prints a case on which two answers differ, keeps it in a file, and ends the run.
 fn differ(case: &Case, one: (&str, &str), other: (&str, &str)) -> ! {
+    let _alone = LAST_WORDS.lock();
     let mut bytes = Vec::new();
     case.write(&mut bytes);
     let file = format!("{FOLDER}/difference.bin");
     println!("compare: the answers differ on a case of {} bytes:", bytes.len());
     println!("{}", case::hex(&bytes));
     print!("{}", case.describe());
-    print!("{} answers:\n{}{} answers:\n{}", one.0, one.1, other.0, other.1);
+    print!("by {}:\n{}by {}:\n{}", one.0, one.1, other.0, other.1);
     match fs::write(&file, &bytes) {
         Ok(()) => println!("compare: the case is in {file}"),
         Err(error) => println!("compare: the case could not be written to {file}: {error}"),
@@ -62,6 +68,7 @@ fn differ(case: &Case, one: (&str, &str), other: (&str, &str)) -> ! {
 }
 
 fn fail(message: String) -> ! {
+    let _alone = LAST_WORDS.lock();
     println!("compare: {message}");
     exit(2);
 }
@@ -69,9 +76,10 @@ fn fail(message: String) -> ! {
 /// The expected text of a case, after the model and the damage's plan were held to it.
 fn settle(made: &Made) -> (String, Answer) {
     let case = &made.case;
-    let answer = expected(case);
-    let text = answer.text(case.mode);
     let by_model = model::answer(case, Fault::None).text(case.mode);
+    let answer =
+        catch_unwind(|| expected(case)).unwrap_or_else(|_| differ(case, ("the crate", "a panic\n"), ("the model", &by_model)));
+    let text = answer.text(case.mode);
     if text != by_model {
         differ(case, ("the crate", &text), ("the model", &by_model));
     }
@@ -129,8 +137,8 @@ impl Counts {
 }
 
 /// What replay writes for these bytes of cases.
-fn replay(command: &str, bytes: &[u8]) -> String {
-    let file = format!("{FOLDER}/replay.stdin");
+fn replay(command: &str, bytes: &[u8], worker: usize) -> String {
+    let file = format!("{FOLDER}/replay.{worker}.bin");
     fs::write(&file, bytes).unwrap_or_else(|error| fail(format!("cannot write {file}: {error}")));
     let input = fs::File::open(&file).unwrap_or_else(|error| fail(format!("cannot read {file}: {error}")));
     let output = Command::new(command)
@@ -146,10 +154,10 @@ fn replay(command: &str, bytes: &[u8]) -> String {
 }
 
 /// Holds replay to the expected texts of some cases, taken in one run.
-fn hold_replay(command: &str, made: &[Made], texts: &[String]) {
+fn hold_replay(command: &str, made: &[Made], texts: &[String], worker: usize) {
     let mut bytes = Vec::new();
     made.iter().for_each(|made| made.case.write(&mut bytes));
-    let wrote = replay(command, &bytes);
+    let wrote = replay(command, &bytes, worker);
     let mut rest = wrote.as_str();
     for (i, text) in texts.iter().enumerate() {
         match rest.strip_prefix(text.as_str()) {
@@ -159,15 +167,15 @@ fn hold_replay(command: &str, made: &[Made], texts: &[String]) {
                 for i in [i.saturating_sub(1), i] {
                     let mut bytes = Vec::new();
                     made[i].case.write(&mut bytes);
-                    let alone = replay(command, &bytes);
+                    let alone = replay(command, &bytes, worker);
                     if alone != texts[i] {
                         differ(&made[i].case, ("the crate and the model", &texts[i]), ("replay", &alone));
                     }
                 }
                 println!("compare: replay differs here only after the cases before this one, all in {FOLDER}/run.bin");
-                let _ = fs::write(format!("{FOLDER}/run.bin"), &bytes);
+                fs::write(format!("{FOLDER}/run.bin"), &bytes).unwrap_or_else(|error| fail(format!("cannot write run.bin: {error}")));
                 let has: String = rest.lines().take(text.lines().count() + 1).map(|line| format!("{line}\n")).collect();
-                differ(&made[i].case, ("the crate and the model", text), ("replay, in a run of cases,", &has));
+                differ(&made[i].case, ("the crate and the model", text), ("replay, in a run of cases", &has));
             }
         }
     }
@@ -210,10 +218,13 @@ fn run(cases: u64, seed: u64, command: Option<&str>, by_replay: u64) {
         }
         if let Some(command) = command {
             let count = by_replay.saturating_sub(start).min(end - start) as usize;
-            if count > 0 {
-                hold_replay(command, &made[..count], &texts[..count]);
-                replayed += count;
-            }
+            let share = count.div_ceil(workers as usize).max(1);
+            thread::scope(|scope| {
+                for (worker, (made, texts)) in made[..count].chunks(share).zip(texts[..count].chunks(share)).enumerate() {
+                    scope.spawn(move || hold_replay(command, made, texts, worker));
+                }
+            });
+            replayed += count;
         }
         start = end;
         if start % 100_000 == 0 {
@@ -322,7 +333,7 @@ fn check_ends(command: &str) {
             expect.push_str(line);
             expect.push('\n');
         }
-        let wrote = replay(command, &bytes);
+        let wrote = replay(command, &bytes, 0);
         if wrote != expect {
             println!("compare: on the input {} replay writes:\n{wrote}expected:\n{expect}", case::hex(&bytes));
             exit(1);
@@ -395,7 +406,7 @@ fn main() {
     }
     let command = command.as_deref();
     match what.as_str() {
-        "--cases" => run(cases, seed, command, cases),
+        "--cases" if cases > 0 => run(cases, seed, command, cases),
         "--quick" => {
             run_worked();
             check_fixed(&fixed_list.0, &fixed_list.1);
@@ -412,6 +423,6 @@ fn main() {
         }
         "--answer" => stream(false),
         "--explain" => stream(true),
-        _ => fail("nothing to do; see tools/compare --help".to_string()),
+        _ => fail("nothing to do: see tools/compare --help".to_string()),
     }
 }

@@ -34,10 +34,11 @@ pub enum Fault {
     RecordBeforeCount,
     DefaultAlwaysRead,
     SetTakesHops,
+    OctetsBackwards,
 }
 
 /// Each planted mistake and what it does wrong.
-pub const FAULTS: [(Fault, &str); 25] = [
+pub const FAULTS: [(Fault, &str); 26] = [
     (Fault::LargestHop, "modes 4, 5: the largest hop of a set instead of the smallest"),
     (Fault::HoleIsEmptySet, "mode 4: a hole taken as an empty set"),
     (Fault::AlwaysSmallest, "modes 4, 5: the smallest hop even where the hop above is in the set"),
@@ -63,6 +64,7 @@ pub const FAULTS: [(Fault, &str); 25] = [
     (Fault::RecordBeforeCount, "numbers 4 and 5 to 8: the records checked first"),
     (Fault::DefaultAlwaysRead, "number 2: given in every mode"),
     (Fault::SetTakesHops, "number 7: a set may have hops"),
+    (Fault::OctetsBackwards, "the wire: the octets of an address read backwards"),
 ];
 
 /// The first `length` bits set.
@@ -70,9 +72,18 @@ fn mask(length: u32) -> u32 {
     u32::MAX.checked_shl(32 - length).unwrap_or(0)
 }
 
+/// A record's address, whose first octet comes first.
+fn address_of(record: &[u8], fault: Fault) -> u32 {
+    let octets = [record[0], record[1], record[2], record[3]];
+    if fault == Fault::OctetsBackwards {
+        return u32::from_le_bytes(octets);
+    }
+    u32::from_be_bytes(octets)
+}
+
 /// The lowest number against a record, whose index is not 0 where there is one before it.
 fn bad_record(record: &[u8], before: Option<&[u8]>, is_map: bool, fault: Fault) -> Option<u8> {
-    let address = |r: &[u8]| u32::from_be_bytes([r[0], r[1], r[2], r[3]]);
+    let address = |r: &[u8]| address_of(r, fault);
     let (here, length, hop) = (address(record), record[4], record[5]);
     if length > 32 {
         return Some(5);
@@ -139,7 +150,7 @@ pub fn accepted(case: &Case, fault: Fault) -> Result<Vec<Route>, (u8, usize)> {
     if case.call == COVER && case.query_length > 32 {
         return Err((9, 0));
     }
-    Ok(table.chunks(8).map(|r| (u32::from_be_bytes([r[0], r[1], r[2], r[3]]), r[4], r[5])).collect())
+    Ok(table.chunks(8).map(|r| (address_of(r, fault), r[4], r[5])).collect())
 }
 
 /// The root and, for each record of length L, a node at each of the depths 5, 10, up to 5 * floor(L/5).

@@ -2,8 +2,8 @@
 -- of its halves; and one step of the longest match and of the cover, from a position to a half.
 use Prim.Native.Nat.{ℕ, zero, suc, _+_, _-_, _^_, _≤_, _<_}
 use mathlib.Core.Path.{_≡_, refl, sym, ap, ap₂, _∙_}
-use mathlib.Core.Bool.{Bool, true, false, cond, _||_, _&&_, and-eq-true-iff, or-and-distrib-left}
-use mathlib.Core.List.{List, [], _∷_, _++_}
+use mathlib.Core.Bool.{Bool, true, false, cond, _||_, _&&_, or-false, and-eq-true-iff, or-and-distrib-left}
+use mathlib.Core.List.{List, [], _∷_, _++_, append-nil}
 use mathlib.Core.Logic.{_↔_, _⊎_, inl, inr}
 use native.Mathlib.Nat.{pow-suc, le-refl, eq-or-lt-of-le}
 use native.Mathlib.Decide.{decLt}
@@ -14,8 +14,9 @@ use Rattle.theory.specs.Results.{In, part, throughout}
 use Rattle.theory.specs.Routes.{Route, matches, held, Match, miss, hit, longer, tried, lookup, Answer, none, via, under, Aligned, Valid, All, nil, cons, Before, Ascending, empty, first, Table, Member}
 use Rattle.theory.proofs.Blocks.{pow-pos, aligned-left, aligned-right, aligned-down, aligned-next, next-block, same-start, in-left, in-right, in→block}
 use Rattle.theory.proofs.Lists.{all-map, all-member, member-all}
+use Rattle.theory.proofs.Maximal.{throughout-each, throughout-agree}
 use Rattle.theory.proofs.Parts.{all-part, under-longer, member-part, ascending-part, table-part, part-whole, part-twice, part-either}
-use Rattle.theory.proofs.Preserve.{Within, lookup-outside, lookup-deep, lookup-append-left, lookup-append-right, back}
+use Rattle.theory.proofs.Preserve.{Within, Deep, lookup-outside, lookup-deep, lookup-append-left, lookup-append-right, back}
 use Rattle.theory.proofs.Routed.{routed, held-answer}
 use Rattle.positions.specs.Runs.{isAt, isIn, inside, headHop, own, orElse}
 
@@ -32,12 +33,12 @@ is-at w n a r = (
 pub is-in : (w n a : ℕ) (r : Route) → (isIn w n a r ≡ true) ↔ ((w - n ≤ r .len) × In n a (r .addr))
 is-in w n a r = (
   λ e.
-    let z = and-eq-true-iff (leb (w - n) (r .len)) (leb a (r .addr) && ltb (r .addr) (a + 2 ^ n)) .0 e in
-    let y = and-eq-true-iff (leb a (r .addr)) (ltb (r .addr) (a + 2 ^ n)) .0 (z .1) in
-    (leb-true _ _ (z .0), (leb-true _ _ (y .0), ltb-true _ _ (y .1))),
+      let z = and-eq-true-iff (leb (w - n) (r .len)) (leb a (r .addr) && ltb (r .addr) (a + 2 ^ n)) .0 e in
+      let y = and-eq-true-iff (leb a (r .addr)) (ltb (r .addr) (a + 2 ^ n)) .0 (z .1) in
+      (leb-true _ _ (z .0), (leb-true _ _ (y .0), ltb-true _ _ (y .1))),
   λ z.
-    and-eq-true-iff (leb (w - n) (r .len)) (leb a (r .addr) && ltb (r .addr) (a + 2 ^ n)) .1
-    (le-leb _ _ (z .0), and-eq-true-iff (leb a (r .addr)) (ltb (r .addr) (a + 2 ^ n)) .1 (le-leb _ _ (z .1 .0), lt-ltb _ _ (z .1 .1))),
+      and-eq-true-iff (leb (w - n) (r .len)) (leb a (r .addr) && ltb (r .addr) (a + 2 ^ n)) .1
+      (le-leb _ _ (z .0), and-eq-true-iff (leb a (r .addr)) (ltb (r .addr) (a + 2 ^ n)) .1 (le-leb _ _ (z .1 .0), lt-ltb _ _ (z .1 .1))),
 )
 
 -- ---- Nested positions.
@@ -180,3 +181,88 @@ module _ {w n a : ℕ} {t : List Route} (run : Run w (suc n) a t) where
           go : (b : Bool) → isIn w n a s ≡ b → (b || isIn w n (a + 2 ^ n) s) ≡ true → (w - n ≤ s .len) × (a ≤ s .addr)
           go true q g = omega (arith, is-in w n a s .0 q)
           go false q g = omega (arith, is-in w n (a + 2 ^ n) s .0 g)
+
+-- ---- One step down: an address of a half is answered by the half's run, or else by the position's own route.
+
+-- (n, b) is a half of the position (suc n, a).
+abbrev pub Half : ℕ → ℕ → ℕ → Type 0
+Half n a b = (b ≡ a) ⊎ (b ≡ a + 2 ^ n)
+
+pub half-aligned : (n a b : ℕ) → Aligned (suc n) a → Half n a b → Aligned n b
+half-aligned n a b d (inl e) = rw e (aligned-left n a d)
+half-aligned n a b d (inr e) = rw e (aligned-right n a d)
+
+pub half-nested : (n a b : ℕ) → Half n a b → Nested n b (suc n) a
+half-nested n a b (inl e) = record { smaller = omega arith; from = omega arith; upto = omega (arith, pow-suc 2 n) }
+half-nested n a b (inr e) = record { smaller = omega arith; from = omega arith; upto = omega (arith, pow-suc 2 n) }
+
+-- Whether a hop is said: by the position's own route, or else by what lies under it.
+pub routed-under : (v : Answer) (m : Match) → routed (under (orElse v none) m) ≡ (routed v || routed (under none m))
+routed-under none m = refl
+routed-under (via h) miss = refl
+routed-under (via h) (hit k i) = refl
+
+-- The route at a position, if there is one, answers its addresses where no longer route does.
+top-answer : (w n a x : ℕ) → n ≤ w → Aligned n a → In n a x → (g : Answer) {s : List Route} → AtMostOne w n a s → (inner : List Route)
+    → Deep (w - n) (lookup w inner x) → under g (lookup w (s ++ inner) x) ≡ under (orElse (headHop s) g) (lookup w inner x)
+top-answer w n a x le d i g (inl e) inner deep = rw e
+top-answer w n a x le d i g (inr (r, e, l, q)) inner deep =
+    let k : w - r .len ≡ n = omega arith in
+    let match : matches w r x ≡ true = rw (k, q) (eq-eqb _ _ (in→block n a x d i)) in
+    rw (e, match) (under-longer (w - n) g (hit (r .len) (r .hop)) (lookup w inner x) (omega arith) deep)
+
+-- So the run of a single address answers it by its own route.
+pub one-answer : {w a : ℕ} {t : List Route} → Run w 0 a t → (g : Answer) → under g (lookup w t a) ≡ orElse (own w 0 a t) g
+one-answer {w} {a} {t} run g =
+    ap (λ (u : List Route). under g (lookup w u a)) (run-one (run .within) ∙ sym (append-nil (part (isAt w 0 a) t)))
+    ∙ top-answer w 0 a a (run .fits) (run .aligned) (omega arith) g (at-most-one w 0 a (run .table)) [] tt
+
+pub one-held : {w a : ℕ} {t : List Route} → Run w 0 a t → held w t a ≡ routed (own w 0 a t)
+one-held {w} {a} {t} run = held-answer w a t ∙ ap routed (one-answer run none) ∙ routed-under (own w 0 a t) miss ∙ or-false (routed (own w 0 a t))
+
+-- Where b or q holds of each address, b holds or q holds throughout.
+pub throughout-under : (p q : ℕ → Bool) (b : Bool) (n a : ℕ) → ((x : ℕ) → In n a x → p x ≡ (b || q x)) → throughout p n a ≡ (b || throughout q n a)
+throughout-under p q true n a h = throughout-each p n a .1 h
+throughout-under p q false n a h = throughout-agree p q n a h
+
+module _ {w n a : ℕ} {t : List Route} (run : Run w (suc n) a t) where
+  half-run : (b : ℕ) → Half n a b → Run w n b (inside w n b t)
+  half-run b h = inside-run w n b (omega (arith, run .fits)) (half-aligned n a b (run .aligned) h) (run .table)
+
+  -- An address of one half is matched in that half's run only.
+  lookup-half : (b x : ℕ) → Half n a b → In n b x → lookup w (inside w n a t ++ inside w n (a + 2 ^ n) t) x ≡ lookup w (inside w n b t) x
+  lookup-half b x (inl e) i =
+      lookup-append-left w x (inside w n a t) (inside w n (a + 2 ^ n) t)
+      (lookup-outside w n (a + 2 ^ n) x (half-run (a + 2 ^ n) (inr refl) .within) (λ j. omega arith))
+      ∙ ap (λ (c : ℕ). lookup w (inside w n c t) x) (sym e)
+  lookup-half b x (inr e) i =
+      lookup-append-right w x (inside w n a t) (inside w n (a + 2 ^ n) t)
+      (lookup-outside w n a x (half-run a (inl refl) .within) (λ j. omega arith))
+      ∙ ap (λ (c : ℕ). lookup w (inside w n c t) x) (sym e)
+
+  -- What a run answers under g: its half's run, under the position's own hop or else g.
+  pub half-answer : (g : Answer) (b x : ℕ) → Half n a b → In n b x
+      → under g (lookup w t x) ≡ under (orElse (own w (suc n) a t) g) (lookup w (inside w n b t) x)
+  half-answer g b x h i =
+      ap (λ (u : List Route). under g (lookup w u x)) (run-splits run)
+      ∙ top-answer w (suc n) a x (run .fits) (run .aligned) (omega (arith, half-nested n a b h)) g (at-most-one w (suc n) a (run .table)) _
+      (rw (lookup-half b x h i) (lookup-deep w (suc n) a x (all-part (isIn w n b) (λ r p e. p) (run .within))))
+      ∙ ap (under (orElse (own w (suc n) a t) g)) (lookup-half b x h i)
+
+  -- The same of whether an address is held.
+  pub half-held : (b x : ℕ) → Half n a b → In n b x → held w t x ≡ (routed (own w (suc n) a t) || held w (inside w n b t) x)
+  half-held b x h i =
+      held-answer w x t
+      ∙ ap routed (half-answer none b x h i)
+      ∙ routed-under (own w (suc n) a t) (lookup w (inside w n b t) x)
+      ∙ ap (λ (c : Bool). routed (own w (suc n) a t) || c) (sym (held-answer w x (inside w n b t)))
+
+  -- A position is covered by its own route, or else half by half.
+  pub run-covered : throughout (held w t) (suc n) a
+      ≡ (routed (own w (suc n) a t)
+      || (throughout (held w (inside w n a t)) n a && throughout (held w (inside w n (a + 2 ^ n) t)) n (a + 2 ^ n)))
+  unfolding throughout
+  run-covered = ap₂ _&&_ (half a (inl refl)) (half (a + 2 ^ n) (inr refl)) ∙ sym (or-and-distrib-left (routed (own w (suc n) a t)) _ _)
+    where
+      half : (b : ℕ) → Half n a b → throughout (held w t) n b ≡ (routed (own w (suc n) a t) || throughout (held w (inside w n b t)) n b)
+      half b h = throughout-under (held w t) (held w (inside w n b t)) (routed (own w (suc n) a t)) n b (λ x i. half-held b x h i)

@@ -1,6 +1,6 @@
 -- Runs: the routes of a table that lie in a position. Runs of nested positions; a run taken apart into the position's own route and the runs
--- of its halves; and one step of the longest match and of the cover, from a position to a half.
-use Prim.Native.Nat.{ℕ, suc, _+_, _-_, _^_, _≤_, _<_}
+-- of its halves, and so met by a walk; and one step of the longest match and of the cover, from a position to a half.
+use Prim.Native.Nat.{ℕ, zero, suc, _+_, _-_, _^_, _≤_, _<_}
 use mathlib.Core.Path.{_≡_, refl, sym, ap, ap₂, _∙_}
 use mathlib.Core.Bool.{Bool, true, false, _||_, _&&_, or-false, and-eq-true-iff, or-and-distrib-left}
 use mathlib.Core.List.{List, [], _∷_, _++_, append-nil}
@@ -19,6 +19,7 @@ use Rattle.theory.proofs.Parts.{all-part, under-longer, ascending-part, table-p
 use Rattle.theory.proofs.Preserve.{Within, Deep, lookup-outside, lookup-deep, lookup-append-left, lookup-append-right}
 use Rattle.theory.proofs.Routed.{routed, held-answer}
 use Rattle.positions.specs.Runs.{isAt, isIn, inside, headHop, own, orElse}
+use Rattle.positions.specs.Walk.{walk}
 
 -- ---- The two tests, by the facts that they stand for.
 
@@ -281,6 +282,13 @@ module _ (w n a : ℕ) {N : ℕ} (e : N ≡ suc n) {t : List Route} (le : N ≤ 
   whole-run : Run w (suc n) a (inside w (suc n) a t)
   whole-run = inside-run w (suc n) a (rw e at le) (rw e at d) table
 
+  -- The route at the position, then the routes inside its left half, then those inside its right half.
+  pub inside-splits : inside w N a t ≡ part (isAt w N a) t ++ (inside w n a t ++ inside w n (a + 2 ^ n) t)
+  inside-splits =
+      rw e (run-splits whole-run
+      ∙ ap₂ _++_ (at-nested w (nested-self (suc n) a) t) (ap₂ _++_ (inside-nested w (half-nested n a a (inl refl)) t)
+      (inside-nested w (half-nested n a (a + 2 ^ n) (inr refl)) t)))
+
   -- An address of a half is answered by the routes inside the half, or else by the route at the position.
   pub inside-answer : (g : Answer) (b x : ℕ) → Half n a b → In n b x
       → under g (lookup w (inside w N a t) x) ≡ under (orElse (own w N a t) g) (lookup w (inside w n b t) x)
@@ -299,3 +307,14 @@ module _ (w n a : ℕ) {N : ℕ} (e : N ≡ suc n) {t : List Route} (le : N ≤ 
     where
       half : (b : ℕ) → Half n a b → throughout (held w (inside w n b (inside w (suc n) a t))) n b ≡ throughout (held w (inside w n b t)) n b
       half b h = ap (λ (u : List Route). throughout (held w u) n b) (inside-nested w (half-nested n a b h) t)
+
+-- The routes inside a position are those that a walk down meets, one position after another.
+pub inside-walk : {S : Type 0} (next : ℕ → ℕ → S → S) (w n a : ℕ) {t : List Route} → n ≤ w → Aligned n a → Table w t → (s : S)
+    → inside w n a t ≡ walk (λ k b s. part (isAt w k b) t) next n a s
+unfolding walk
+inside-walk next w zero a {t} le d table s =
+    run-one (inside-within w 0 a le d (table .valid)) ∙ at-nested w (nested-self 0 a) t
+inside-walk next w (suc n) a {t} le d table s =
+    inside-splits w n a refl le d table
+    ∙ ap (λ (u : List Route). part (isAt w (suc n) a) t ++ u) (ap₂ _++_ (inside-walk next w n a (omega arith) (aligned-left n a d) table (next (suc n) a s))
+    (inside-walk next w n (a + 2 ^ n) (omega arith) (aligned-right n a d) table (next (suc n) a s)))

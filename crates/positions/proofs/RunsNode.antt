@@ -108,7 +108,7 @@ module _ (w m a : ℕ) {t : List Route} (run : Run w (m + 5) a t) where
   level-run l j =
       inside-run w (sizeAt m l) (placeAt m a l j) (omega (arith, size-le m l, run .fits)) (place-aligned m a l j (run .aligned)) (run .table)
 
-  -- So are those of a slot, of which a node of the next depth is made.
+  -- Those of a slot are a run of the slot.
   pub slot-run : (c : ℕ) → Run w m (placeAt m a 5 c) (inside w m (placeAt m a 5 c) t)
   slot-run c = subst (λ (k : ℕ). Run w k (placeAt m a 5 c) (inside w k (placeAt m a 5 c) t)) (size-slot m) (level-run 5 c)
 

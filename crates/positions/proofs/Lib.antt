@@ -1,1 +1,2 @@
 -- The laws of positions, runs and walks.
+pub mod Slots

@@ -1,2 +1,3 @@
 -- The laws of positions, runs and walks.
+pub mod Runs
 pub mod Slots

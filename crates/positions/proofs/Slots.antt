@@ -9,9 +9,11 @@ use native.Mathlib.Omega.{arith}
 use lib.Pow.{mod-pow-add, shr-shr, shr-lt}
 use lib.Dec.{eqb}
 use borrow.Author.Tests.{eq-eqb, ne-eqb, eqb-true, eqb-false}
-use Rattle.theory.specs.Routes.{Route}
+use Rattle.theory.specs.Routes.{Route, Aligned}
+use Rattle.theory.proofs.Blocks.{aligned-left, aligned-right}
 use Rattle.positions.specs.Runs.{sizeOf, placeOf, sizeAt, placeAt}
-use Rattle.positions.specs.Walk.{walk, stateOf, stateAt, startsOf, headsOf, slotsOf, startsAt, heads, slots}
+use Rattle.positions.specs.Walk.{Reached, start, left, right, walk, stateOf, stateAt, startsOf, headsOf, slotsOf, startsAt, heads, slots}
+use Rattle.positions.proofs.Runs.{Nested, nested-self}
 
 -- ---- Of twice as many slots, the even ones begin what the slots before began, and the odd ones nothing.
 
@@ -159,3 +161,62 @@ module _ {S : Type 0} (out : ℕ → ℕ → S → List Route) (next : ℕ → �
       ≡ slots (λ l j. out (sizeAt m l) (placeAt m a l j) (stateAt out next m a s l j))
       (λ c. walk out next m (placeAt m a 5 c) (stateAt out next m a s 5 c)) 32
   walk-slots m a s = walk-slots-of 5 m a s
+
+-- ---- The positions and states that a walk comes to.
+
+module _ {S : Type 0} (next : ℕ → ℕ → S → S) (n a : ℕ) (s : S) where
+  -- What holds at the start, and at a position's halves where it holds at the position, holds wherever the walk comes.
+  pub reached-keeps : (P : ℕ → ℕ → S → Type 0)
+      → ((k b : ℕ) (u : S) → P (suc k) b u → P k b (next (suc k) b u) × P k (b + 2 ^ k) (next (suc k) b u))
+      → P n a s → {k b : ℕ} {u : S} → Reached next n a s k b u → P k b u
+  reached-keeps P down p start = p
+  reached-keeps P down p (left r) = down _ _ _ (reached-keeps P down p r) .0
+  reached-keeps P down p (right r) = down _ _ _ (reached-keeps P down p r) .1
+
+  -- It comes to positions inside its own, aligned as it is.
+  pub reached-nested : {k b : ℕ} {u : S} → Reached next n a s k b u → Nested k b n a
+  reached-nested r =
+      reached-keeps (λ k b u. Nested k b n a) (λ k b u i. (
+        record { smaller = omega arith; from = i .from; upto = omega (arith, pow-suc 2 k) },
+        record { smaller = omega arith; from = omega arith; upto = omega (arith, pow-suc 2 k) },
+      )) (nested-self n a) r
+
+  pub reached-aligned : Aligned n a → {k b : ℕ} {u : S} → Reached next n a s k b u → Aligned k b
+  reached-aligned d r = reached-keeps (λ k b u. Aligned k b) (λ k b u e. (aligned-left k b e, aligned-right k b e)) d r
+
+-- Walks whose states stay related, and which put out the same at related states, are one.
+pub walk-related : {S T : Type 0} (out : ℕ → ℕ → S → List Route) (next : ℕ → ℕ → S → S) (other : ℕ → ℕ → T → List Route) (step : ℕ → ℕ → T → T)
+    (R : ℕ → ℕ → S → T → Type 0) → ((k b : ℕ) (u : S) (v : T) → R k b u v → out k b u ≡ other k b v)
+    → ((k b : ℕ) (u : S) (v : T) → R (suc k) b u v
+    → R k b (next (suc k) b u) (step (suc k) b v) × R k (b + 2 ^ k) (next (suc k) b u) (step (suc k) b v))
+    → (n a : ℕ) (s : S) (t : T) → R n a s t → walk out next n a s ≡ walk other step n a t
+unfolding walk
+walk-related out next other step R same down zero a s t r = same zero a s t r
+walk-related out next other step R same down (suc n) a s t r =
+    let both = down n a s t r in
+    ap₂ _++_ (same (suc n) a s t r)
+    (ap₂ _++_ (walk-related out next other step R same down n a (next (suc n) a s) (step (suc n) a t) (both .0))
+    (walk-related out next other step R same down n (a + 2 ^ n) (next (suc n) a s) (step (suc n) a t) (both .1)))
+
+module _ {S : Type 0} (out other : ℕ → ℕ → S → List Route) (next step : ℕ → ℕ → S → S) (n a : ℕ) (s : S) where
+  -- Walks that agree wherever one of them comes are one.
+  pub walk-agree : ((k b : ℕ) (u : S) → Reached next n a s k b u → (out k b u ≡ other k b u) × (next k b u ≡ step k b u))
+      → walk out next n a s ≡ walk other step n a s
+  walk-agree same =
+      walk-related out next other step (λ k b u v. Reached next n a s k b u × (u ≡ v)) (λ k b u v r. same k b u (r .0) .0 ∙ ap (other k b) (r .1))
+      (λ k b u v r. let e = same (suc k) b u (r .0) .1 ∙ ap (step (suc k) b) (r .1) in ((left (r .0), e), (right (r .0), e)))
+      n a s s (start, refl)
+
+module _ {S : Type 0} (out : ℕ → ℕ → S → List Route) (next : ℕ → ℕ → S → S) where
+  silent : (P : ℕ → ℕ → S → Type 0) → ((k b : ℕ) (u : S) → P k b u → out k b u ≡ [])
+      → ((k b : ℕ) (u : S) → P (suc k) b u → P k b (next (suc k) b u) × P k (b + 2 ^ k) (next (suc k) b u))
+      → (n a : ℕ) (s : S) → P n a s → walk out next n a s ≡ []
+  unfolding walk
+  silent P none down zero a s p = none zero a s p
+  silent P none down (suc n) a s p =
+      let both = down n a s p in
+      rw (none (suc n) a s p, silent P none down n a (next (suc n) a s) (both .0), silent P none down n (a + 2 ^ n) (next (suc n) a s) (both .1))
+
+  -- A walk that puts out nothing wherever it comes is empty.
+  pub walk-nothing : (n a : ℕ) (s : S) → ((k b : ℕ) (u : S) → Reached next n a s k b u → out k b u ≡ []) → walk out next n a s ≡ []
+  walk-nothing n a s none = silent (Reached next n a s) none (λ k b u r. (left r, right r)) n a s start

@@ -20,6 +20,12 @@ module _ {S : Type 0} (out : ℕ → ℕ → S → List Route) (next : ℕ → �
   abbrev pub stateAt : ℕ → ℕ → S → ℕ → ℕ → S
   stateAt m a s l j = stateOf 5 m a s l j
 
+-- A walk from (n, a) with s comes to a position with a state.
+pub data Reached {S : Type 0} (next : ℕ → ℕ → S → S) (n a : ℕ) (s : S) : ℕ → ℕ → S → Type 0 where
+  start : Reached next n a s n a s
+  left : {k b : ℕ} {u : S} → Reached next n a s (suc k) b u → Reached next n a s k b (next (suc k) b u)
+  right : {k b : ℕ} {u : S} → Reached next n a s (suc k) b u → Reached next n a s k (b + 2 ^ k) (next (suc k) b u)
+
 -- ---- A node of k levels and 2 ^ k slots, its level k.
 
 -- Of the entries by level and index, those of the position of level l that begins at slot c, if one does.

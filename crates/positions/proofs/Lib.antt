@@ -1,3 +1,4 @@
 -- The laws of positions, runs and walks.
 pub mod Runs
+pub mod RunsNode
 pub mod Slots

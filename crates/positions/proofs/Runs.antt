@@ -1,8 +1,8 @@
 -- Runs: the routes of a table that lie in a position. Runs of nested positions; a run taken apart into the position's own route and the runs
--- of its halves; and one step of the longest match and of the cover, from a position to a half.
+-- of its halves, and so met by a walk; and one step of the longest match and of the cover, from a position to a half.
 use Prim.Native.Nat.{ℕ, zero, suc, _+_, _-_, _^_, _≤_, _<_}
 use mathlib.Core.Path.{_≡_, refl, sym, ap, ap₂, _∙_}
-use mathlib.Core.Bool.{Bool, true, false, cond, _||_, _&&_, or-false, and-eq-true-iff, or-and-distrib-left}
+use mathlib.Core.Bool.{Bool, true, false, _||_, _&&_, or-false, and-eq-true-iff, or-and-distrib-left}
 use mathlib.Core.List.{List, [], _∷_, _++_, append-nil}
 use mathlib.Core.Logic.{_↔_, _⊎_, inl, inr}
 use native.Mathlib.Nat.{pow-suc, le-refl, eq-or-lt-of-le}
@@ -11,14 +11,15 @@ use native.Mathlib.Omega.{arith}
 use lib.Dec.{eqb, leb, ltb}
 use borrow.Author.Tests.{eq-eqb, eqb-true, le-leb, leb-true, lt-ltb, ltb-true}
 use Rattle.theory.specs.Results.{In, part, throughout}
-use Rattle.theory.specs.Routes.{Route, matches, held, Match, miss, hit, longer, tried, lookup, Answer, none, via, under, Aligned, Valid, All, nil, cons, Before, Ascending, empty, first, Table, Member}
-use Rattle.theory.proofs.Blocks.{pow-pos, aligned-left, aligned-right, aligned-down, aligned-next, next-block, same-start, in-left, in-right, in→block}
-use Rattle.theory.proofs.Lists.{all-map, all-member, member-all}
+use Rattle.theory.specs.Routes.{Route, matches, held, Match, miss, hit, lookup, Answer, none, via, under, Aligned, Valid, All, nil, cons, Before, Ascending, empty, first, Table}
+use Rattle.theory.proofs.Blocks.{pow-pos, aligned-left, aligned-right, aligned-down, aligned-next, next-block, same-start, in→block}
+use Rattle.theory.proofs.Lists.{all-member}
 use Rattle.theory.proofs.Maximal.{throughout-each, throughout-agree}
-use Rattle.theory.proofs.Parts.{all-part, under-longer, member-part, ascending-part, table-part, part-whole, part-twice, part-either}
-use Rattle.theory.proofs.Preserve.{Within, Deep, lookup-outside, lookup-deep, lookup-append-left, lookup-append-right, back}
+use Rattle.theory.proofs.Parts.{all-part, under-longer, ascending-part, table-part, part-whole, part-twice, part-either}
+use Rattle.theory.proofs.Preserve.{Within, Deep, lookup-outside, lookup-deep, lookup-append-left, lookup-append-right}
 use Rattle.theory.proofs.Routed.{routed, held-answer}
 use Rattle.positions.specs.Runs.{isAt, isIn, inside, headHop, own, orElse}
+use Rattle.positions.specs.Walk.{walk}
 
 -- ---- The two tests, by the facts that they stand for.
 
@@ -49,6 +50,7 @@ pub record Nested (m b n a : ℕ) : Type 0 where
   pub from : a ≤ b
   pub upto : b + 2 ^ m ≤ a + 2 ^ n
 
+-- A position lies in itself.
 pub nested-self : (n a : ℕ) → Nested n a n a
 nested-self n a = record { smaller = le-refl n; from = le-refl a; upto = le-refl (a + 2 ^ n) }
 
@@ -59,7 +61,7 @@ module _ (w : ℕ) {m b n a : ℕ} (i : Nested m b n a) (t : List Route) where
   at-in : (r : Route) → isAt w m b r ≡ true → isIn w n a r ≡ true
   at-in r e = is-in w n a r .1 (omega (arith, is-at w m b r .0 e, pow-pos m))
 
-  -- The routes of a position inside another are those of the other that lie in it, and so are those that stand at it.
+  -- The routes that lie in a position nested in another are all found among those that lie in the other, and so is the route that stands at it.
   pub inside-nested : inside w m b (inside w n a t) ≡ inside w m b t
   inside-nested = part-twice (isIn w m b) (isIn w n a) t in-in
 
@@ -83,6 +85,7 @@ pub record Run (w n a : ℕ) (t : List Route) : Type 0 where
   pub table : Table w t
   pub within : All (Within w n a) t
 
+-- The routes inside a position are a table.
 pub inside-table : (w n a : ℕ) {t : List Route} → Table w t → Table w (inside w n a t)
 inside-table w n a table = table-part w (isIn w n a) table
 
@@ -188,6 +191,7 @@ module _ {w n a : ℕ} {t : List Route} (run : Run w (suc n) a t) where
 abbrev pub Half : ℕ → ℕ → ℕ → Type 0
 Half n a b = (b ≡ a) ⊎ (b ≡ a + 2 ^ n)
 
+-- A half is aligned, and lies in its position.
 pub half-aligned : (n a b : ℕ) → Aligned (suc n) a → Half n a b → Aligned n b
 half-aligned n a b d (inl e) = rw e (aligned-left n a d)
 half-aligned n a b d (inr e) = rw e (aligned-right n a d)
@@ -196,11 +200,16 @@ pub half-nested : (n a b : ℕ) → Half n a b → Nested n b (suc n) a
 half-nested n a b (inl e) = record { smaller = omega arith; from = omega arith; upto = omega (arith, pow-suc 2 n) }
 half-nested n a b (inr e) = record { smaller = omega arith; from = omega arith; upto = omega (arith, pow-suc 2 n) }
 
--- Whether a hop is said: by the position's own route, or else by what lies under it.
-pub routed-under : (v : Answer) (m : Match) → routed (under (orElse v none) m) ≡ (routed v || routed (under none m))
+-- Whether a hop is said: by the match, or else by what is above.
+pub routed-under : (v : Answer) (m : Match) → routed (under v m) ≡ (routed v || routed (under none m))
 routed-under none m = refl
 routed-under (via h) miss = refl
 routed-under (via h) (hit k i) = refl
+
+-- Or by the one answer, or else by the other.
+pub routed-else : (v g : Answer) → routed (orElse v g) ≡ (routed v || routed g)
+routed-else none g = refl
+routed-else (via h) g = refl
 
 -- The route at a position, if there is one, answers its addresses where no longer route does.
 top-answer : (w n a x : ℕ) → n ≤ w → Aligned n a → In n a x → (g : Answer) {s : List Route} → AtMostOne w n a s → (inner : List Route)
@@ -211,14 +220,15 @@ top-answer w n a x le d i g (inr (r, e, l, q)) inner deep =
     let match : matches w r x ≡ true = rw (k, q) (eq-eqb _ _ (in→block n a x d i)) in
     rw (e, match) (under-longer (w - n) g (hit (r .len) (r .hop)) (lookup w inner x) (omega arith) deep)
 
--- So the run of a single address answers it by its own route.
+-- So the run of a single address answers it by the route that stands there.
 pub one-answer : {w a : ℕ} {t : List Route} → Run w 0 a t → (g : Answer) → under g (lookup w t a) ≡ orElse (own w 0 a t) g
 one-answer {w} {a} {t} run g =
     ap (λ (u : List Route). under g (lookup w u a)) (run-one (run .within) ∙ sym (append-nil (part (isAt w 0 a) t)))
     ∙ top-answer w 0 a a (run .fits) (run .aligned) (omega arith) g (at-most-one w 0 a (run .table)) [] tt
 
+-- And holds it by that route.
 pub one-held : {w a : ℕ} {t : List Route} → Run w 0 a t → held w t a ≡ routed (own w 0 a t)
-one-held {w} {a} {t} run = held-answer w a t ∙ ap routed (one-answer run none) ∙ routed-under (own w 0 a t) miss ∙ or-false (routed (own w 0 a t))
+one-held {w} {a} {t} run = held-answer w a t ∙ ap routed (one-answer run none) ∙ routed-else (own w 0 a t) none ∙ or-false (routed (own w 0 a t))
 
 -- Where b or q holds of each address, b holds or q holds throughout.
 pub throughout-under : (p q : ℕ → Bool) (b : Bool) (n a : ℕ) → ((x : ℕ) → In n a x → p x ≡ (b || q x)) → throughout p n a ≡ (b || throughout q n a)
@@ -254,8 +264,8 @@ module _ {w n a : ℕ} {t : List Route} (run : Run w (suc n) a t) where
   half-held b x h i =
       held-answer w x t
       ∙ ap routed (half-answer none b x h i)
-      ∙ routed-under (own w (suc n) a t) (lookup w (inside w n b t) x)
-      ∙ ap (λ (c : Bool). routed (own w (suc n) a t) || c) (sym (held-answer w x (inside w n b t)))
+      ∙ routed-under (orElse (own w (suc n) a t) none) (lookup w (inside w n b t) x)
+      ∙ ap₂ _||_ (routed-else (own w (suc n) a t) none ∙ or-false (routed (own w (suc n) a t))) (sym (held-answer w x (inside w n b t)))
 
   -- A position is covered by its own route, or else half by half.
   pub run-covered : throughout (held w t) (suc n) a
@@ -266,3 +276,45 @@ module _ {w n a : ℕ} {t : List Route} (run : Run w (suc n) a t) where
     where
       half : (b : ℕ) → Half n a b → throughout (held w t) n b ≡ (routed (own w (suc n) a t) || throughout (held w (inside w n b t)) n b)
       half b h = throughout-under (held w t) (held w (inside w n b t)) (routed (own w (suc n) a t)) n b (λ x i. half-held b x h i)
+
+-- The same steps inside a position of any table, its size N one more than n.
+module _ (w n a : ℕ) {N : ℕ} (e : N ≡ suc n) {t : List Route} (le : N ≤ w) (d : Aligned N a) (table : Table w t) where
+  whole-run : Run w (suc n) a (inside w (suc n) a t)
+  whole-run = inside-run w (suc n) a (rw e at le) (rw e at d) table
+
+  -- The route at the position, then the routes inside its left half, then those inside its right half.
+  pub inside-splits : inside w N a t ≡ part (isAt w N a) t ++ (inside w n a t ++ inside w n (a + 2 ^ n) t)
+  inside-splits =
+      rw e (run-splits whole-run
+      ∙ ap₂ _++_ (at-nested w (nested-self (suc n) a) t) (ap₂ _++_ (inside-nested w (half-nested n a a (inl refl)) t)
+      (inside-nested w (half-nested n a (a + 2 ^ n) (inr refl)) t)))
+
+  -- An address of a half is answered by the routes inside the half, or else by the route at the position.
+  pub inside-answer : (g : Answer) (b x : ℕ) → Half n a b → In n b x
+      → under g (lookup w (inside w N a t) x) ≡ under (orElse (own w N a t) g) (lookup w (inside w n b t) x)
+  inside-answer g b x h i =
+      rw e (half-answer whole-run g b x h i
+      ∙ ap₂ (λ (v : Answer) (u : List Route). under (orElse v g) (lookup w u x)) (own-nested w (nested-self (suc n) a) t)
+      (inside-nested w (half-nested n a b h) t))
+
+  -- A position is covered from inside by the route at it, or else half by half; the halves stand at b and c.
+  pub inside-covered : (b c : ℕ) → b ≡ a → c ≡ a + 2 ^ n
+      → throughout (held w (inside w N a t)) N a
+      ≡ (routed (own w N a t) || (throughout (held w (inside w n b t)) n b && throughout (held w (inside w n c t)) n c))
+  inside-covered b c p q =
+      rw (e, p, q) (run-covered whole-run
+      ∙ ap₂ _||_ (ap routed (own-nested w (nested-self (suc n) a) t)) (ap₂ _&&_ (half a (inl refl)) (half (a + 2 ^ n) (inr refl))))
+    where
+      half : (b : ℕ) → Half n a b → throughout (held w (inside w n b (inside w (suc n) a t))) n b ≡ throughout (held w (inside w n b t)) n b
+      half b h = ap (λ (u : List Route). throughout (held w u) n b) (inside-nested w (half-nested n a b h) t)
+
+-- The routes inside a position are those that a walk down meets, one position after another.
+pub inside-walk : {S : Type 0} (next : ℕ → ℕ → S → S) (w n a : ℕ) {t : List Route} → n ≤ w → Aligned n a → Table w t → (s : S)
+    → inside w n a t ≡ walk (λ k b s. part (isAt w k b) t) next n a s
+unfolding walk
+inside-walk next w zero a {t} le d table s =
+    run-one (inside-within w 0 a le d (table .valid)) ∙ at-nested w (nested-self 0 a) t
+inside-walk next w (suc n) a {t} le d table s =
+    inside-splits w n a refl le d table
+    ∙ ap (λ (u : List Route). part (isAt w (suc n) a) t ++ u) (ap₂ _++_ (inside-walk next w n a (omega arith) (aligned-left n a d) table (next (suc n) a s))
+    (inside-walk next w n (a + 2 ^ n) (omega arith) (aligned-right n a d) table (next (suc n) a s)))

@@ -1,7 +1,7 @@
 -- The routes of a table at a position and inside it, and the hops that cover the positions of a node.
 -- A node (m + 5, a) has five levels of positions, position j of level l standing at (m + 5 - l, a + j * 2 ^ (m + 5 - l)), and 32 slots, its level 5.
 use Prim.Native.Nat.{ℕ, zero, suc, _+_, _-_, _*_, _/_, _^_}
-use mathlib.Core.Bool.{Bool, true, false, _&&_, _||_}
+use mathlib.Core.Bool.{Bool, false, _&&_, _||_}
 use mathlib.Core.List.{List, [], _∷_}
 use lib.Dec.{eqb, leb, ltb}
 use Rattle.theory.specs.Routes.{Route, Answer, none, via}

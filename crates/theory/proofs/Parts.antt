@@ -204,6 +204,7 @@ pub part-none : (p : Route → Bool) (t : List Route) → ((r : Route) → Membe
 part-none p [] k = refl
 part-none p (r ∷ t) k = rw (k r head) (part-none p t (λ s m. k s (later m)))
 
+-- Of two routes one at most stands before the other.
 not-both : (r s : Route) → Before r s → Before s r → ⊥
 not-both r s (inl p) (inl q) = omega arith
 not-both r s (inl p) (inr q) = omega arith

@@ -2,3 +2,4 @@
 pub mod Runs
 pub mod RunsNode
 pub mod Slots
+pub mod Modes

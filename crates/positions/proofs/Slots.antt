@@ -1,9 +1,10 @@
 -- A walk through a node is the walk by its slots: at each slot the positions that begin there, from the top down, then the slot's own walk.
+-- Where a walk comes, and walks that agree there.
 use Prim.Native.Nat.{ℕ, zero, suc, _+_, _-_, _*_, _/_, _%_, _^_, _≤_, _<_}
-use mathlib.Core.Path.{_≡_, refl, sym, ap, ap₂, _∙_}
-use mathlib.Core.Bool.{Bool, true, false, cond}
-use mathlib.Core.List.{List, [], _∷_, _++_, append-nil, append-assoc}
-use native.Mathlib.Nat.{pow-suc, add-comm, zero-mul, add-zero, le-refl, mod-one, div-one}
+use mathlib.Core.Path.{_≡_, refl, ap, ap₂, _∙_}
+use mathlib.Core.Bool.{Bool, true, false}
+use mathlib.Core.List.{List, [], _++_, append-assoc}
+use native.Mathlib.Nat.{pow-suc, add-comm, le-refl, mod-one, div-one}
 use native.Mathlib.Numerals.{add-one}
 use native.Mathlib.Omega.{arith}
 use lib.Pow.{mod-pow-add, shr-shr, shr-lt}
@@ -12,11 +13,12 @@ use borrow.Author.Tests.{eq-eqb, ne-eqb, eqb-true, eqb-false}
 use Rattle.theory.specs.Routes.{Route, Aligned}
 use Rattle.theory.proofs.Blocks.{aligned-left, aligned-right}
 use Rattle.positions.specs.Runs.{sizeOf, placeOf, sizeAt, placeAt}
-use Rattle.positions.specs.Walk.{Reached, start, left, right, walk, stateOf, stateAt, startsOf, headsOf, slotsOf, startsAt, heads, slots}
+use Rattle.positions.specs.Walk.{walk, stateOf, stateAt, Reached, start, left, right, startsOf, headsOf, slotsOf, startsAt, heads, slots}
 use Rattle.positions.proofs.Runs.{Nested, nested-self}
 
 -- ---- Of twice as many slots, the even ones begin what the slots before began, and the odd ones nothing.
 
+-- Each level is one further from the slots of one level more.
 up : (k l : ℕ) → l ≤ k → suc k - l ≡ (k - l) + 1
 up k l le = omega arith
 
@@ -81,13 +83,15 @@ module _ (k : ℕ) (entry : ℕ → ℕ → List Route) where
       heads-even (suc k) c (le-refl (suc k)) ∙ ap (headsOf k entry k c ++_) (starts-last c) in
       rw (two, slots-halves slot half e c, e c, even, heads-odd (suc k) c (le-refl (suc k))) (simp append-assoc)
 
--- ---- One step of each, for a loop.
+-- ---- One level and one slot more, for a loop.
 
 module _ (entry : ℕ → ℕ → List Route) where
+  -- The positions that begin at a slot, with one level more.
   pub heads-next : (l c : ℕ) → heads entry (l + 1) c ≡ heads entry l c ++ startsAt entry l c
   unfolding headsOf
   heads-next l c = rw (add-one l)
 
+  -- The slots, with one more.
   pub slots-next : (slot : ℕ → List Route) (c : ℕ) → slots entry slot (c + 1) ≡ slots entry slot c ++ (heads entry 5 c ++ slot c)
   unfolding slotsOf
   slots-next slot c = rw (add-one c)
@@ -95,6 +99,7 @@ module _ (entry : ℕ → ℕ → List Route) where
 -- ---- Entries that agree at each position of a node give the same by its slots.
 
 module _ (k : ℕ) (entry other : ℕ → ℕ → List Route) (same : (l j : ℕ) → l < k → j < 2 ^ l → entry l j ≡ other l j) where
+  -- At one slot.
   pub heads-agree : (l c : ℕ) → l ≤ k → c < 2 ^ k → headsOf k entry l c ≡ headsOf k other l c
   unfolding headsOf
   heads-agree zero c le lt = refl
@@ -103,6 +108,7 @@ module _ (k : ℕ) (entry other : ℕ → ℕ → List Route) (same : (l j : ℕ
       let place : c / 2 ^ (k - l) < 2 ^ l = shr-lt l (k - l) (rw all lt) in
       rw (heads-agree l c (omega arith) lt, same l (c / 2 ^ (k - l)) (omega arith) place)
 
+  -- At all of the first slots, where the slots' own entries agree too.
   pub slots-agree : (slot another : ℕ → List Route) → ((c : ℕ) → c < 2 ^ k → slot c ≡ another c)
       → (c : ℕ) → c ≤ 2 ^ k → slotsOf k entry slot c ≡ slotsOf k other another c
   unfolding slotsOf
@@ -141,6 +147,7 @@ module _ {S : Type 0} (out : ℕ → ℕ → S → List Route) (next : ℕ → �
       let right : a + suc (c * 2) * 2 ^ m ≡ a + c * (2 ^ m * 2) + 2 ^ m = omega arith in
       rw (at, up, down, half-even c, half-odd c, ← state-up k m a s k c (le-refl k), pow-suc 2 m, left, right)
 
+  -- A walk through a node of k levels by its 2 ^ k slots.
   pub walk-slots-of : (k m a : ℕ) (s : S) → walk out next (m + k) a s ≡ slotsOf k (entryOf k m a s) (slotOf k m a s) (2 ^ k)
   unfolding slotsOf headsOf stateOf
   walk-slots-of zero m a s =
@@ -173,7 +180,7 @@ module _ {S : Type 0} (next : ℕ → ℕ → S → S) (n a : ℕ) (s : S) where
   reached-keeps P down p (left r) = down _ _ _ (reached-keeps P down p r) .0
   reached-keeps P down p (right r) = down _ _ _ (reached-keeps P down p r) .1
 
-  -- It comes to positions inside its own, aligned as it is.
+  -- It comes to positions inside its own.
   pub reached-nested : {k b : ℕ} {u : S} → Reached next n a s k b u → Nested k b n a
   reached-nested r =
       reached-keeps (λ k b u. Nested k b n a) (λ k b u i. (
@@ -181,6 +188,7 @@ module _ {S : Type 0} (next : ℕ → ℕ → S → S) (n a : ℕ) (s : S) where
         record { smaller = omega arith; from = omega arith; upto = omega (arith, pow-suc 2 k) },
       )) (nested-self n a) r
 
+  -- And to aligned ones, if its own is.
   pub reached-aligned : Aligned n a → {k b : ℕ} {u : S} → Reached next n a s k b u → Aligned k b
   reached-aligned d r = reached-keeps (λ k b u. Aligned k b) (λ k b u e. (aligned-left k b e, aligned-right k b e)) d r
 
@@ -208,6 +216,7 @@ module _ {S : Type 0} (out other : ℕ → ℕ → S → List Route) (next step 
       n a s s (start, refl)
 
 module _ {S : Type 0} (out : ℕ → ℕ → S → List Route) (next : ℕ → ℕ → S → S) where
+  -- A walk that puts out nothing where P holds, and keeps P.
   silent : (P : ℕ → ℕ → S → Type 0) → ((k b : ℕ) (u : S) → P k b u → out k b u ≡ [])
       → ((k b : ℕ) (u : S) → P (suc k) b u → P k b (next (suc k) b u) × P k (b + 2 ^ k) (next (suc k) b u))
       → (n a : ℕ) (s : S) → P n a s → walk out next n a s ≡ []

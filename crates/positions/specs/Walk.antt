@@ -1,7 +1,7 @@
 -- A walk down the positions in table order, handing a state from each position to its halves; and the same by a node's slots.
-use Prim.Native.Nat.{ℕ, zero, suc, _+_, _-_, _*_, _/_, _%_, _^_}
-use mathlib.Core.Bool.{Bool, cond}
-use mathlib.Core.List.{List, [], _∷_, _++_}
+use Prim.Native.Nat.{ℕ, zero, suc, _+_, _-_, _/_, _%_, _^_}
+use mathlib.Core.Bool.{cond}
+use mathlib.Core.List.{List, [], _++_}
 use lib.Dec.{eqb}
 use Rattle.theory.specs.Routes.{Route}
 use Rattle.positions.specs.Runs.{sizeOf, placeOf}

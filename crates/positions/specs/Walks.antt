@@ -1,6 +1,6 @@
 -- The five modes as walks: what each puts out at the position (n, a), given the state s from above, and the state that it hands down.
 use Prim.Native.Nat.{ℕ, _-_}
-use mathlib.Core.Bool.{Bool, true, false, cond, _||_}
+use mathlib.Core.Bool.{Bool, false, cond, _||_}
 use mathlib.Core.List.{List, [], _∷_}
 use lib.Dec.{eqb}
 use Rattle.theory.specs.Results.{throughout, prefix, sets, assigned, here}
@@ -31,12 +31,12 @@ maximalNext p n a s = s || throughout p n a
 -- ---- Modes 2 and 3, of the table t: by a test that leaves entries out and by how an own hop changes the state.
 
 -- A position's own entry, if it has one, unless the test of its hop and the state leaves it out.
-abbrev pub unless : {S : Type 0} → (ℕ → S → Bool) → ℕ → ℕ → ℕ → Answer → S → List Route
-unless leftOut w n a none s = []
-unless leftOut w n a (via h) s = cond (leftOut h s) [] (record { addr = a; len = w - n; hop = h } ∷ [])
+abbrev pub entryUnless : {S : Type 0} → (ℕ → S → Bool) → ℕ → ℕ → ℕ → Answer → S → List Route
+entryUnless leftOut w n a none s = []
+entryUnless leftOut w n a (via h) s = cond (leftOut h s) [] (record { addr = a; len = w - n; hop = h } ∷ [])
 
 abbrev pub keptOut : {S : Type 0} → (ℕ → S → Bool) → ℕ → List Route → ℕ → ℕ → S → List Route
-keptOut leftOut w t n a s = unless leftOut w n a (own w n a t) s
+keptOut leftOut w t n a s = entryUnless leftOut w n a (own w n a t) s
 
 -- The state with the position's own hop.
 abbrev pub keptNext : {S : Type 0} → (Answer → S → S) → ℕ → List Route → ℕ → ℕ → S → S

@@ -2,3 +2,5 @@
 pub mod Wide
 pub mod Runs
 pub mod RunsNode
+pub mod Slots
+pub mod Modes

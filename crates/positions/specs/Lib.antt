@@ -2,3 +2,4 @@
 pub mod Wide
 pub mod Runs
 pub mod Walk
+pub mod Walks

@@ -34,12 +34,19 @@ abbrev pub orElse : Answer → Answer → Answer
 orElse none g = g
 orElse (via h) g = via h
 
--- The size and the address of position j of level l in a node (m + 5, a); the slots are level 5.
+-- The size and the address of position j of level l in a node (m + k, a) of k levels.
+abbrev pub sizeOf : ℕ → ℕ → ℕ → ℕ
+sizeOf k m l = m + (k - l)
+
+abbrev pub placeOf : ℕ → ℕ → ℕ → ℕ → ℕ → ℕ
+placeOf k m a l j = a + j * 2 ^ sizeOf k m l
+
+-- The same in a node (m + 5, a); the slots are level 5.
 abbrev pub sizeAt : ℕ → ℕ → ℕ
-sizeAt m l = m + (5 - l)
+sizeAt m l = sizeOf 5 m l
 
 abbrev pub placeAt : ℕ → ℕ → ℕ → ℕ → ℕ
-placeAt m a l j = a + j * 2 ^ sizeAt m l
+placeAt m a l j = placeOf 5 m a l j
 
 -- What covers position j of level l, its own route included, where g covers the node from above.
 unfoldable pub cover : ℕ → ℕ → ℕ → List Route → Answer → ℕ → ℕ → Answer

@@ -2,3 +2,4 @@
 pub mod Node
 pub mod Gathered
 pub mod Output
+pub mod Room

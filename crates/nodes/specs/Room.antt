@@ -1,0 +1,64 @@
+-- The work room: words laid from its end downward, a block of words for each node. From its start a node's block reads: the node's own
+-- words, then the blocks of its slots that have a record, in order.
+use Prim.Native.Nat.{ℕ, zero, suc, _+_, _-_, _*_, _/_}
+use mathlib.Core.Path.{_≡_}
+use mathlib.Core.List.{List, [], _∷_, _++_}
+use lib.ListN.{length, take, drop}
+use Rattle.theory.specs.Routes.{Route}
+use Rattle.positions.specs.Runs.{inside, placeAt}
+use Rattle.nodes.specs.Node.{wide}
+
+-- o′ is o with ws laid from r to top.
+pub record Pushed (ws : List ℕ) (top r : ℕ) (o o′ : List ℕ) : Type 0 where
+  pub ends : r + length ws ≡ top
+  pub laid : o′ ≡ take r o ++ (ws ++ drop top o)
+
+-- The words of o from top on begin with ws.
+abbrev pub Begins : List ℕ → ℕ → List ℕ → Type 0
+Begins ws top o = (rest : List ℕ) × (drop top o ≡ ws ++ rest)
+
+-- Is ws the block of a slot at a that the routes t lie in: nothing where there is none?
+abbrev pub SlotBlock : (ℕ → List Route → List ℕ → Type 0) → ℕ → List Route → List ℕ → Type 0
+SlotBlock block a [] ws = ws ≡ []
+SlotBlock block a (r ∷ t) ws = block a (r ∷ t) ws
+
+-- Are ws the blocks of the last c slots of the node (m + 5, a)?
+unfoldable pub SlotBlocks : (ℕ → List Route → List ℕ → Type 0) → ℕ → ℕ → List Route → ℕ → List ℕ → Type 0
+SlotBlocks block m a t zero ws = ws ≡ []
+SlotBlocks block m a t (suc c) ws =
+    (u : List ℕ)
+    × (v : List ℕ)
+    × (ws ≡ u ++ v)
+    × SlotBlock block (placeAt m a 5 (31 - c)) (inside wide m (placeAt m a 5 (31 - c)) t) u
+    × SlotBlocks block m a t c v
+
+-- Is ws the block of the node (5 * k, a) that the routes t lie in, where `own m a t u` says that u are the own words of the node (m + 5, a)?
+unfoldable pub Block : (ℕ → ℕ → List Route → List ℕ → Type 0) → ℕ → ℕ → List Route → List ℕ → Type 0
+Block own zero a t ws = ⊥
+Block own (suc k) a t ws =
+    (u : List ℕ)
+    × (v : List ℕ)
+    × (ws ≡ u ++ v)
+    × own (5 * k) a t u
+    × SlotBlocks (Block own k) (5 * k) a t 32 v
+
+-- How many nodes deep the node at this depth still goes, itself included.
+abbrev pub nodesDeep : ℕ → ℕ
+nodesDeep depth = 7 - depth / 5
+
+-- A number for routes, 0 where there is none.
+abbrev pub orNone : List Route → ℕ → ℕ
+orNone [] n = 0
+orNone (r ∷ t) n = n
+
+-- The nodes of the first c slots, those that have a record.
+unfoldable pub slotNodes : (ℕ → List Route → ℕ) → ℕ → ℕ → List Route → ℕ → ℕ
+slotNodes nodes m a t zero = 0
+slotNodes nodes m a t (suc c) =
+    slotNodes nodes m a t c
+    + orNone (inside wide m (placeAt m a 5 c) t) (nodes (placeAt m a 5 c) (inside wide m (placeAt m a 5 c) t))
+
+-- The nodes from the node (5 * k, a) down that the routes t have, itself included.
+unfoldable pub nodesBelow : ℕ → ℕ → List Route → ℕ
+nodesBelow zero a t = 0
+nodesBelow (suc k) a t = 1 + slotNodes (nodesBelow k) (5 * k) a t 32

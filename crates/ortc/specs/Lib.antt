@@ -1,0 +1,2 @@
+-- What the contracts of ortc say.
+pub mod Hops

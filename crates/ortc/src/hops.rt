@@ -1,0 +1,74 @@
+// Candidate sets as 64-bit words: hop h is bit h; the word 0 is a hole.
+
+ghost use mathlib.Core.Path.{_≡_};
+ghost use mathlib.Core.Bool.{true};
+ghost use mathlib.Core.List.{List};
+ghost use Prim.Native.Nat.{ℕ, _^_, _≤_, _<_};
+ghost use Rattle.theory.specs.Results.{Cand, leaf, of};
+ghost use Rattle.nodes.specs.Node.{hopOf};
+ghost use Rattle.positions.specs.Runs.{orElse};
+ghost use Rattle.ortc.specs.Hops.{ShowsHops, ShowsSet};
+
+// The set of one hop.
+pub fn one(h: u8) -> u64
+    requires { ⌜ h < 64 ⌝ }
+    ensures { λ r. ⌜ ShowsSet r (leaf (hopOf h)) ⌝ }
+{
+    1 << h
+}
+
+// The candidates of a position from those of its halves: a hole with anything is a hole; else the intersection, or the union if it is empty.
+pub fn combine(left: u64, right: u64) -> u64
+    ensures { λ r. ⌜ ((S R : Cand) → ShowsSet left S → ShowsSet right R → ShowsSet r (Rattle.theory.specs.Results.combine S R)) ⌝ }
+{
+    if left == 0 {
+        return 0;
+    }
+    if right == 0 {
+        return 0;
+    }
+    let both = left & right;
+    if both == 0 { left | right } else { both }
+}
+
+// The hop of a region where all addresses have one answer: the hop that covers it, or the one that fills what has none.
+pub fn leaf_value(covering: u8, fill: u8) -> u8
+    ensures { λ r. ⌜ hopOf r ≡ orElse (hopOf covering) (hopOf fill) ⌝ }
+    ensures { λ r. ⌜ (covering ≤ 64 → fill ≤ 64 → r ≤ 64) ⌝ }
+{
+    if covering < 64 { covering } else { fill }
+}
+
+// Its candidates.
+pub fn leaf_set(covering: u8, fill: u8) -> u64
+    ensures { λ r. ⌜ ShowsSet r (leaf (orElse (hopOf covering) (hopOf fill))) ⌝ }
+{
+    let h = leaf_value(covering, fill);
+    if h < 64 { one(h) } else { 0 }
+}
+
+// Is the hop in the set? None is in no set.
+pub fn has(set: u64, h: u8) -> bool
+    ensures { λ r. ⌜ ((s : List ℕ) → ShowsHops set s → r ≡ Rattle.theory.specs.Results.allowed (hopOf h) s) ⌝ }
+{
+    if h < 64 { (set >> h) % 2 == 1 } else { false }
+}
+
+// The smallest hop of a set.
+pub fn smallest(set: u64) -> u8
+    requires { ⌜ 0 < set ⌝ }
+    ensures { λ r. ⌜ ((s : List ℕ) → ShowsHops set s → r ≡ Rattle.theory.specs.Results.smallest s) × (r < 64) ⌝ }
+{
+    (u64::trailing_zeros(set) % 64) as u8
+}
+
+// What a position with this set is assigned, where `above` is assigned above it; 64 for nothing.
+pub fn assign(set: u64, above: u8) -> u8
+    ensures { λ r. ⌜ ((S : Cand) → ShowsSet set S → hopOf r ≡ Rattle.theory.specs.Results.assigned Rattle.theory.specs.Results.smallest S (hopOf above)) ⌝ }
+    ensures { λ r. ⌜ (above ≤ 64 → r ≤ 64) ⌝ }
+{
+    if set == 0 {
+        return 64;
+    }
+    if has(set, above) { above } else { smallest(set) }
+}

@@ -1,7 +1,7 @@
 -- The routes of a table at a position and inside it, and the hops that cover the positions of a node.
 -- A node (m + 5, a) has five levels of positions, position j of level l standing at (m + 5 - l, a + j * 2 ^ (m + 5 - l)), and 32 slots, its level 5.
 use Prim.Native.Nat.{ℕ, zero, suc, _+_, _-_, _*_, _/_, _^_}
-use mathlib.Core.Bool.{Bool, false, _&&_, _||_}
+use mathlib.Core.Bool.{Bool, false, _&&_, _||_, cond}
 use mathlib.Core.List.{List, [], _∷_}
 use lib.Dec.{eqb, leb, ltb}
 use Rattle.theory.specs.Routes.{Route, Answer, none, via}
@@ -28,6 +28,10 @@ headHop (r ∷ t) = via (r .hop)
 -- The position's own hop, if a route stands there.
 abbrev pub own : ℕ → ℕ → ℕ → List Route → Answer
 own w n a t = headHop (part (isAt w n a) t)
+
+-- What a hop of the code says: below 64 that hop, from 64 on none.
+abbrev pub hopOf : ℕ → Answer
+hopOf h = cond (ltb h 64) (via h) none
 
 -- The first answer, or, where it says nothing, the other.
 abbrev pub orElse : Answer → Answer → Answer

@@ -5,9 +5,8 @@ ghost use mathlib.Core.Bool.{true};
 ghost use mathlib.Core.List.{List};
 ghost use Prim.Native.Nat.{ℕ, _^_, _≤_, _<_};
 ghost use Rattle.theory.specs.Results.{Cand, leaf, of};
-ghost use Rattle.nodes.specs.Node.{hopOf};
-ghost use Rattle.positions.specs.Runs.{orElse};
-ghost use Rattle.ortc.specs.Hops.{ShowsHops, ShowsSet};
+ghost use Rattle.positions.specs.Runs.{hopOf, orElse};
+ghost use Rattle.hops.specs.Sets.{ShowsHops, ShowsSet};
 
 // The set of one hop.
 pub fn one(h: u8) -> u64
@@ -70,5 +69,9 @@ pub fn assign(set: u64, above: u8) -> u8
     if set == 0 {
         return 64;
     }
-    if has(set, above) { above } else { smallest(set) }
+    if has(set, above) {
+        above
+    } else {
+        smallest(set)
+    }
 }

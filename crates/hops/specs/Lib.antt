@@ -1,0 +1,2 @@
+-- What the contracts of hops say.
+pub mod Sets

@@ -1,2 +1,0 @@
--- What the contracts of ortc say.
-pub mod Hops

@@ -62,3 +62,15 @@ slotNodes nodes m a t (suc c) =
 unfoldable pub nodesBelow : ℕ → ℕ → List Route → ℕ
 nodesBelow zero a t = 0
 nodesBelow (suc k) a t = 1 + slotNodes (nodesBelow k) (5 * k) a t 32
+
+-- A block of the node (5 * k, a) was laid from r to top.
+pub record Laid (own : ℕ → ℕ → List Route → List ℕ → Type 0) (k a : ℕ) (t : List Route) (top r : ℕ) (o o′ : List ℕ) : Type 0 where
+  pub words : List ℕ
+  pub block : Block own k a t words
+  pub pushed : Pushed words top r o o′
+
+-- A block of the node (5 * k, a) begins at top.
+pub record Stored (own : ℕ → ℕ → List Route → List ℕ → Type 0) (k a : ℕ) (t : List Route) (top : ℕ) (o : List ℕ) : Type 0 where
+  pub words : List ℕ
+  pub block : Block own k a t words
+  pub begins : Begins words top o

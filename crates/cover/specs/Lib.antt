@@ -1,0 +1,2 @@
+-- What the contracts of cover say.
+pub mod Coverage

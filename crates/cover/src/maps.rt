@@ -1,0 +1,100 @@
+// Mode 3: the entries of a map whose hop differs from that of the nearest entry above.
+
+use nodes::emit::emit_slot;
+use nodes::emit::past;
+use nodes::gather::covering_values;
+use nodes::gather::gather;
+use nodes::gather::over_at;
+use nodes::gather::slot_key;
+use words::bits::with_bit;
+ghost use mathlib.Core.Path.{_≡_};
+ghost use mathlib.Core.Bool.{not, _&&_, _||_};
+ghost use Prim.Native.Nat.{ℕ, _+_, _-_, _*_, _^_, _≤_, _<_};
+ghost use lib.Dec.{eqb, ltb};
+ghost use lib.ListN.{getD};
+ghost use Rattle.words.specs.Bits.{bit};
+ghost use Rattle.positions.specs.Runs.{hopOf};
+ghost use Rattle.positions.specs.Walk.{walk};
+ghost use Rattle.positions.specs.Walks.{consistentMapOut, consistentMapNext};
+ghost use Rattle.nodes.specs.Node.{wide, run, Node};
+ghost use Rattle.nodes.specs.Gathered.{overAt};
+ghost use Rattle.nodes.specs.Output.{Wrote};
+
+// The entries, with position b's if it has a record, by `hop`, and another hop covers it from above.
+fn with_entry(entries: u32, b: u32, first: usize, end: usize, hop: u8, over: u8) -> u32
+    requires { ⌜ b < 31 ⌝ }
+    ensures { λ r. ⌜ ((i : ℕ) → i < 31 → bit r i ≡ ((eqb i b && (ltb first end && not (eqb hop over))) || bit entries i)) ⌝ }
+{
+    if first < end {
+        if hop != over {
+            return with_bit(entries, b);
+        }
+    }
+    entries
+}
+
+// The positions of a node with a record whose hop is not the one that covers them from above.
+fn entries_of(first: &[usize; 63], end: &[usize; 63], hops: &[u8; 31], inherited: u8) -> u32
+    ensures { λ r. ⌜ ((b : ℕ) → b < 31 → bit r b ≡ (ltb (getD (now (first .entry)) b 0) (getD (now (end .entry)) b 0) && not (eqb (getD (now (hops .entry)) b 0) (overAt (now (hops .entry)) b inherited)))) ⌝ }
+{
+    let mut entries: u32 = 0;
+    let mut b: usize = 0;
+    while b < 31 {
+        entries = with_entry(
+            entries,
+            b as u32,
+            first[b],
+            end[b],
+            hops[b],
+            over_at(hops, b, inherited),
+        );
+        b += 1;
+    }
+    entries
+}
+
+// Writes the kept entries of a node and all below it, where `inherited` covers it from above, and says how many they are.
+pub fn aggregate_consistent_map(
+    table: &[u8],
+    lo: usize,
+    hi: usize,
+    depth: usize,
+    key: u64,
+    inherited: u8,
+    out: &mut [u8],
+) -> usize
+    requires { ⌜ Node (now table) lo hi depth key ⌝ }
+    requires { ⌜ inherited ≤ 64 ⌝ }
+    ensures { λ r. ⌜ r + 6 ≤ 8 * 2 ^ (wide - depth) ⌝ }
+    ensures { λ r. ⌜ Wrote (walk (consistentMapOut wide (run (now (table .entry)) lo hi)) (consistentMapNext wide (run (now (table .entry)) lo hi)) (wide - depth) key (hopOf inherited)) 0 r (now (out .entry)) (now (out .exit)) ⌝ }
+{
+    let mut first = [0usize; 63];
+    let mut end = [0usize; 63];
+    gather(table, lo, hi, depth, key, &mut first, &mut end);
+    let hops = covering_values(table, &first, &end, inherited);
+    let entries = entries_of(&first, &end, &hops, inherited);
+    let mut n: usize = 0;
+    let mut c: usize = 0;
+    while c < 32 {
+        let slot = slot_key(key, depth, c);
+        let here = past(n, out.len());
+        n += emit_slot(entries, &hops, c, slot, depth, &mut out[here..]);
+        let from = first[31 + c];
+        let to = end[31 + c];
+        let cover = hops[15 + c / 2];
+        c += 1;
+        if from < to {
+            let here = past(n, out.len());
+            n += aggregate_consistent_map(
+                table,
+                from,
+                to,
+                depth + 5,
+                slot,
+                cover,
+                &mut out[here..],
+            );
+        }
+    }
+    n
+}

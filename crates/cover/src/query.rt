@@ -1,0 +1,111 @@
+// The cover query: does a set cover every address of a prefix?
+
+use nodes::gather::gather;
+use nodes::gather::heap_index;
+use nodes::gather::level_of;
+use nodes::gather::slot_key;
+use words::bits::has_bit;
+use words::bits::with_bit;
+use words::coverage::fold_coverage;
+ghost use mathlib.Core.Path.{_≡_};
+ghost use mathlib.Core.Bool.{_&&_, _||_};
+ghost use Prim.Native.Nat.{ℕ, _+_, _-_, _^_, _≤_, _<_};
+ghost use lib.Dec.{eqb};
+ghost use Rattle.theory.specs.Routes.{held, Aligned};
+ghost use Rattle.theory.specs.Results.{throughout};
+ghost use Rattle.words.specs.Bits.{bit};
+ghost use Rattle.words.specs.Positions.{position};
+ghost use Rattle.nodes.specs.Node.{wide, run, slotSize, Node};
+ghost use Rattle.cover.specs.Coverage.{coveredIn, recordOver};
+
+// The covered slots, with slot c if its child is.
+pub fn with_slot(covered: u32, c: u32, child: bool) -> u32
+    requires { ⌜ c < 32 ⌝ }
+    ensures { λ r. ⌜ ((i : ℕ) → i < 32 → bit r i ≡ ((eqb i c && child) || bit covered i)) ⌝ }
+{
+    if child { with_bit(covered, c) } else { covered }
+}
+
+// Is position b of the node covered by the node's members at or below it?
+pub fn bit_covered(table: &[u8], lo: usize, hi: usize, depth: usize, key: u64, b: usize) -> bool
+    requires { ⌜ Node (now table) lo hi depth key ⌝ }
+    requires { ⌜ b < 31 ⌝ }
+    ensures { λ r. ⌜ ((l j : ℕ) → l ≤ 4 → j < 2 ^ l → b ≡ position l j → r ≡ coveredIn (slotSize depth) key (run (now (table .entry)) lo hi) l j) ⌝ }
+{
+    let mut first = [0usize; 63];
+    let mut end = [0usize; 63];
+    let present = gather(table, lo, hi, depth, key, &mut first, &mut end);
+    let mut covered: u32 = 0;
+    let mut c: usize = 0;
+    while c < 32 {
+        let from = first[31 + c];
+        let to = end[31 + c];
+        let at = c;
+        c += 1;
+        if from < to {
+            let child = bit_covered(table, from, to, depth + 5, slot_key(key, depth, at), 0);
+            covered = with_slot(covered, at as u32, child);
+        }
+    }
+    has_bit(fold_coverage(present, covered), b as u32)
+}
+
+// Does a record stand at position b or above it in the node?
+fn record_over(first: &[usize; 63], end: &[usize; 63], b: usize) -> bool
+    requires { ⌜ b < 31 ⌝ }
+    ensures { λ r. ⌜ ((l j : ℕ) → l ≤ 4 → j < 2 ^ l → b ≡ position l j → r ≡ recordOver (now (first .entry)) (now (end .entry)) l j) ⌝ }
+{
+    let mut k = b;
+    while 0 < k {
+        if first[k] < end[k] {
+            return true;
+        }
+        k = (k - 1) / 2;
+    }
+    first[0] < end[0]
+}
+
+// Do the node's members cover every address of the prefix `query`, of length `len`, which lies in the node?
+pub fn covers_in_aggregate(
+    table: &[u8],
+    lo: usize,
+    hi: usize,
+    depth: usize,
+    key: u64,
+    query: u64,
+    len: usize,
+) -> bool
+    requires { ⌜ Node (now table) lo hi depth key ⌝ }
+    requires { ⌜ (depth ≤ len) × (len ≤ 32) ⌝ }
+    requires { ⌜ Aligned (wide - len) query ⌝ }
+    requires { ⌜ (key ≤ query) × (query < key + 2 ^ (wide - depth)) ⌝ }
+    ensures { λ r. ⌜ r ≡ throughout (held wide (run (now (table .entry)) lo hi)) (wide - len) query ⌝ }
+{
+    let mut first = [0usize; 63];
+    let mut end = [0usize; 63];
+    gather(table, lo, hi, depth, key, &mut first, &mut end);
+    let b = heap_index(query, level_of(len, depth), depth, key);
+    if b < 31 {
+        if record_over(&first, &end, b) {
+            return true;
+        }
+        return bit_covered(table, lo, hi, depth, key, b);
+    }
+    if record_over(&first, &end, (b - 1) / 2) {
+        return true;
+    }
+    let from = first[b];
+    let to = end[b];
+    if from < to {
+        return covers_in_aggregate(
+            table,
+            from,
+            to,
+            depth + 5,
+            slot_key(key, depth, b - 31),
+            query,
+            len,
+        );
+    }
+    false
+}

@@ -1,0 +1,209 @@
+// Modes 1 and 2: sets.
+
+use super::query::with_slot;
+use nodes::emit::emit_slot;
+use nodes::emit::past;
+use nodes::gather::gather;
+use nodes::gather::slot_key;
+use words::bits::has_bit;
+use words::coverage::fold_coverage;
+use words::coverage::keep_of;
+use words::coverage::member_coverage;
+use words::coverage::parent_coverage;
+use words::ladder::push_l4;
+ghost use mathlib.Core.Path.{_≡_};
+ghost use mathlib.Core.Bool.{false, _||_};
+ghost use mathlib.Core.List.{List};
+ghost use Prim.Native.Nat.{ℕ, _+_, _-_, _*_, _^_, _≤_, _<_};
+ghost use lib.ListN.{length};
+ghost use Rattle.theory.specs.Routes.{All, held};
+ghost use Rattle.words.specs.Bits.{bit};
+ghost use Rattle.positions.specs.Walk.{walk};
+ghost use Rattle.positions.specs.Walks.{consistentSetOut, consistentSetNext, maximalOut, maximalNext};
+ghost use Rattle.nodes.specs.Node.{wide, run, slotSize, Node};
+ghost use Rattle.nodes.specs.Output.{Wrote};
+ghost use Rattle.nodes.specs.Room.{Block, Begins, nodesDeep, nodesBelow, Laid, Stored};
+ghost use Rattle.cover.specs.Coverage.{IsCoverage, coverageWord, Entries};
+
+// Writes the members of a node and all below it that have no member above them, where the node has none, and says how many they are: mode 2.
+pub fn aggregate_consistent_set(
+    table: &[u8],
+    lo: usize,
+    hi: usize,
+    depth: usize,
+    key: u64,
+    out: &mut [u8],
+) -> usize
+    requires { ⌜ Node (now table) lo hi depth key ⌝ }
+    requires { ⌜ All (λ r. r .hop ≡ 0) (run (now table) lo hi) ⌝ }
+    ensures { λ r. ⌜ r + 6 ≤ 8 * 2 ^ (wide - depth) ⌝ }
+    ensures { λ r. ⌜ Wrote (walk (consistentSetOut wide (run (now (table .entry)) lo hi)) (consistentSetNext wide (run (now (table .entry)) lo hi)) (wide - depth) key false) 0 r (now (out .entry)) (now (out .exit)) ⌝ }
+{
+    let mut first = [0usize; 63];
+    let mut end = [0usize; 63];
+    let present = gather(table, lo, hi, depth, key, &mut first, &mut end);
+    let hops = [0u8; 31];
+    let members = member_coverage(present);
+    let under = members.children_under_member;
+    let entries = keep_of(present, 0, members.covered);
+    let mut n: usize = 0;
+    let mut c: usize = 0;
+    while c < 32 {
+        let slot = slot_key(key, depth, c);
+        let here = past(n, out.len());
+        n += emit_slot(entries, &hops, c, slot, depth, &mut out[here..]);
+        let from = first[31 + c];
+        let to = end[31 + c];
+        let gone = has_bit(under, c as u32);
+        c += 1;
+        if from < to {
+            if !gone {
+                let here = past(n, out.len());
+                n += aggregate_consistent_set(table, from, to, depth + 5, slot, &mut out[here..]);
+            }
+        }
+    }
+    n
+}
+
+// What the first walk of mode 1 says of a node: the positions that its members at or below them cover, and where its block begins.
+pub struct Covered {
+    pub coverage: u32,
+    pub top: usize,
+}
+
+// The first walk of mode 1: lays the coverage of a node and of all below it into the room, from `top` downward.
+pub fn collect_coverage(
+    table: &[u8],
+    lo: usize,
+    hi: usize,
+    depth: usize,
+    key: u64,
+    work: &mut [u32],
+    top: usize,
+) -> Covered
+    requires { ⌜ Node (now table) lo hi depth key ⌝ }
+    requires { ⌜ (160 * nodesBelow (nodesDeep depth) key (run (now table) lo hi) ≤ top) × (top ≤ length (now work)) ⌝ }
+    ensures { λ r. ⌜ IsCoverage (slotSize depth) key (run (now (table .entry)) lo hi) (r .coverage) ⌝ }
+    ensures { λ r. ⌜ Laid coverageWord (nodesDeep depth) key (run (now (table .entry)) lo hi) top (r .top) (now (work .entry)) (now (work .exit)) ⌝ }
+{
+    let mut first = [0usize; 63];
+    let mut end = [0usize; 63];
+    let present = gather(table, lo, hi, depth, key, &mut first, &mut end);
+    let mut covered: u32 = 0;
+    let mut at = top;
+    let mut c: usize = 32;
+    while 0 < c {
+        c -= 1;
+        let from = first[31 + c];
+        let to = end[31 + c];
+        if from < to {
+            let child = collect_coverage(
+                table,
+                from,
+                to,
+                depth + 5,
+                slot_key(key, depth, c),
+                work,
+                at,
+            );
+            at = child.top;
+            covered = with_slot(covered, c as u32, has_bit(child.coverage, 0));
+        }
+    }
+    let coverage = fold_coverage(present, covered);
+    work[at - 1] = coverage;
+    Covered {
+        coverage,
+        top: at - 1,
+    }
+}
+
+// What the second walk has done: how many records it counted, and where its reading of the room ends.
+pub struct Walked {
+    pub count: usize,
+    pub top: usize,
+}
+
+// The entries of a node: the positions that are covered, below no member and below no covered position; none if one above the node is covered.
+fn entries_of(above: bool, coverage: u32, covered: u32) -> u32
+    ensures { λ r. ⌜ Entries above coverage covered r ⌝ }
+{
+    if above {
+        return 0;
+    }
+    keep_of(coverage, parent_coverage(coverage), covered)
+}
+
+// Is slot c below a covered position: below a member, below a covered position of the node, or is one above the node covered?
+fn is_absorbed(above: bool, under: u32, pushed: u32, c: usize) -> bool
+    requires { ⌜ c < 32 ⌝ }
+    ensures { λ r. ⌜ r ≡ (above || (bit under c || bit pushed c)) ⌝ }
+{
+    if above {
+        return true;
+    }
+    if has_bit(under, c as u32) {
+        return true;
+    }
+    has_bit(pushed, c as u32)
+}
+
+// The second walk of mode 1: writes the maximal covered prefixes of a node and of all below it, none if `above` says that a position above
+// the node is covered.
+pub fn aggregate_set(
+    table: &[u8],
+    lo: usize,
+    hi: usize,
+    depth: usize,
+    key: u64,
+    above: bool,
+    work: &[u32],
+    top: usize,
+    out: &mut [u8],
+) -> Walked
+    requires { ⌜ Node (now table) lo hi depth key ⌝ }
+    requires { ⌜ Stored coverageWord (nodesDeep depth) key (run (now table) lo hi) top (now work) ⌝ }
+    ensures { λ r. ⌜ r .count + 6 ≤ 8 * 2 ^ (wide - depth) ⌝ }
+    ensures { λ r. ⌜ ((ws : List ℕ) → Block coverageWord (nodesDeep depth) key (run (now (table .entry)) lo hi) ws → Begins ws top (now (work .entry)) → r .top ≡ top + length ws) ⌝ }
+    ensures { λ r. ⌜ Wrote (walk (maximalOut wide (held wide (run (now (table .entry)) lo hi))) (maximalNext (held wide (run (now (table .entry)) lo hi))) (wide - depth) key above) 0 (r .count) (now (out .entry)) (now (out .exit)) ⌝ }
+{
+    let mut first = [0usize; 63];
+    let mut end = [0usize; 63];
+    let present = gather(table, lo, hi, depth, key, &mut first, &mut end);
+    let hops = [0u8; 31];
+    let members = member_coverage(present);
+    let coverage = work[top];
+    let entries = entries_of(above, coverage, members.covered);
+    let under = members.children_under_member;
+    let pushed = push_l4(coverage);
+    let mut at = top + 1;
+    let mut n: usize = 0;
+    let mut c: usize = 0;
+    while c < 32 {
+        let slot = slot_key(key, depth, c);
+        let here = past(n, out.len());
+        n += emit_slot(entries, &hops, c, slot, depth, &mut out[here..]);
+        let from = first[31 + c];
+        let to = end[31 + c];
+        let gone = is_absorbed(above, under, pushed, c);
+        c += 1;
+        if from < to {
+            let here = past(n, out.len());
+            let child = aggregate_set(
+                table,
+                from,
+                to,
+                depth + 5,
+                slot,
+                gone,
+                work,
+                at,
+                &mut out[here..],
+            );
+            n += child.count;
+            at = child.top;
+        }
+    }
+    Walked { count: n, top: at }
+}

@@ -1,0 +1,2 @@
+-- The laws of tables.
+pub mod NodeCount

@@ -1,0 +1,2 @@
+-- The definitions of tables.
+pub mod Nodes

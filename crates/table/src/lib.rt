@@ -1,0 +1,1 @@
+// The table on the wire.

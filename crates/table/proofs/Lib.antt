@@ -1,2 +1,4 @@
--- The laws of tables.
+-- The laws of the table on the wire.
+pub mod Laws
+pub mod Judging
 pub mod NodeCount

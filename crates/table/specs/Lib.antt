@@ -1,2 +1,5 @@
--- The definitions of tables.
+-- The definitions of the table on the wire, in the order to read them: how refusals are decided, bytes and routes, what the calls answer.
+pub mod Rules
+pub mod Wire
+pub mod Calls
 pub mod Nodes

@@ -1,0 +1,67 @@
+-- Laws of judging a table by the rules 3 to 8, one record after another. Assumes nothing.
+use mathlib.Core.Path.{_≡_, refl, sym, ap, _∙_}
+use mathlib.Core.Bool.{Bool, true, false}
+use mathlib.Core.List.{List, [], _∷_, _++_}
+use Prim.Native.Nat.{ℕ, zero, suc, _+_, _-_, _/_, _%_, _≤_, _<_}
+use native.Mathlib.Numerals.{add-one}
+use native.Mathlib.Omega.{arith}
+use lib.Dec.{eqb, leb}
+use lib.ListN.{length}
+use borrow.Author.Tests.{eq-eqb, ne-eqb, le-leb, lt-leb}
+use Rattle.table.specs.Rules.{Rule, rule, Reply, gives, refuses, judge, broken}
+use Rattle.table.specs.Wire.{records, routeAt, hostClear, tailKept, inOrder, recordRules, rulesFrom, tableRules}
+
+-- ---- One record: rules 5 to 8 by the outcome of each.
+abbrev four : ℕ → Bool → Bool → Bool → Bool → List Rule
+four i p q r o = rule 5 i p ∷ rule 6 i q ∷ rule 7 i r ∷ rule 8 i o ∷ []
+
+four-kept : {A : Type 0} (i : ℕ) (rs : List Rule) (a : A) (p q r o : Bool) → broken (four i p q r o) ≡ 0
+    → judge (four i p q r o ++ rs) a ≡ judge rs a
+unfolding judge broken
+four-kept i rs a true true true true z = refl
+four-kept i rs a true true true false z = absurd (omega arith)
+four-kept i rs a true true false o z = absurd (omega arith)
+four-kept i rs a true false r o z = absurd (omega arith)
+four-kept i rs a false q r o z = absurd (omega arith)
+
+four-broken : {A : Type 0} (i : ℕ) (rs : List Rule) (a : A) (p q r o : Bool) → (broken (four i p q r o) ≡ 0 → ⊥)
+    → judge (four i p q r o ++ rs) a ≡ refuses (broken (four i p q r o)) i
+unfolding judge broken
+four-broken i rs a true true true true z = absurd (z refl)
+four-broken i rs a true true true false z = refl
+four-broken i rs a true true false o z = refl
+four-broken i rs a true false r o z = refl
+four-broken i rs a false q r o z = refl
+
+module _ {A : Type 0} (a : A) (s : Bool) (t : List ℕ) where
+  -- ---- The records that are left, from record i on.
+  pub scan-good : (i k : ℕ) → 0 < k → broken (recordRules s t i) ≡ 0 → judge (rulesFrom s t i k) a ≡ judge (rulesFrom s t (i + 1) (k - 1)) a
+  unfolding rulesFrom recordRules
+  scan-good i zero h z = absurd (omega arith)
+  scan-good i (suc k) h z =
+      let e : k ≡ suc k - 1 = omega arith in
+      four-kept i (rulesFrom s t (suc i) k) a (leb (routeAt t i .len) 32) (hostClear (routeAt t i)) (tailKept s t i) (inOrder t i) z
+      ∙ rw add-one (ap (λ (n : ℕ). judge (rulesFrom s t (suc i) n) a) e)
+
+  pub scan-bad : (i k : ℕ) → 0 < k → (broken (recordRules s t i) ≡ 0 → ⊥) → judge (rulesFrom s t i k) a ≡ refuses (broken (recordRules s t i)) i
+  unfolding rulesFrom recordRules
+  scan-bad i zero h n = absurd (omega arith)
+  scan-bad i (suc k) h n =
+      four-broken i (rulesFrom s t (suc i) k) a (leb (routeAt t i .len) 32) (hostClear (routeAt t i)) (tailKept s t i) (inOrder t i) n
+
+  pub scan-end : (i k : ℕ) → k ≡ 0 → judge (rulesFrom s t i k) a ≡ gives a
+  unfolding judge rulesFrom
+  scan-end i k e = rw e
+
+  -- ---- The whole table.
+  pub not-whole : (length t % 8 ≡ 0 → ⊥) → judge (tableRules s t) a ≡ refuses 3 0
+  unfolding judge tableRules
+  not-whole n = simp (ne-eqb (length t % 8) 0 n)
+
+  pub too-many : length t % 8 ≡ 0 → 1024 < records t → judge (tableRules s t) a ≡ refuses 4 0
+  unfolding judge tableRules
+  too-many e h = simp (eq-eqb (length t % 8) 0 e, lt-leb (records t) 1024 h)
+
+  pub is-scan : length t % 8 ≡ 0 → records t ≤ 1024 → judge (tableRules s t) a ≡ judge (rulesFrom s t 0 (records t)) a
+  unfolding judge tableRules
+  is-scan e h = simp (eq-eqb (length t % 8) 0 e, le-leb (records t) 1024 h)

@@ -1,0 +1,7 @@
+// What the calls answer. A refusal has document 01's number, and the record's index for numbers 5 to 8 (else 0).
+
+// Of a check: the number of records, or the refusal.
+pub enum Checked {
+    Valid(usize),
+    Refused { number: u8, index: usize },
+}

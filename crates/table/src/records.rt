@@ -1,0 +1,37 @@
+// One record of a table: reading its fields, and writing it whole.
+
+ghost use mathlib.Core.Path.{_≡_};
+ghost use Prim.Native.Nat.{_+_, _*_, _<_};
+ghost use Rattle.table.specs.Wire.{join, records, routeAt};
+
+// Four octets as a number, the first the most significant.
+pub fn join4(a: u8, b: u8, c: u8, d: u8) -> u32
+    ensures { λ r. ⌜ r ≡ join a b c d ⌝ }
+{
+    (((a as u32) * 256 + (b as u32)) * 256 + (c as u32)) * 256 + (d as u32)
+}
+
+// The address of record i.
+pub fn addr_at(table: &[u8], i: usize) -> u32
+    requires { ⌜ i < records (now table) ⌝ }
+    ensures { λ r. ⌜ r ≡ routeAt (now (table .entry)) i .addr ⌝ }
+{
+    let k = 8 * i;
+    join4(table[k], table[k + 1], table[k + 2], table[k + 3])
+}
+
+// The length of record i.
+pub fn len_at(table: &[u8], i: usize) -> u8
+    requires { ⌜ i < records (now table) ⌝ }
+    ensures { λ r. ⌜ r ≡ routeAt (now (table .entry)) i .len ⌝ }
+{
+    table[8 * i + 4]
+}
+
+// The hop of record i.
+pub fn hop_at(table: &[u8], i: usize) -> u8
+    requires { ⌜ i < records (now table) ⌝ }
+    ensures { λ r. ⌜ r ≡ routeAt (now (table .entry)) i .hop ⌝ }
+{
+    table[8 * i + 5]
+}

@@ -2,3 +2,4 @@
 pub mod Laws
 pub mod Judging
 pub mod NodeCount
+pub mod NodePass

@@ -1,7 +1,7 @@
 -- The nodes of a table: counted in one pass that compares each record with the one just before it; the most there can be; examples.
 use Prim.Native.Nat.{ℕ, zero, suc, _+_, _-_, _*_, _/_, _^_, _≤_, _<_}
 use mathlib.Core.Path.{_≡_, refl, sym, ap, ap₂, _∙_}
-use mathlib.Core.Bool.{Bool, true, false, cond, _||_, _&&_}
+use mathlib.Core.Bool.{Bool, true, false, cond, _||_, _&&_, and-false}
 use mathlib.Core.List.{List, [], _∷_}
 use mathlib.Core.Logic.{inl, inr}
 use native.Mathlib.Nat.{le-refl, le-antisymm, div-mul-le-self, lt-of-mul-lt-mul-right, mul-suc}
@@ -10,7 +10,7 @@ use lib.Pow.{pow-mono, shr-mono, shr-lt, shl-shr}
 use native.Mathlib.Decide.{decLt}
 use native.Mathlib.Omega.{arith}
 use lib.Dec.{leb, eqb}
-use borrow.Author.Tests.{le-leb, lt-leb, leb-true, leb-false, eq-eqb, eqb-true, eqb-false}
+use borrow.Author.Tests.{le-leb, lt-leb, leb-true, leb-false, eq-eqb, ne-eqb, eqb-true, eqb-false}
 use Rattle.theory.specs.Routes.{Route, Aligned, Valid, All, nil, cons, Before, Ascending, empty, first, Table}
 use Rattle.theory.proofs.Blocks.{aligned-down}
 use Rattle.theory.proofs.Lists.{all-map}
@@ -36,16 +36,24 @@ before-addr : (r s : Route) → Before r s → r .addr ≤ s .addr
 before-addr r s (inl a) = omega arith
 before-addr r s (inr a) = omega arith
 
--- The test `nodeAt`, and the two facts that it stands for.
-both-true : (m n x y : ℕ) → (leb m n && eqb x y) ≡ true → (m ≤ n) × (x ≡ y)
-both-true m n x y e = go (leb m n) refl e
-  where
-    go : (b : Bool) → leb m n ≡ b → (b && eqb x y) ≡ true → (m ≤ n) × (x ≡ y)
-    go true p q = (leb-true m n p, eqb-true x y q)
-    go false p q = let z : _≡_ {A = ℕ} 0 1 = cc in absurd (omega arith)
+-- What the test `nodeAt` says: s is long enough, and its address lies in the same block of that depth as x.
+pub node-held : (w m x : ℕ) (s : Route) → 5 * m ≤ s .len → s .addr / 2 ^ (w - 5 * m) ≡ x / 2 ^ (w - 5 * m) → nodeAt w m x s ≡ true
+node-held w m x s le e = rw (le-leb m (levels s) (omega arith), eq-eqb (s .addr / 2 ^ (w - 5 * m)) (x / 2 ^ (w - 5 * m)) e)
 
-true-both : (m n x y : ℕ) → m ≤ n → x ≡ y → (leb m n && eqb x y) ≡ true
-true-both m n x y le e = rw (le-leb m n le, eq-eqb x y e)
+pub node-short : (w m x : ℕ) (s : Route) → s .len < 5 * m → nodeAt w m x s ≡ false
+node-short w m x s lt = rw (lt-leb m (levels s) (omega arith))
+
+pub node-apart : (w m x : ℕ) (s : Route) → (s .addr / 2 ^ (w - 5 * m) ≡ x / 2 ^ (w - 5 * m) → ⊥) → nodeAt w m x s ≡ false
+node-apart w m x s ne =
+    ap (λ (b : Bool). leb m (levels s) && b) (ne-eqb (s .addr / 2 ^ (w - 5 * m)) (x / 2 ^ (w - 5 * m)) ne) ∙ and-false (leb m (levels s))
+
+pub node-true : (w m x : ℕ) (s : Route) → nodeAt w m x s ≡ true → (5 * m ≤ s .len) × (s .addr / 2 ^ (w - 5 * m) ≡ x / 2 ^ (w - 5 * m))
+node-true w m x s e = go (leb m (levels s)) refl e
+  where
+    go : (b : Bool) → leb m (levels s) ≡ b → (b && eqb (s .addr / 2 ^ (w - 5 * m)) (x / 2 ^ (w - 5 * m))) ≡ true
+        → (5 * m ≤ s .len) × (s .addr / 2 ^ (w - 5 * m) ≡ x / 2 ^ (w - 5 * m))
+    go true p q = (omega (arith, leb-true m (levels s) p), eqb-true (s .addr / 2 ^ (w - 5 * m)) (x / 2 ^ (w - 5 * m)) q)
+    go false p q = let z : _≡_ {A = ℕ} 0 1 = cc in absurd (omega arith)
 
 -- A record no longer than a depth stands at the start of its block there, since it has no host bits.
 at-start : (w d : ℕ) (p : Route) → Valid w p → p .len ≤ d → p .addr ≡ p .addr / 2 ^ (w - d) * 2 ^ (w - d)
@@ -56,18 +64,16 @@ at-start w d p v le =
 
 -- Of two records in order before r, where the first has a node that holds r, so has the second.
 between : (w m : ℕ) (s p r : Route) → Valid w p → Before s p → Before p r → nodeAt w m (r .addr) s ≡ true → nodeAt w m (r .addr) p ≡ true
-between w m s p r v b c e = true-both m (levels p) _ _ deep same
+between w m s p r v b c e = go (decLt (p .len) (5 * m))
   where
     k : ℕ
     k = w - 5 * m
 
-    shares : (m ≤ levels s) × (s .addr / 2 ^ k ≡ r .addr / 2 ^ k)
-    shares = both-true m (levels s) _ _ e
+    shares : (5 * m ≤ s .len) × (s .addr / 2 ^ k ≡ r .addr / 2 ^ k)
+    shares = node-true w m (r .addr) s e
 
     same : p .addr / 2 ^ k ≡ r .addr / 2 ^ k
-    same =
-        le-antisymm (shr-mono k (before-addr p r c))
-        (omega (arith, shr-mono k (before-addr s p b), shares .1))
+    same = le-antisymm (shr-mono k (before-addr p r c)) (omega (arith, shr-mono k (before-addr s p b), shares .1))
 
     start : p .len < 5 * m → p .addr ≤ s .addr
     start lt =
@@ -79,12 +85,9 @@ between w m s p r v b c e = true-both m (levels p) _ _ deep same
     short lt (inl d) = omega (arith, start lt)
     short lt (inr d) = omega (arith, shares .0)
 
-    go : Dec (p .len < 5 * m) → m ≤ levels p
+    go : Dec (p .len < 5 * m) → nodeAt w m (r .addr) p ≡ true
     go (yes lt) = absurd (short lt b)
-    go (no ge) = omega arith
-
-    deep : m ≤ levels p
-    deep = go (decLt (p .len) (5 * m))
+    go (no ge) = node-held w m (r .addr) p (omega arith) same
 
 -- Behind the record p, no earlier one has a node that holds r and that p has not.
 unseen : (w m : ℕ) (p r : Route) {earlier : List Route} → All (λ s. Before s p) earlier → Valid w p → Before p r → nodeAt w m (r .addr) p ≡ false

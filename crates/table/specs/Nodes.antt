@@ -33,6 +33,10 @@ brought w earlier (r ∷ t) = fresh w earlier (r .addr) (levels r) + brought w (
 unfoldable pub nodes : ℕ → List Route → ℕ
 nodes w t = 1 + brought w [] t
 
+-- A record by its address and length alone: nodes do not depend on the hop.
+abbrev pub bare : ℕ → ℕ → Route
+bare a l = record { addr = a; len = l; hop = 0 }
+
 -- The nodes that a record r brings beside those of one record p.
 abbrev pub newNodes : ℕ → Route → Route → ℕ
 newNodes w p r = fresh w (p ∷ []) (r .addr) (levels r)

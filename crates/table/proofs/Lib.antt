@@ -3,3 +3,6 @@ pub mod Laws
 pub mod Judging
 pub mod Reading
 pub mod Accepted
+pub mod Octets
+pub mod Written
+pub mod Tables

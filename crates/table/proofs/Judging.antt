@@ -11,8 +11,27 @@ use borrow.Author.Tests.{eq-eqb, ne-eqb, le-leb, lt-leb}
 use Rattle.table.specs.Rules.{Rule, rule, Reply, gives, refuses, judge, broken}
 use Rattle.table.specs.Wire.{records, routeAt, hostClear, tailKept, inOrder, recordRules, rulesFrom, tableRules}
 
+-- ---- Any list of rules: whether it refuses, and how, does not depend on the value.
+pub gives-any : {A B : Type 0} (rs : List Rule) (a c : A) (b : B) → judge rs a ≡ gives c → judge rs b ≡ gives b
+unfolding judge
+gives-any [] a c b e = refl
+gives-any (r ∷ rs) a c b e = go (r .kept) refl (gives-any rs a c b)
+  where
+    go : (k : Bool) → r .kept ≡ k → (judge rs a ≡ gives c → judge rs b ≡ gives b) → judge (r ∷ rs) b ≡ gives b
+    go true p more = rw p (more (rw p at e))
+    go false p more = let z : _≡_ {A = ℕ} 0 1 = cc (rw p at e) in absurd (omega arith)
+
+pub refuses-any : {A B : Type 0} (rs : List Rule) (a : A) (b : B) (n i : ℕ) → judge rs a ≡ refuses n i → judge rs b ≡ refuses n i
+unfolding judge
+refuses-any [] a b n i e = let z : _≡_ {A = ℕ} 0 1 = cc in absurd (omega arith)
+refuses-any (r ∷ rs) a b n i e = go (r .kept) refl (refuses-any rs a b n i)
+  where
+    go : (k : Bool) → r .kept ≡ k → (judge rs a ≡ refuses n i → judge rs b ≡ refuses n i) → judge (r ∷ rs) b ≡ refuses n i
+    go true p more = rw p (more (rw p at e))
+    go false p more = let f = rw p at e in rw p (cc)
+
 -- ---- One record: rules 5 to 8 by the outcome of each.
-abbrev four : ℕ → Bool → Bool → Bool → Bool → List Rule
+abbrev pub four : ℕ → Bool → Bool → Bool → Bool → List Rule
 four i p q r o = rule 5 i p ∷ rule 6 i q ∷ rule 7 i r ∷ rule 8 i o ∷ []
 
 four-kept : {A : Type 0} (i : ℕ) (rs : List Rule) (a : A) (p q r o : Bool) → broken (four i p q r o) ≡ 0

@@ -1,5 +1,10 @@
 -- The laws of the table on the wire.
 pub mod Laws
 pub mod Judging
+pub mod Reading
+pub mod Accepted
+pub mod Octets
+pub mod Written
+pub mod Tables
 pub mod NodeCount
 pub mod NodePass

@@ -15,6 +15,7 @@ use Rattle.theory.specs.Routes.{Route, Aligned, Valid, All, nil, cons, Before, 
 use Rattle.theory.proofs.Blocks.{aligned-down}
 use Rattle.theory.proofs.Lists.{all-map}
 use Rattle.table.specs.Nodes.{levels, nodeAt, seen, fresh, brought, nodes, newNodes}
+use Rattle.table.proofs.Tables.{before-trans}
 
 -- The record that stands before the first: it has no node but the root.
 abbrev pub root : Route
@@ -24,13 +25,6 @@ root = record { addr = 0; len = 0; hop = 0 }
 unfoldable pub passed : ℕ → Route → List Route → ℕ
 passed w p [] = 0
 passed w p (r ∷ t) = newNodes w p r + passed w r t
-
--- Table order is transitive.
-pub before-trans : (r s t : Route) → Before r s → Before s t → Before r t
-before-trans r s t (inl a) (inl b) = inl (omega arith)
-before-trans r s t (inl a) (inr b) = inl (omega arith)
-before-trans r s t (inr a) (inl b) = inl (omega arith)
-before-trans r s t (inr a) (inr b) = inr (a .0 ∙ b .0, omega arith)
 
 before-addr : (r s : Route) → Before r s → r .addr ≤ s .addr
 before-addr r s (inl a) = omega arith

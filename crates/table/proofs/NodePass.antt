@@ -3,12 +3,12 @@ use Prim.Native.Nat.{ℕ, zero, suc, _+_, _-_, _/_, _≤_, _<_}
 use mathlib.Core.Path.{_≡_, refl, sym, ap, ap₂, _∙_}
 use mathlib.Core.Bool.{Bool, true, false, cond, or-false}
 use mathlib.Core.List.{List, [], _∷_}
-use native.Mathlib.Nat.{sub-zero}
 use native.Mathlib.Numerals.{add-one}
 use native.Mathlib.Omega.{arith}
 use Rattle.theory.specs.Routes.{Route, Valid, All, cons, Table}
-use Rattle.table.specs.Wire.{routeAt, routesFrom, records, routes}
+use Rattle.table.specs.Wire.{routeAt, records, routes}
 use Rattle.table.specs.Nodes.{levels, nodeAt, seen, fresh, nodes, bare, newNodes}
+use Rattle.table.proofs.Reading.{rest, rest-end, rest-all, rest-step}
 use Rattle.table.proofs.NodeCount.{root, passed, nodes-pass}
 
 -- ---- One more depth of a record.
@@ -27,9 +27,8 @@ fresh-small w earlier x (suc m) = go (seen w (suc m) x earlier) (fresh-small w e
     go false ih = omega arith
 
 -- ---- One more record of a table.
-routes-next : (t : List ℕ) (n i : ℕ) → i < n → routesFrom t i (n - i) ≡ routeAt t i ∷ routesFrom t (i + 1) (n - (i + 1))
-unfolding routesFrom
-routes-next t n i lt = let e : n - i ≡ suc (n - (i + 1)) = omega arith in rw (e, add-one i)
+rest-next : (t : List ℕ) (i : ℕ) → i < records t → rest t i ≡ routeAt t i ∷ rest t (i + 1)
+rest-next t i lt = let e : i + 1 - 1 ≡ i = omega arith in rw e at (rest-step t (i + 1) (omega arith) (omega arith))
 
 -- The hop of the record before is of no account.
 fresh-bare : (w : ℕ) (p : Route) (x m : ℕ) → fresh w (p ∷ []) x m ≡ fresh w (bare (p .addr) (p .len) ∷ []) x m
@@ -44,36 +43,36 @@ passed-bare w p (r ∷ t) = ap (λ (n : ℕ). n + passed w r t) (fresh-bare w p 
 
 module _ (w : ℕ) (t : List ℕ) where
   -- Before the first record, and after the last.
-  pub pass-start : Table w (routes t)
-      → (1 + passed w root (routesFrom t 0 (records t - 0)) ≡ nodes w (routes t)) × All (Valid w) (routesFrom t 0 (records t - 0))
-  unfolding routes
-  pass-start v = rw (sub-zero (records t)) (sym (nodes-pass w v), v .valid)
+  pub pass-start : Table w (routes t) → (1 + passed w root (rest t 0) ≡ nodes w (routes t)) × All (Valid w) (rest t 0)
+  pass-start v = rw (rest-all t 0 refl) (sym (nodes-pass w v), v .valid)
 
-  pub pass-end : (p : Route) (n i : ℕ) → n ≤ i → passed w p (routesFrom t i (n - i)) ≡ 0
-  unfolding passed routesFrom
-  pass-end p n i le = let e : n - i ≡ 0 = omega arith in rw e
-
-module _ (w : ℕ) (t : List ℕ) (n i : ℕ) (lt : i < n) where
-  -- The records from record i on are record i and those after it.
-  pub pass-next : (p : Route) (a l count new total : ℕ) → a ≡ routeAt t i .addr → l ≡ routeAt t i .len → new ≡ newNodes w p (bare a l)
-      → count + passed w p (routesFrom t i (n - i)) ≡ total → count + new + passed w (bare a l) (routesFrom t (i + 1) (n - (i + 1))) ≡ total
+  pub pass-end : (p : Route) (i : ℕ) → i ≡ records t → passed w p (rest t i) ≡ 0
   unfolding passed
-  pass-next p a l count new total ea el en e =
-      let r : Route = routeAt t i in
-      let rest : List Route = routesFrom t (i + 1) (n - (i + 1)) in
-      let h : count + (newNodes w p r + passed w r rest) ≡ total = ap (λ (s : List Route). count + passed w p s) (sym (routes-next t n i lt)) ∙ e in
-      let f : new ≡ newNodes w p r = en ∙ ap₂ (λ (x k : ℕ). newNodes w p (bare x k)) ea el in
-      let g : passed w (bare a l) rest ≡ passed w r rest = ap₂ (λ (x k : ℕ). passed w (bare x k) rest) ea el ∙ sym (passed-bare w r rest) in
-      omega arith
+  pass-end p i e = rw (rest-end t i e)
 
-  pub valid-next : All (Valid w) (routesFrom t i (n - i)) → Valid w (routeAt t i) × All (Valid w) (routesFrom t (i + 1) (n - (i + 1)))
-  valid-next v = go (rw (routes-next t n i lt) at v)
-    where
-      go : {r : Route} {s : List Route} → All (Valid w) (r ∷ s) → Valid w r × All (Valid w) s
-      go (cons u us) = (u, us)
+  module _ (i : ℕ) (lt : i < records t) where
+    -- What the records from record i on bring is what record i brings and what those after it bring.
+    pub pass-next : (p : Route) (a l count new total : ℕ) → a ≡ routeAt t i .addr → l ≡ routeAt t i .len → new ≡ newNodes w p (bare a l)
+        → count + passed w p (rest t i) ≡ total → count + new + passed w (bare a l) (rest t (i + 1)) ≡ total
+    unfolding passed
+    pass-next p a l count new total ea el en e =
+        let r : Route = routeAt t i in
+        let h : count + (newNodes w p r + passed w r (rest t (i + 1))) ≡ total =
+        ap (λ (s : List Route). count + passed w p s) (sym (rest-next t i lt)) ∙ e in
+        let f : new ≡ newNodes w p r = en ∙ ap₂ (λ (x k : ℕ). newNodes w p (bare x k)) ea el in
+        let g : passed w (bare a l) (rest t (i + 1)) ≡ passed w r (rest t (i + 1)) =
+        ap₂ (λ (x k : ℕ). passed w (bare x k) (rest t (i + 1))) ea el ∙ sym (passed-bare w r (rest t (i + 1))) in
+        omega arith
 
-  pub len-small : (l : ℕ) → l ≡ routeAt t i .len → All (Valid w) (routesFrom t i (n - i)) → l ≤ w
-  len-small l e v = omega (arith, valid-next v .0 .short)
+    -- Record i is valid, and so are those after it: it brings a node at each of w / 5 depths at the most.
+    pub valid-next : All (Valid w) (rest t i) → Valid w (routeAt t i) × All (Valid w) (rest t (i + 1))
+    valid-next v = go (rw (rest-next t i lt) at v)
+      where
+        go : {r : Route} {s : List Route} → All (Valid w) (r ∷ s) → Valid w r × All (Valid w) s
+        go (cons u us) = (u, us)
 
-  pub new-small : (p : Route) (a l new : ℕ) → l ≡ routeAt t i .len → new ≡ newNodes w p (bare a l) → All (Valid w) (routesFrom t i (n - i)) → new ≤ w / 5
-  new-small p a l new el en v = omega (arith, fresh-small w (p ∷ []) a (l / 5), len-small l el v)
+    pub len-small : (l : ℕ) → l ≡ routeAt t i .len → All (Valid w) (rest t i) → l ≤ w
+    len-small l e v = omega (arith, valid-next v .0 .short)
+
+    pub new-small : (p : Route) (a l new : ℕ) → l ≡ routeAt t i .len → new ≡ newNodes w p (bare a l) → All (Valid w) (rest t i) → new ≤ w / 5
+    new-small p a l new el en v = omega (arith, fresh-small w (p ∷ []) a (l / 5), len-small l el v)

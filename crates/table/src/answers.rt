@@ -5,3 +5,16 @@ pub enum Checked {
     Valid(usize),
     Refused { number: u8, index: usize },
 }
+
+// Of a lookup: the longest match, that there is none, or the refusal.
+pub enum Lookup {
+    Route { hop: u8, length: u8 },
+    NoRoute,
+    Refused { number: u8, index: usize },
+}
+
+// Of addresses held: the sum, or the refusal.
+pub enum AddressesHeld {
+    Sum(u64),
+    Refused { number: u8, index: usize },
+}

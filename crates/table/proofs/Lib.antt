@@ -8,3 +8,4 @@ pub mod Written
 pub mod Tables
 pub mod NodeCount
 pub mod NodePass
+pub mod NodeRuns

@@ -1,7 +1,7 @@
 -- The nodes of a table: counted in one pass that compares each record with the one just before it; the most there can be; examples.
 use Prim.Native.Nat.{ℕ, zero, suc, _+_, _-_, _*_, _/_, _^_, _≤_, _<_}
 use mathlib.Core.Path.{_≡_, refl, sym, ap, ap₂, _∙_}
-use mathlib.Core.Bool.{Bool, true, false, cond, _||_, _&&_, and-false}
+use mathlib.Core.Bool.{Bool, true, false, cond, _||_, _&&_, and-false, and-eq-true-iff}
 use mathlib.Core.List.{List, [], _∷_}
 use mathlib.Core.Logic.{inl, inr}
 use native.Mathlib.Nat.{le-refl, le-antisymm, div-mul-le-self, lt-of-mul-lt-mul-right, mul-suc}
@@ -30,9 +30,16 @@ before-addr : (r s : Route) → Before r s → r .addr ≤ s .addr
 before-addr r s (inl a) = omega arith
 before-addr r s (inr a) = omega arith
 
+-- A test of an order and an equation, as those of nodes and blocks are.
+pub both-true : (m n x y : ℕ) → (leb m n && eqb x y) ≡ true → (m ≤ n) × (x ≡ y)
+both-true m n x y e = let b = and-eq-true-iff (leb m n) (eqb x y) .0 e in (leb-true m n (b .0), eqb-true x y (b .1))
+
+pub true-both : (m n x y : ℕ) → m ≤ n → x ≡ y → (leb m n && eqb x y) ≡ true
+true-both m n x y le e = rw (le-leb m n le, eq-eqb x y e)
+
 -- What the test `nodeAt` says: s is long enough, and its address lies in the same block of that depth as x.
 pub node-held : (w m x : ℕ) (s : Route) → 5 * m ≤ s .len → s .addr / 2 ^ (w - 5 * m) ≡ x / 2 ^ (w - 5 * m) → nodeAt w m x s ≡ true
-node-held w m x s le e = rw (le-leb m (levels s) (omega arith), eq-eqb (s .addr / 2 ^ (w - 5 * m)) (x / 2 ^ (w - 5 * m)) e)
+node-held w m x s le e = true-both m (levels s) _ _ (omega arith) e
 
 pub node-short : (w m x : ℕ) (s : Route) → s .len < 5 * m → nodeAt w m x s ≡ false
 node-short w m x s lt = rw (lt-leb m (levels s) (omega arith))
@@ -42,12 +49,9 @@ node-apart w m x s ne =
     ap (λ (b : Bool). leb m (levels s) && b) (ne-eqb (s .addr / 2 ^ (w - 5 * m)) (x / 2 ^ (w - 5 * m)) ne) ∙ and-false (leb m (levels s))
 
 pub node-true : (w m x : ℕ) (s : Route) → nodeAt w m x s ≡ true → (5 * m ≤ s .len) × (s .addr / 2 ^ (w - 5 * m) ≡ x / 2 ^ (w - 5 * m))
-node-true w m x s e = go (leb m (levels s)) refl e
-  where
-    go : (b : Bool) → leb m (levels s) ≡ b → (b && eqb (s .addr / 2 ^ (w - 5 * m)) (x / 2 ^ (w - 5 * m))) ≡ true
-        → (5 * m ≤ s .len) × (s .addr / 2 ^ (w - 5 * m) ≡ x / 2 ^ (w - 5 * m))
-    go true p q = (omega (arith, leb-true m (levels s) p), eqb-true (s .addr / 2 ^ (w - 5 * m)) (x / 2 ^ (w - 5 * m)) q)
-    go false p q = let z : _≡_ {A = ℕ} 0 1 = cc in absurd (omega arith)
+node-true w m x s e =
+    let b = both-true m (levels s) (s .addr / 2 ^ (w - 5 * m)) (x / 2 ^ (w - 5 * m)) e in
+    (omega arith, b .1)
 
 -- A record no longer than a depth stands at the start of its block there, since it has no host bits.
 at-start : (w d : ℕ) (p : Route) → Valid w p → p .len ≤ d → p .addr ≡ p .addr / 2 ^ (w - d) * 2 ^ (w - d)

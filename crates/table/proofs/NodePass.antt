@@ -6,10 +6,10 @@ use mathlib.Core.List.{List, [], _∷_}
 use native.Mathlib.Numerals.{add-one}
 use native.Mathlib.Omega.{arith}
 use Rattle.theory.specs.Routes.{Route, Valid, All, cons, Table}
-use Rattle.table.specs.Wire.{routeAt, records, routes}
 use Rattle.table.specs.Nodes.{levels, nodeAt, seen, fresh, nodes, bare, newNodes}
-use Rattle.table.proofs.Reading.{rest, rest-end, rest-all, rest-step}
+use Rattle.table.specs.Wire.{routeAt, records, routes}
 use Rattle.table.proofs.NodeCount.{root, passed, nodes-pass}
+use Rattle.table.proofs.Reading.{rest, rest-end, rest-all, rest-step}
 
 -- ---- One more depth of a record.
 pub fresh-next : (w : ℕ) (p : Route) (x m n one : ℕ) → n ≡ fresh w (p ∷ []) x m → one ≡ cond (nodeAt w (m + 1) x p) 0 1

@@ -6,3 +6,6 @@ pub mod Accepted
 pub mod Octets
 pub mod Written
 pub mod Tables
+pub mod Longest
+pub mod Calls
+pub mod Examples

@@ -150,12 +150,12 @@ table-accepted a s rs l =
       few = omega arith;
       each =
           λ i h.
-            let r = routeAt (bytesOf rs) i in
-            let ok : Valid 32 r = route-written rs v v i (omega arith) in
-            record {
-              length-kept = ok .short;
-              host-kept = ap (λ (a : ℕ). a % 2 ^ (32 - r .len)) (ok .clean .1) ∙ mul-mod-left (ok .clean .0) (2 ^ (32 - r .len));
-              tail-kept = tail-written s rs (l .hops) i (omega arith);
-              order-kept = order-written rs v (l .table .order) i (omega arith);
-            };
+          let r = routeAt (bytesOf rs) i in
+          let ok : Valid 32 r = route-written rs v v i (omega arith) in
+          record {
+            length-kept = ok .short;
+            host-kept = ap (λ (a : ℕ). a % 2 ^ (32 - r .len)) (ok .clean .1) ∙ mul-mod-left (ok .clean .0) (2 ^ (32 - r .len));
+            tail-kept = tail-written s rs (l .hops) i (omega arith);
+            order-kept = order-written rs v (l .table .order) i (omega arith);
+          };
     })

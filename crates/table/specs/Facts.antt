@@ -1,11 +1,12 @@
--- Rules 3 to 8 once more, as facts to read off a refusal: what a table keeps, and which refusal is the first in document 01's order.
+-- What the replies mean, as facts: what an accepted table keeps, which refusal is the first in document 01's order, what a longest match is.
+-- No contract cites these; theorems of proofs/ say that the replies are these facts.
 use Prim.{Unit}
 use Prim.Native.Nat.{ℕ, zero, suc, _-_, _%_, _^_, _≤_, _<_}
 use mathlib.Core.Path.{_≡_}
-use mathlib.Core.Bool.{Bool}
+use mathlib.Core.Bool.{Bool, true}
 use mathlib.Core.List.{List}
 use lib.ListN.{length}
-use Rattle.theory.specs.Routes.{Before}
+use Rattle.theory.specs.Routes.{Route, Before, Member, matches}
 use Rattle.table.specs.Wire.{byteAt, records, routeAt, topHop}
 
 -- ---- Of record i.
@@ -54,3 +55,14 @@ pub data Refused (isSet : Bool) (t : List ℕ) : ℕ → ℕ → Type 0 where
   three : (length t % 8 ≡ 0 → ⊥) → Refused isSet t 3 0
   four : length t % 8 ≡ 0 → 1024 < records t → Refused isSet t 4 0
   of-record : {n i : ℕ} → length t % 8 ≡ 0 → records t ≤ 1024 → i < records t → ((j : ℕ) → j < i → Kept isSet t j) → Breaks isSet t i n → Refused isSet t n i
+
+-- ---- Of a longest match.
+
+-- A route of length l and hop h of the list matches x, and no route of the list that matches is longer.
+pub record Longest (w : ℕ) (rs : List Route) (x l h : ℕ) : Type 0 where
+  pub route : Route
+  pub member : Member route rs
+  pub match : matches w route x ≡ true
+  pub length : route .len ≡ l
+  pub hop : route .hop ≡ h
+  pub longest : (r : Route) → Member r rs → matches w r x ≡ true → r .len ≤ l

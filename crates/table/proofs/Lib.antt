@@ -6,6 +6,10 @@ pub mod Accepted
 pub mod Octets
 pub mod Written
 pub mod Tables
+pub mod Longest
+pub mod Calls
+pub mod Examples
+pub mod Laid
 pub mod NodeCount
 pub mod NodePass
 pub mod NodeRuns

@@ -36,7 +36,7 @@ abbrev pub orNone : List Route → ℕ → ℕ
 orNone [] n = 0
 orNone (r ∷ t) n = n
 
--- f 0 + f 1 + .. up to n numbers.
+-- The sum of the n numbers f 0, f 1 and so on.
 unfoldable pub sumTo : (ℕ → ℕ) → ℕ → ℕ
 sumTo f zero = 0
 sumTo f (suc n) = sumTo f n + f n

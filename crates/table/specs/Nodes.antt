@@ -10,7 +10,7 @@ use Rattle.theory.specs.Routes.{Route}
 abbrev pub levels : Route → ℕ
 levels r = r .len / 5
 
--- Has s a node at depth 5 * m in which the address x lies: do their address bits up to that depth agree?
+-- Has s a node at depth 5 * m, and does the address x lie in it: do their address bits up to that depth agree?
 abbrev pub nodeAt : ℕ → ℕ → ℕ → Route → Bool
 nodeAt w m x s = leb m (levels s) && eqb (s .addr / 2 ^ (w - 5 * m)) (x / 2 ^ (w - 5 * m))
 

@@ -1,6 +1,6 @@
 -- The coverage sweeps, one law a step, over the level. Assumes nothing.
 use mathlib.Core.Path.{_≡_, refl, sym, ap, ap₂, _∙_, subst}
-use mathlib.Core.Bool.{Bool, false, cond, _&&_, _||_, and-false, or-true, or-false, and-or-distrib-right}
+use mathlib.Core.Bool.{Bool, true, false, cond, not, _&&_, _||_, and-true, and-false, or-true, or-false, and-or-distrib-right}
 use Prim.Native.Nat.{ℕ, zero, suc, _+_, _-_, _*_, _/_, _^_, _≤_, _<_}
 use native.Mathlib.Nat.{pow-suc}
 use native.Mathlib.Omega.{arith}
@@ -8,7 +8,7 @@ use lib.Dec.{eqb, ltb, leb, lit<, lit≤}
 use lib.Bits.{bitOr}
 use borrow.Author.Tests.{le-leb, lt-leb, lt-ltb, ne-eqb}
 use Rattle.words.specs.Bits.{bit}
-use Rattle.words.specs.Coverage.{UnderMembers, WhollyCovered, ParentCovered}
+use Rattle.words.specs.Coverage.{UnderMembers, WhollyCovered, ParentCovered, Kept}
 use Rattle.words.specs.Positions.{position, atLevel, first, member, under, whole}
 use Rattle.words.specs.Rules.{stray, Folded, Pushed, PushedSlots}
 use Rattle.words.proofs.BitLaws.{if-le, if-eq, bit-zero, bit-or}
@@ -161,8 +161,8 @@ under-end {d} {v} u s f = record { inside = inside; slot = slot; top = u .at 5 0
         (ap (bit (bitOr d v)) q ∙ bit-or d v (position 4 (c / 2)) ∙ ap (λ (t : Bool). member d 4 (c / 2) || t) (inside 4 (c / 2) (lit≤ tt) i)))
 
 -- With bit 31 of the members clear nothing strays: a slot is marked exactly when it stands below a member.
-pub slot-under : (d v s : ℕ) → bit d 31 ≡ false → UnderMembers d v s → (c : ℕ) → c < 32 → bit s c ≡ under d 5 c
-slot-under d v s z m c h = m .slot c h ∙ ap (λ (t : Bool). (eqb (c / 2) 8 && t) || under d 5 c) z ∙ ap (λ (t : Bool). t || under d 5 c) (and-false (eqb (c / 2) 8))
+pub slot-under : {d v s : ℕ} → bit d 31 ≡ false → UnderMembers d v s → (c : ℕ) → c < 32 → bit s c ≡ under d 5 c
+slot-under {d} {v} {s} z m c h = m .slot c h ∙ ap (λ (t : Bool). (eqb (c / 2) 8 && t) || under d 5 c) z ∙ ap (λ (t : Bool). t || under d 5 c) (and-false (eqb (c / 2) 8))
 
 -- ---- pushes of a word by itself: the positions below its own
 
@@ -204,3 +204,32 @@ parent-end {x} {r} p = record {
       ∙ ap (bit x) (above l j);
   top = p .at 5 0 (lit< tt) (lit< tt);
 }
+
+-- ---- the kept positions: wholly covered, the parent not, and below no member
+
+module _ {d cc v s c p : ℕ} (under-members : UnderMembers d v s) (covered : WhollyCovered d cc c) (parents : ParentCovered c p) (k : ℕ) (kept : Kept c p v k) where
+  -- At the root.
+  pub kept-root : bit k (position 0 0) ≡ whole d cc 5 0
+  unfolding under
+  kept-root =
+      kept 0 (lit< tt)
+      ∙ ap₂ (λ (a b : Bool). bit c 0 && not a && not b) (parents .root) (under-members .inside 0 0 (lit≤ tt) (lit< tt))
+      ∙ and-true (bit c 0 && true) ∙ and-true (bit c 0) ∙ covered .inside 0 0 (lit≤ tt) (lit< tt)
+
+  -- Below it.
+  pub kept-below : (l j : ℕ) → suc l ≤ 4 → j < 2 ^ suc l
+      → bit k (position (suc l) j) ≡ (whole d cc (4 - l) j && not (whole d cc (5 - l) (j / 2)) && not (under d (suc l) j))
+  kept-below l j h g =
+      let i : j / 2 < 2 ^ l = omega (arith, pow-suc 2 l) in
+      let e : 5 - suc l ≡ 4 - l = omega arith in
+      kept (position (suc l) j) (omega (arith, in-word (suc l) j h g))
+      ∙ ap₂ _&&_
+      (ap₂ (λ (a b : Bool). a && not b) (covered .inside (suc l) j h g ∙ ap (λ (m : ℕ). whole d cc m j) e)
+      (parents .below l j h g ∙ covered .inside l (j / 2) (omega arith) i))
+      (ap not (under-members .inside (suc l) j h g))
+
+  -- Bit 31 stays as it is in the members.
+  pub kept-top : bit k 31 ≡ bit d 31
+  kept-top =
+      kept 31 (lit< tt) ∙ ap₂ (λ (a b : Bool). bit c 31 && not a && not b) (parents .top) (under-members .top)
+      ∙ and-true (bit c 31 && true) ∙ and-true (bit c 31) ∙ covered .top

@@ -1,0 +1,3 @@
+-- What a rewrite and the cover query must answer, and what they leave in what they were lent.
+pub mod Rewriting
+pub mod Covering

@@ -1,0 +1,84 @@
+-- The statement of a rewrite: for every table, mode, default, output and room, what it answers and what stands in the output and the room then.
+use Prim.Native.Nat.{ℕ, _*_, _≤_, _<_}
+use mathlib.Core.Path.{_≡_}
+use mathlib.Core.Bool.{Bool, cond, not, _||_, _&&_}
+use mathlib.Core.List.{List, [], _∷_, _++_}
+use lib.Dec.{eqb, leb}
+use lib.IntN.{ℤ, pos, _-ℤ_}
+use lib.ListN.{length, drop, replicate}
+use Rattle.theory.specs.Routes.{Route}
+use Rattle.theory.specs.Results.{Mode, aggregateSet, aggregateConsistentSet, aggregateConsistentMap, aggregateMapDrop, aggregateMapFill, result, smallest}
+use Rattle.table.specs.Rules.{Rule, rule, Reply, gives, refuses, judge}
+use Rattle.table.specs.Wire.{records, routes, bytesOf, tableRules}
+use Rattle.table.specs.Nodes.{nodes}
+use Rattle.calls.specs.declared.Rewritten.{Rewritten}
+use Rattle.calls.specs.declared.Rewritten.the-variants.{Records, Refused}
+
+-- The mode of a number 1 to 5; 5 has the default.
+abbrev pub modeOf : ℕ → ℕ → Mode
+modeOf mode default =
+    cond (eqb mode 1) aggregateSet
+    (cond (eqb mode 2) aggregateConsistentSet
+    (cond (eqb mode 3) aggregateConsistentMap
+    (cond (eqb mode 4) aggregateMapDrop
+    (aggregateMapFill default))))
+
+-- The routes that the mode makes of a table's bytes, the smallest hop chosen.
+unfoldable pub resultOf : List ℕ → ℕ → ℕ → List Route
+resultOf t mode default = result smallest 32 (modeOf mode default) (routes t)
+
+-- Modes 1 and 2 take sets.
+abbrev pub takesSet : ℕ → Bool
+takesSet mode = leb mode 2
+
+-- Document 01's rules 1 to 8, 10 and 11, for an output of `room` bytes and a work room of `words` words.
+unfoldable pub rewriteRules : List ℕ → ℕ → ℕ → ℕ → ℕ → List Rule
+rewriteRules t mode default room words =
+    rule 1 0 (leb 1 mode && leb mode 5)
+    ∷ rule 2 0 (not (eqb mode 5) || leb default 63)
+    ∷ tableRules (takesSet mode) t
+    ++ (rule 10 0 (leb (160 * nodes 32 (routes t)) words) ∷ rule 11 0 (leb (8 * length (resultOf t mode default)) room) ∷ [])
+
+-- What a rewrite gives: the number of records, and the change, records out minus records in.
+pub record Written : Type 0 where
+  pub count : ℕ
+  pub change : ℤ
+
+-- The right reply: the routes of the result, or the refusal of the first rule that is broken.
+unfoldable pub rewriteReply : List ℕ → ℕ → ℕ → ℕ → ℕ → Reply (List Route)
+rewriteReply t mode default room words = judge (rewriteRules t mode default room words) (resultOf t mode default)
+
+-- What it is to say, of a table with so many records.
+abbrev pub writtenOf : ℕ → Reply (List Route) → Reply Written
+writtenOf before (gives rs) = gives (record { count = length rs; change = pos (length rs) -ℤ pos before })
+writtenOf before (refuses number index) = refuses number index
+
+-- What the output holds afterwards: the result's records from its start and the rest as it was, or all as it was.
+abbrev pub outputOf : List ℕ → Reply (List Route) → List ℕ
+outputOf o (gives rs) = bytesOf rs ++ drop (8 * length rs) o
+outputOf o (refuses number index) = o
+
+-- What an answer says.
+abbrev pub rewrittenSays : Rewritten → Reply Written
+rewrittenSays (Records count change) = gives (record { count = count; change = change })
+rewrittenSays (Refused number index) = refuses number index
+
+-- Its count and its change, both 0 in a refusal.
+abbrev pub countOf : Rewritten → ℕ
+countOf (Records count change) = count
+countOf (Refused number index) = 0
+
+abbrev pub changeOf : Rewritten → ℤ
+changeOf (Records count change) = change
+changeOf (Refused number index) = pos 0
+
+-- The statement, but for what becomes of the room: the table t, the output o and a room of so many words were lent, r was answered, and the
+-- output is o′ then.
+pub record RewritesIn (t : List ℕ) (mode default : ℕ) (o : List ℕ) (words : ℕ) (r : Rewritten) (o′ : List ℕ) : Type 0 where
+  pub answer : rewrittenSays r ≡ writtenOf (records t) (rewriteReply t mode default (length o) words)
+  pub output : o′ ≡ outputOf o (rewriteReply t mode default (length o) words)
+
+-- The whole statement: and the room is zero throughout.
+pub record Rewrites (t : List ℕ) (mode default : ℕ) (o : List ℕ) (words : ℕ) (r : Rewritten) (o′ work′ : List ℕ) : Type 0 where
+  pub inner : RewritesIn t mode default o words r o′
+  pub zero : work′ ≡ replicate words 0

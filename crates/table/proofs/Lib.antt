@@ -3,3 +3,9 @@ pub mod Laws
 pub mod Judging
 pub mod Reading
 pub mod Accepted
+pub mod Octets
+pub mod Written
+pub mod Tables
+pub mod Longest
+pub mod Calls
+pub mod Examples

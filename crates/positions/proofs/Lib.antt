@@ -1,2 +1,4 @@
 -- The laws of positions, runs and walks.
 pub mod Wide
+pub mod Runs
+pub mod RunsNode

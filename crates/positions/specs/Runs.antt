@@ -1,11 +1,12 @@
 -- The routes of a table at a position and inside it, and the hops that cover the positions of a node.
 -- A node (m + 5, a) has five levels of positions, position j of level l standing at (m + 5 - l, a + j * 2 ^ (m + 5 - l)), and 32 slots, its level 5.
 use Prim.Native.Nat.{ℕ, zero, suc, _+_, _-_, _*_, _/_, _^_}
-use mathlib.Core.Bool.{Bool, true, false, _&&_}
+use mathlib.Core.Bool.{Bool, false, _&&_, _||_}
 use mathlib.Core.List.{List, [], _∷_}
 use lib.Dec.{eqb, leb, ltb}
 use Rattle.theory.specs.Routes.{Route, Answer, none, via}
 use Rattle.theory.specs.Results.{part}
+use Rattle.theory.proofs.Routed.{routed}
 
 -- Does the route stand at the position: is it the position's own?
 abbrev pub isAt : ℕ → ℕ → ℕ → Route → Bool
@@ -44,3 +45,13 @@ placeAt m a l j = a + j * 2 ^ sizeAt m l
 unfoldable pub cover : ℕ → ℕ → ℕ → List Route → Answer → ℕ → ℕ → Answer
 cover w m a t g zero j = orElse (own w (sizeAt m zero) (placeAt m a zero j) t) g
 cover w m a t g (suc l) j = orElse (own w (sizeAt m (suc l)) (placeAt m a (suc l) j) t) (cover w m a t g l (j / 2))
+
+-- What covers position j of level l from above: the same without its own route.
+abbrev pub coverOver : ℕ → ℕ → ℕ → List Route → Answer → ℕ → ℕ → Answer
+coverOver w m a t g zero j = g
+coverOver w m a t g (suc l) j = cover w m a t g l (j / 2)
+
+-- Does a route of the node stand above position j of level l, its own left out?
+unfoldable pub memberOver : ℕ → ℕ → ℕ → List Route → ℕ → ℕ → Bool
+memberOver w m a t zero j = false
+memberOver w m a t (suc l) j = routed (own w (sizeAt m l) (placeAt m a l (j / 2)) t) || memberOver w m a t l (j / 2)

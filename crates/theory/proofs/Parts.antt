@@ -1,16 +1,16 @@
 -- A table taken apart by a test, and the longest match of the whole from those of the parts.
 use Prim.Native.Nat.{ℕ, suc, _+_, _-_, _≤_, _<_}
 use mathlib.Core.Path.{_≡_, refl, sym, ap, ap₂, _∙_}
-use mathlib.Core.Bool.{Bool, true, false, cond}
-use mathlib.Core.List.{List, [], _∷_}
-use mathlib.Core.Logic.{_↔_}
+use mathlib.Core.Bool.{Bool, true, false, cond, _||_}
+use mathlib.Core.List.{List, [], _∷_, _++_}
+use mathlib.Core.Logic.{_↔_, inl, inr}
 use native.Mathlib.Decide.{decLt}
 use native.Mathlib.Omega.{arith}
 use lib.Dec.{eqb}
 use lib.ListN.{length}
 use borrow.Author.Tests.{lt-ltb, le-ltb, eqb-true, eqb-false}
 use Rattle.theory.specs.Results.{part}
-use Rattle.theory.specs.Routes.{Route, matches, Match, miss, hit, longer, tried, lookup, Answer, under, All, nil, cons, Ascending, empty, first, Table, Member, head, later}
+use Rattle.theory.specs.Routes.{Route, matches, Match, miss, hit, longer, tried, lookup, Answer, under, All, nil, cons, Before, Ascending, empty, first, Table, Member, head, later}
 use Rattle.theory.proofs.Lists.{all-member, member-all}
 use Rattle.theory.proofs.Preserve.{Deep, longer-miss}
 use Rattle.theory.proofs.Routed.{Every, lookup-every}
@@ -198,3 +198,38 @@ part-swap p q (r ∷ t) = go (p r) refl (q r) refl (part-swap p q t)
 -- A part of a part, where whatever passes the first test passes the second.
 pub part-twice : (p q : Route → Bool) (t : List Route) → ((r : Route) → p r ≡ true → q r ≡ true) → part p (part q t) ≡ part p t
 part-twice p q t k = part-swap p q t ∙ part-whole q (part p t) (λ r m. k r (member-part p t .0 m .1))
+
+-- A part by a test that none pass is empty.
+pub part-none : (p : Route → Bool) (t : List Route) → ((r : Route) → Member r t → p r ≡ false) → part p t ≡ []
+part-none p [] k = refl
+part-none p (r ∷ t) k = rw (k r head) (part-none p t (λ s m. k s (later m)))
+
+-- Of two routes one at most stands before the other.
+not-both : (r s : Route) → Before r s → Before s r → ⊥
+not-both r s (inl p) (inl q) = omega arith
+not-both r s (inl p) (inr q) = omega arith
+not-both r s (inr p) (inl q) = omega arith
+not-both r s (inr p) (inr q) = omega arith
+
+-- Where each route that passes one test stands before each that passes another, those that pass either are those of the one, then those of the other.
+pub part-either : (p q : Route → Bool) {t : List Route} → ((r s : Route) → p r ≡ true → q s ≡ true → Before r s) → Ascending t
+    → part (λ r. p r || q r) t ≡ part p t ++ part q t
+part-either p q k empty = refl
+part-either p q k (first {r = r} {t = t} b o) = go (p r) refl (q r) refl (part-either p q k o)
+  where
+    either : Route → Bool
+    either s = p s || q s
+
+    none : q r ≡ true → part p t ≡ []
+    none e = part-none p t (λ s m. go (p s) refl m)
+      where
+        go : {s : Route} (c : Bool) → p s ≡ c → Member s t → c ≡ false
+        go {s} true f m = absurd (not-both r s (all-member b m) (k s r f e))
+        go false f m = refl
+
+    go : (c : Bool) → p r ≡ c → (d : Bool) → q r ≡ d → part either t ≡ part p t ++ part q t
+        → cond (c || d) (r ∷ part either t) (part either t) ≡ cond c (r ∷ part p t) (part p t) ++ cond d (r ∷ part q t) (part q t)
+    go true e true f ih = absurd (not-both r r (k r r e f) (k r r e f))
+    go true e false f ih = ap (λ (u : List Route). r ∷ u) ih
+    go false e true f ih = rw (ih, none f)
+    go false e false f ih = ih

@@ -6,7 +6,7 @@ use mathlib.Core.Logic.{_↔_, _⊎_, inl, inr}
 use native.Mathlib.Nat.{pow-suc, mul-div-cancel, div-lt-iff-lt-mul, eq-or-lt-of-le}
 use native.Mathlib.Decide.{decLt}
 use native.Mathlib.Omega.{arith}
-use lib.Dec.{eqb, ltb}
+use lib.Dec.{eqb}
 use lib.Pow.{pow-add, pow-mono}
 use borrow.Author.Tests.{lt-ltb, le-ltb}
 use Rattle.theory.specs.Results.{In}
@@ -84,6 +84,12 @@ index-lt depth l x deep le lt =
 -- A route's place in the heap of the node at this depth and key.
 unfoldable pub heapOf : ℕ → ℕ → Route → ℕ
 heapOf depth key r = position (levelOf (r .len) depth) ((r .addr - key) / 2 ^ sizeAt (slotSize depth) (levelOf (r .len) depth))
+
+-- As the code finds it, by the route's length, level and address.
+pub heap-is : (depth key : ℕ) (r : Route) (len level addr b : ℕ) → len ≡ r .len → level ≡ levelOf len depth → addr ≡ r .addr
+    → b ≡ position level ((addr - key) / 2 ^ sizeAt (slotSize depth) level) → b ≡ heapOf depth key r
+unfolding heapOf
+heap-is depth key r len level addr b p q e f = rw (f, q, p, e)
 
 module _ (depth key : ℕ) (deep : depth ≤ 30) (aligned : Aligned (wide - depth) key) where
   module _ (r : Route) (i : Within wide (wide - depth) key r) where

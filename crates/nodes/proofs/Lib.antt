@@ -1,3 +1,5 @@
 -- The laws of nodes.
 pub mod OutputLaws
 pub mod GatherPlaces
+pub mod GatherRuns
+pub mod GatherSteps

@@ -1,17 +1,15 @@
 -- `nodes::gather::heap_index` meets its contract. Assumes nothing.
-use Prim.Native.Nat.{ℕ, _+_, _-_, _*_, _/_, _%_, _^_, _≤_, _<_}
+use Prim.Native.Nat.{ℕ, _-_, _/_, _^_, _≤_, _<_}
 use mathlib.Core.Path.{_≡_, ap}
 use native.Mathlib.Omega.{arith}
 use lib.Pow.{pow-pos, pow-mono}
 use borrow.Author.Needs.{needs}
 use Rattle.table.proofs.Laws.{one-shl}
 use Rattle.positions.specs.Runs.{sizeAt}
-use Rattle.nodes.specs.Node.{wide, slotSize}
+use Rattle.nodes.specs.Node.{slotSize}
 use Rattle.nodes.proofs.GatherPlaces.{index-lt}
 use Rattle.nodes.proofs.gather.heap_index.Statement.{statement}
 use Rattle.nodes.proofs.gather.heap_index.Tie as tie
-use Rattle.nodes.proofs.gather.heap_index.Reads as reads
-use Rattle.nodes.proofs.gather.heap_index.Lts as lts
 
 sub-below : tie.Need-sub-below
 sub-below c = search needs

@@ -1,14 +1,12 @@
 -- `nodes::gather::slot_key` meets its contract. Assumes nothing.
-use Prim.Native.Nat.{ℕ, suc, _+_, _-_, _*_, _%_, _^_, _≤_, _<_}
-use mathlib.Core.Path.{_≡_, ap, _∙_}
+use Prim.Native.Nat.{ℕ, _+_, _-_, _*_, _%_, _^_, _≤_, _<_}
+use mathlib.Core.Path.{_≡_, ap}
 use native.Mathlib.Nat.{mul-le-mul-right, mod-eq-of-lt}
 use native.Mathlib.Omega.{arith}
-use lib.Pow.{pow-add, pow-mono}
+use lib.Pow.{pow-add}
 use borrow.Author.Needs.{needs}
 use Rattle.nodes.proofs.gather.slot_key.Statement.{statement}
 use Rattle.nodes.proofs.gather.slot_key.Tie as tie
-use Rattle.nodes.proofs.gather.slot_key.Reads as reads
-use Rattle.nodes.proofs.gather.slot_key.Lts as lts
 
 sub-result : tie.Need-sub-result
 sub-result c = search needs

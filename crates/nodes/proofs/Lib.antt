@@ -3,3 +3,4 @@ pub mod OutputLaws
 pub mod GatherPlaces
 pub mod GatherRuns
 pub mod GatherSteps
+pub mod GatherCovers

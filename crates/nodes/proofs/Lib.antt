@@ -1,0 +1,6 @@
+-- The laws of nodes.
+pub mod OutputLaws
+pub mod GatherPlaces
+pub mod GatherRuns
+pub mod GatherSteps
+pub mod GatherCovers

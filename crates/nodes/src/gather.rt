@@ -8,7 +8,7 @@ ghost use mathlib.Core.Path.{_≡_};
 ghost use Prim.Native.Nat.{ℕ, _+_, _-_, _*_, _/_, _^_, _≤_, _<_};
 ghost use lib.Dec.{eqb};
 ghost use mathlib.Core.Bool.{_||_};
-ghost use lib.ListN.{getD};
+ghost use lib.ListN.{length, getD};
 ghost use Rattle.table.specs.Wire.{records};
 ghost use Rattle.words.specs.Bits.{bit};
 ghost use Rattle.words.specs.Positions.{position};
@@ -82,6 +82,7 @@ pub fn gather(
     end: &mut [usize; 63],
 ) -> u32
     requires { ⌜ Node (now table) lo hi depth key ⌝ }
+    requires { ⌜ (length (now first) ≡ 63) × (length (now end) ≡ 63) ⌝ }
     requires { ⌜ ((b : ℕ) → b < 63 → (getD (now first) b 0 ≡ 0) × (getD (now end) b 0 ≡ 0)) ⌝ }
     ensures { λ r. ⌜ Gathered (now (table .entry)) lo hi depth key (now (first .exit)) (now (end .exit)) r ⌝ }
 {

@@ -1,0 +1,209 @@
+-- The places of a node's heap: each route of the node is filed at one of them, and in table order the routes of one place follow each other.
+use Prim.Native.Nat.{ℕ, suc, _+_, _-_, _*_, _/_, _^_, _≤_, _<_}
+use mathlib.Core.Path.{_≡_, refl, sym, ap, _∙_}
+use mathlib.Core.Bool.{Bool, true, false, cond}
+use mathlib.Core.Logic.{_↔_, _⊎_, inl, inr}
+use native.Mathlib.Nat.{pow-suc, mul-div-cancel, div-lt-iff-lt-mul, eq-or-lt-of-le}
+use native.Mathlib.Decide.{decLt}
+use native.Mathlib.Omega.{arith}
+use lib.Dec.{eqb}
+use lib.Pow.{pow-add, pow-mono}
+use borrow.Author.Tests.{lt-ltb, le-ltb}
+use Rattle.theory.specs.Results.{In}
+use Rattle.theory.specs.Routes.{Route, Aligned, Before}
+use Rattle.theory.proofs.Blocks.{pow-pos, in→block, block→in, same-start, aligned-down}
+use Rattle.theory.proofs.Preserve.{Within}
+use Rattle.words.specs.Positions.{position}
+use Rattle.words.proofs.BitLaws.{if-lt, if-eq}
+use Rattle.positions.specs.Runs.{isAt, isIn, sizeAt, placeAt}
+use Rattle.positions.proofs.Runs.{is-at, is-in}
+use Rattle.positions.proofs.RunsNode.{place-aligned}
+use Rattle.nodes.specs.Node.{wide, slotSize}
+use Rattle.nodes.specs.Gathered.{filed, levelOf}
+
+-- ---- Numbers of places.
+
+-- The 63 places, 31 positions and 32 slots, are numbered from 0 to 62.
+pub in-heap : (l j : ℕ) → l ≤ 5 → j < 2 ^ l → position l j < 63
+in-heap l j h g = let p : 2 ^ suc l ≤ 2 ^ 6 = pow-mono {i = suc l} {j = 6} (omega arith) in omega (arith, pow-suc 2 l)
+
+-- A place of a higher level has a smaller number.
+position-lt : (l j k i : ℕ) → j < 2 ^ l → l < k → position l j < position k i
+position-lt l j k i h lt = let p : 2 ^ suc l ≤ 2 ^ k = pow-mono {i = suc l} {j = k} lt in omega (arith, pow-suc 2 l, pow-pos l)
+
+-- The number of a place says its level and its index.
+pub same-position : (l j k i : ℕ) → j < 2 ^ l → i < 2 ^ k → position l j ≡ position k i → (l ≡ k) × (j ≡ i)
+same-position l j k i h g e = go (decLt l k) (decLt k l)
+  where
+    go : Dec (l < k) → Dec (k < l) → (l ≡ k) × (j ≡ i)
+    go (yes lt) d = absurd (omega (arith, position-lt l j k i h lt))
+    go (no ge) (yes lt) = absurd (omega (arith, position-lt k i l j g lt))
+    go (no ge) (no le) =
+        let q : l ≡ k = omega arith in
+        (q, omega (arith, ap (λ (n : ℕ). 2 ^ n) q))
+
+-- ---- Levels by length.
+
+module _ (len depth : ℕ) where
+  pub level-le : levelOf len depth ≤ 5
+  level-le = if-lt (λ (t : Bool). cond t (len - depth) 5 ≤ 5) len (depth + 5) (λ lt. omega arith) (λ ge. omega arith)
+
+  -- A length of a level above the slots is so many bits more than the depth.
+  pub level-len : (l : ℕ) → depth ≤ len → l < 5 → levelOf len depth ≡ l → len ≡ depth + l
+  level-len l low lt =
+      if-lt (λ (t : Bool). cond t (len - depth) 5 ≡ l → len ≡ depth + l) len (depth + 5) (λ a e. omega arith) (λ a e. omega arith)
+
+  -- A length of the slots is five bits more or longer.
+  pub level-slot : levelOf len depth ≡ 5 → depth + 5 ≤ len
+  level-slot = if-lt (λ (t : Bool). cond t (len - depth) 5 ≡ 5 → depth + 5 ≤ len) len (depth + 5) (λ a e. omega arith) (λ a e. a)
+
+  -- And the other way.
+  pub len-level : (l : ℕ) → l < 5 → len ≡ depth + l → levelOf len depth ≡ l
+  len-level l lt e = let h : len < depth + 5 = omega arith in rw (lt-ltb len (depth + 5) h) (omega arith)
+
+  pub slot-level : depth + 5 ≤ len → levelOf len depth ≡ 5
+  slot-level h = rw (le-ltb len (depth + 5) h)
+
+-- ---- Indices by address.
+
+-- The blocks of 2 ^ s addresses are numbered by division.
+index-in : (s j y : ℕ) → (y / 2 ^ s ≡ j) ↔ In s (j * 2 ^ s) y
+index-in s j y = (
+  λ e. block→in s (j * 2 ^ s) y (j, refl) (e ∙ sym (mul-div-cancel j (pow-pos s))),
+  λ i. in→block s (j * 2 ^ s) y (j, refl) i ∙ mul-div-cancel j (pow-pos s),
+)
+
+-- An address of a node at this depth has one of the indices of a level.
+pub index-lt : (depth l x : ℕ) → depth ≤ 30 → l ≤ 5 → x < 2 ^ (wide - depth) → x / 2 ^ sizeAt (slotSize depth) l < 2 ^ l
+index-lt depth l x deep le lt =
+    let e : wide - depth ≡ l + sizeAt (slotSize depth) l = omega arith in
+    div-lt-iff-lt-mul (pow-pos (sizeAt (slotSize depth) l)) .1 (rw (e, pow-add 2 l (sizeAt (slotSize depth) l)) at lt)
+
+-- ---- The place of a route.
+
+-- A route's place in the heap of the node at this depth and key.
+unfoldable pub heapOf : ℕ → ℕ → Route → ℕ
+heapOf depth key r = position (levelOf (r .len) depth) ((r .addr - key) / 2 ^ sizeAt (slotSize depth) (levelOf (r .len) depth))
+
+-- As the code finds it, by the route's length, level and address.
+pub heap-is : (depth key : ℕ) (r : Route) (len level addr b : ℕ) → len ≡ r .len → level ≡ levelOf len depth → addr ≡ r .addr
+    → b ≡ position level ((addr - key) / 2 ^ sizeAt (slotSize depth) level) → b ≡ heapOf depth key r
+unfolding heapOf
+heap-is depth key r len level addr b p q e f = rw (f, q, p, e)
+
+module _ (depth key : ℕ) (deep : depth ≤ 30) (aligned : Aligned (wide - depth) key) where
+  module _ (r : Route) (i : Within wide (wide - depth) key r) where
+    below : r .addr - key < 2 ^ (wide - depth)
+    below = omega (arith, i .low, i .high, pow-pos (wide - r .len))
+
+    -- Its place by level and index.
+    pub heap-level : (l j : ℕ) → j < 2 ^ l → heapOf depth key r ≡ position l j
+        → (levelOf (r .len) depth ≡ l) × ((r .addr - key) / 2 ^ sizeAt (slotSize depth) l ≡ j)
+    unfolding heapOf
+    heap-level l j lt e =
+        let z = same-position (levelOf (r .len) depth) _ l j (index-lt depth (levelOf (r .len) depth) (r .addr - key) deep (level-le (r .len) depth) below) lt e in
+        (z .0, ap (λ (k : ℕ). (r .addr - key) / 2 ^ sizeAt (slotSize depth) k) (sym (z .0)) ∙ z .1)
+
+    pub level-heap : (l j : ℕ) → levelOf (r .len) depth ≡ l → (r .addr - key) / 2 ^ sizeAt (slotSize depth) l ≡ j → heapOf depth key r ≡ position l j
+    unfolding heapOf
+    level-heap l j e q = rw (e, q)
+
+    -- It is one of the 63.
+    pub heap-lt : heapOf depth key r < 63
+    unfolding heapOf
+    heap-lt =
+        in-heap (levelOf (r .len) depth) _ (level-le (r .len) depth)
+        (index-lt depth (levelOf (r .len) depth) (r .addr - key) deep (level-le (r .len) depth) below)
+
+    -- At a level the address of a route lies in the position of its index.
+    place-in : (l j : ℕ) → ((r .addr - key) / 2 ^ sizeAt (slotSize depth) l ≡ j) ↔ In (sizeAt (slotSize depth) l) (placeAt (slotSize depth) key l j) (r .addr)
+    place-in l j = (
+      λ e. omega (arith, i .low, index-in (sizeAt (slotSize depth) l) j (r .addr - key) .0 e),
+      λ z. index-in (sizeAt (slotSize depth) l) j (r .addr - key) .1 (omega (arith, i .low)),
+    )
+
+    -- Above the slots it stands at that position.
+    place-at : (l j : ℕ) → l < 5 → levelOf (r .len) depth ≡ l → (r .addr - key) / 2 ^ sizeAt (slotSize depth) l ≡ j
+        → (r .len ≡ depth + l) × (r .addr ≡ placeAt (slotSize depth) key l j)
+    place-at l j lt e q =
+        let n : r .len ≡ depth + l = level-len (r .len) depth l (omega (arith, i .deep)) lt e in
+        let s : wide - r .len ≡ sizeAt (slotSize depth) l = omega arith in
+        let d : wide - depth ≡ slotSize depth + 5 = omega arith in (
+          n,
+          same-start (sizeAt (slotSize depth) l) (placeAt (slotSize depth) key l j) (r .addr)
+              (place-aligned (slotSize depth) key l j (rw d at aligned)) (rw s at (i .aligned)) (place-in l j .0 q),
+        )
+
+    -- So it is filed there, and nowhere else.
+    pub filed-heap : (l j : ℕ) → l ≤ 5 → j < 2 ^ l → filed (slotSize depth) key l j r ≡ eqb (heapOf depth key r) (position l j)
+    filed-heap l j le lt =
+        if-eq (λ (t : Bool). filed (slotSize depth) key l j r ≡ t) (heapOf depth key r) (position l j)
+        (λ e. let z = heap-level l j lt e in there (z .0) (z .1)) (λ ne. nowhere (filed (slotSize depth) key l j r) refl ne)
+      where
+        there : levelOf (r .len) depth ≡ l → (r .addr - key) / 2 ^ sizeAt (slotSize depth) l ≡ j → filed (slotSize depth) key l j r ≡ true
+        there e q =
+            if-lt (λ (t : Bool). cond t (isAt wide (sizeAt (slotSize depth) l) (placeAt (slotSize depth) key l j) r) (isIn wide (sizeAt (slotSize depth) l) (placeAt (slotSize depth) key l j) r) ≡ true) l 5
+            (λ a. let z = place-at l j a e q in is-at wide (sizeAt (slotSize depth) l) (placeAt (slotSize depth) key l j) r .1 (omega arith, z .1))
+            (λ a. let n : l ≡ 5 = omega arith in
+            let s : depth + 5 ≤ r .len = level-slot (r .len) depth (e ∙ n) in
+            is-in wide (sizeAt (slotSize depth) l) (placeAt (slotSize depth) key l j) r .1 (omega arith, place-in l j .0 q))
+
+        back : filed (slotSize depth) key l j r ≡ true → heapOf depth key r ≡ position l j
+        back =
+            if-lt (λ (t : Bool). cond t (isAt wide (sizeAt (slotSize depth) l) (placeAt (slotSize depth) key l j) r) (isIn wide (sizeAt (slotSize depth) l) (placeAt (slotSize depth) key l j) r) ≡ true → heapOf depth key r ≡ position l j) l 5
+            (λ a f. let z = is-at wide (sizeAt (slotSize depth) l) (placeAt (slotSize depth) key l j) r .0 f in
+            level-heap l j (len-level (r .len) depth l a (omega arith)) (place-in l j .1 (omega (arith, z, pow-pos (sizeAt (slotSize depth) l)))))
+            (λ a f. let z = is-in wide (sizeAt (slotSize depth) l) (placeAt (slotSize depth) key l j) r .0 f in
+            let n : l ≡ 5 = omega arith in
+            level-heap l j (slot-level (r .len) depth (omega arith) ∙ sym n) (place-in l j .1 (z .1)))
+
+        nowhere : (b : Bool) → filed (slotSize depth) key l j r ≡ b → (heapOf depth key r ≡ position l j → ⊥) → b ≡ false
+        nowhere true f ne = absurd (ne (back f))
+        nowhere false f ne = refl
+
+  -- A route that stands between two of one place, in table order, is of that place.
+  module _ (r s u : Route) (ri : Within wide (wide - depth) key r) (si : Within wide (wide - depth) key s) (ui : Within wide (wide - depth) key u)
+      (p : Before r s) (q : Before s u) where
+    -- Table order is by address first.
+    rising : (v x : Route) → Before v x → v .addr ≤ x .addr
+    rising v x (inl lt) = omega arith
+    rising v x (inr z) = omega arith
+
+    longer : (v x : Route) → Before v x → v .addr ≡ x .addr → v .len < x .len
+    longer v x (inl lt) f = absurd (omega arith)
+    longer v x (inr z) f = z .1
+
+    between : (l j : ℕ) → (l ≡ 5) ⊎ (l < 5) → levelOf (r .len) depth ≡ l → (r .addr - key) / 2 ^ sizeAt (slotSize depth) l ≡ j
+        → levelOf (u .len) depth ≡ l → (u .addr - key) / 2 ^ sizeAt (slotSize depth) l ≡ j → heapOf depth key s ≡ position l j
+    between l j (inl five) e f g h =
+        level-heap s si l j (slot-level (s .len) depth (long (decLt (s .len) (depth + 5))) ∙ sym five) (place-in s si l j .1 middle)
+      where
+        start : In (sizeAt (slotSize depth) l) (placeAt (slotSize depth) key l j) (r .addr)
+        start = place-in r ri l j .0 f
+
+        middle : In (sizeAt (slotSize depth) l) (placeAt (slotSize depth) key l j) (s .addr)
+        middle = omega (arith, start, place-in u ui l j .0 h, rising r s p, rising s u q)
+
+        -- A shorter one has no host bits, and so starts the slot, where it stands before all of the slot.
+        long : Dec (s .len < depth + 5) → depth + 5 ≤ s .len
+        long (no ge) = omega arith
+        long (yes lt) =
+            let d : wide - depth ≡ slotSize depth + 5 = omega arith in
+            let le : sizeAt (slotSize depth) l ≤ wide - s .len = omega arith in
+            let z : s .addr ≡ placeAt (slotSize depth) key l j =
+            same-start (sizeAt (slotSize depth) l) (placeAt (slotSize depth) key l j) (s .addr) (place-aligned (slotSize depth) key l j (rw d at aligned))
+            (aligned-down (sizeAt (slotSize depth) l) (wide - s .len) (s .addr) le (si .aligned)) middle in
+            let y : r .addr ≡ s .addr = omega (arith, start, rising r s p) in
+            absurd (omega (arith, longer r s p y, level-slot (r .len) depth (e ∙ five)))
+    between l j (inr lt) e f g h =
+        let a = place-at r ri l j lt e f in
+        let b = place-at u ui l j lt g h in
+        let y : r .addr ≡ s .addr = omega (arith, a, b, rising r s p, rising s u q) in
+        let z : s .addr ≡ u .addr = omega (arith, a, b, rising r s p, rising s u q) in
+        absurd (omega (arith, a, b, longer r s p y, longer s u q z))
+
+    pub heap-between : heapOf depth key u ≡ heapOf depth key r → heapOf depth key s ≡ heapOf depth key r
+    unfolding heapOf
+    heap-between e =
+        let z = heap-level u ui (levelOf (r .len) depth) _ (index-lt depth (levelOf (r .len) depth) (r .addr - key) deep (level-le (r .len) depth) (below r ri)) e in
+        between (levelOf (r .len) depth) _ (eq-or-lt-of-le (level-le (r .len) depth)) refl refl (z .0) (z .1)

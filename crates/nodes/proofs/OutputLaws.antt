@@ -1,0 +1,99 @@
+-- What is written of a node by parts: nothing, one record, one part after another, and a part lent as the output's tail; the whole at the end;
+-- the entries that begin at a slot as a walk has them; and how many records the slots of a node can have.
+use Prim.Native.Nat.{ℕ, zero, suc, _+_, _-_, _*_, _/_, _%_, _^_, _≤_, _<_}
+use mathlib.Core.Path.{_≡_, refl, sym, ap, ap₂, _∙_}
+use mathlib.Core.Bool.{Bool, true, false, cond}
+use mathlib.Core.List.{List, [], _∷_, _++_, append-assoc, append-nil}
+use native.Mathlib.Omega.{arith}
+use lib.ListN.{length, take, drop, length-append, length-take, length-drop, take-append-drop, drop-of-length-le}
+use lib.Seq.{length-take-le, take-all, take-at, drop-at, drop-drop, sets, sets-eq}
+use Rattle.theory.specs.Routes.{Route}
+use Rattle.positions.specs.Wide.{narrow, narrowed}
+use Rattle.table.specs.Wire.{recordOf, bytesOf}
+use Rattle.table.proofs.Written.{length-bytes}
+use Rattle.nodes.specs.Node.{spare}
+use Rattle.nodes.specs.Output.{wireOf, Wrote, routeOf}
+
+-- ---- The bytes of routes.
+
+length-narrowed : (rs : List Route) → length (narrowed spare rs) ≡ length rs
+length-narrowed [] = refl
+length-narrowed (r ∷ rs) = ap suc (length-narrowed rs)
+
+-- Each route has 8 bytes.
+pub length-wire : (rs : List Route) → length (wireOf rs) ≡ length rs * 8
+length-wire rs = omega (arith, length-bytes (narrowed spare rs), length-narrowed rs)
+
+-- The bytes of one part after another.
+pub wire-append : (x y : List Route) → wireOf (x ++ y) ≡ wireOf x ++ wireOf y
+unfolding bytesOf
+wire-append [] y = refl
+wire-append (r ∷ x) y = ap (λ (b : List ℕ). recordOf (narrow spare r) ++ b) (wire-append x y)
+
+-- The bytes of one route.
+pub wire-one : (r : Route) → wireOf (r ∷ []) ≡ recordOf (narrow spare r)
+unfolding bytesOf
+wire-one r = refl
+
+-- ---- Writing by parts.
+
+-- Nothing is written where there is nothing to write.
+pub wrote-none : (done : ℕ) (o : List ℕ) → Wrote [] done done o o
+unfolding bytesOf
+wrote-none done o = record { counted = omega arith; laid = λ fits. sym (take-append-drop (done * 8) o) }
+
+-- One part, and another after it.
+pub wrote-then : {x y : List Route} {d k m : ℕ} {o o₁ o₂ : List ℕ} → Wrote x d k o o₁ → Wrote y k m o₁ o₂ → length o₁ ≡ length o
+    → Wrote (x ++ y) d m o o₂
+wrote-then {x} {y} {d} {k} {m} {o} {o₁} {o₂} p q same = record {
+  counted = let a = p .counted in let b = q .counted in omega (arith, length-append x y);
+  laid = λ fits.
+      let a = p .counted in
+      let b = q .counted in
+      let e₁ : o₁ ≡ (take (d * 8) o ++ wireOf x) ++ drop (k * 8) o =
+      p .laid (omega arith) ∙ sym (append-assoc (take (d * 8) o) (wireOf x) (drop (k * 8) o)) in
+      let t : length (take (d * 8) o) ≡ d * 8 = length-take-le (d * 8) o (omega arith) in
+      let l : length (take (d * 8) o ++ wireOf x) ≡ k * 8 =
+      omega (arith, length-append (take (d * 8) o) (wireOf x), length-wire x) in
+      let f : take (k * 8) o₁ ≡ take (d * 8) o ++ wireOf x = ap (take (k * 8)) e₁ ∙ take-at (take (d * 8) o ++ wireOf x) (drop (k * 8) o) (k * 8) l in
+      let g : drop (m * 8) o₁ ≡ drop (m * 8) o =
+      let s : m * 8 ≡ k * 8 + length y * 8 = omega arith in
+      let u : drop (k * 8) o₁ ≡ drop (k * 8) o = ap (drop (k * 8)) e₁ ∙ drop-at (take (d * 8) o ++ wireOf x) (drop (k * 8) o) (k * 8) l in
+      rw s (sym (drop-drop (length y * 8) (k * 8) o₁) ∙ ap (drop (length y * 8)) u ∙ drop-drop (length y * 8) (k * 8) o) in
+      q .laid (omega arith) ∙ rw (f, g, wire-append x y) (simp append-assoc);
+}
+
+-- What a call that was lent the tail of the output from `at` on wrote there.
+pub wrote-tail : {rs : List Route} {done k : ℕ} (o ys : List ℕ) (at : ℕ) → (done * 8 ≤ length o → at ≡ done * 8) → at ≤ length o
+    → Wrote rs 0 k (take (length o - at) (drop at o)) ys
+    → Wrote rs done (done + k) o (take at o ++ (ys ++ drop (length o - at) (drop at o)))
+wrote-tail {rs} {done} {k} o ys at here within p = record {
+  counted = let a = p .counted in omega arith;
+  laid = λ fits.
+      let a = p .counted in
+      let s : at ≡ done * 8 = here (omega arith) in
+      let n : length (drop at o) ≡ length o - at = length-drop at o in
+      let w : take (length o - at) (drop at o) ≡ drop at o = take-all (length o - at) (drop at o) (omega arith) in
+      let z : drop (length o - at) (drop at o) ≡ [] = drop-of-length-le (drop at o) {i = length o - at} (omega arith) in
+      let room : k * 8 ≤ length (take (length o - at) (drop at o)) = rw w (omega arith) in
+      let y : ys ≡ wireOf rs ++ drop (k * 8) (drop at o) = p .laid room ∙ rw w in
+      let e : at + k * 8 ≡ (done + k) * 8 = omega arith in
+      rw (z, append-nil, y, drop-drop, e, s);
+}
+
+-- One record at the start of the output.
+pub wrote-record : (r : Route) (o : List ℕ) → 8 ≤ length o → Wrote (r ∷ []) 0 1 o (sets o 0 (recordOf (narrow spare r)))
+wrote-record r o long = record { counted = refl; laid = λ fits. rw (wire-one r) (sets-eq (recordOf (narrow spare r)) o 0 long) }
+
+-- Where there is no room for a record it is counted only.
+pub wrote-short : (r : Route) (o : List ℕ) → length o < 8 → Wrote (r ∷ []) 0 1 o o
+wrote-short r o short = record { counted = refl; laid = λ fits. absurd (omega arith) }
+
+-- All that is written, where it fits: the routes' bytes, and what stood after them.
+pub wrote-whole : {rs : List Route} {k : ℕ} {o o′ : List ℕ} → Wrote rs 0 k o o′ → k * 8 ≤ length o
+    → (o′ ≡ wireOf rs ++ drop (k * 8) o) × (k ≡ length rs)
+wrote-whole p fits = (p .laid fits, let a = p .counted in omega arith)
+
+-- How many were written, whatever room there was.
+pub wrote-count : {rs : List Route} {k : ℕ} {o o′ : List ℕ} → Wrote rs 0 k o o′ → k ≡ length rs
+wrote-count p = let a = p .counted in omega arith

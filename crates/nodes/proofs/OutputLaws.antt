@@ -5,14 +5,20 @@ use mathlib.Core.Path.{_≡_, refl, sym, ap, ap₂, _∙_}
 use mathlib.Core.Bool.{Bool, true, false, cond}
 use mathlib.Core.List.{List, [], _∷_, _++_, append-assoc, append-nil}
 use native.Mathlib.Omega.{arith}
-use lib.ListN.{length, take, drop, length-append, length-take, length-drop, take-append-drop, drop-of-length-le}
+use native.Mathlib.Nat.{pow-suc}
+use lib.Dec.{lit<, eqb}
+use lib.Pow.{pow-pos, pow-mono, shl-exact, shr-lt}
+use borrow.Author.Tests.{eq-eqb, ne-eqb}
+use lib.ListN.{length, getD, take, drop, length-append, length-take, length-drop, take-append-drop, drop-of-length-le}
 use lib.Seq.{length-take-le, take-all, take-at, drop-at, drop-drop, sets, sets-eq}
 use Rattle.theory.specs.Routes.{Route}
 use Rattle.positions.specs.Wide.{narrow, narrowed}
 use Rattle.table.specs.Wire.{recordOf, bytesOf}
+use Rattle.words.specs.Bits.{bit}
+use Rattle.words.specs.Positions.{position}
 use Rattle.table.proofs.Written.{length-bytes}
 use Rattle.nodes.specs.Node.{spare}
-use Rattle.nodes.specs.Output.{wireOf, Wrote, routeOf}
+use Rattle.nodes.specs.Output.{wireOf, Wrote, routeOf, slotHead}
 
 -- ---- The bytes of routes.
 
@@ -97,3 +103,39 @@ wrote-whole p fits = (p .laid fits, let a = p .counted in omega arith)
 -- How many were written, whatever room there was.
 pub wrote-count : {rs : List Route} {k : ℕ} {o o′ : List ℕ} → Wrote rs 0 k o o′ → k ≡ length rs
 wrote-count p = let a = p .counted in omega arith
+
+-- ---- The entry of the position of a level that begins at a slot.
+
+-- The code's `1 << k`.
+pub shifted-one : (k : ℕ) → k < 64 → 1 * 2 ^ k % 2 ^ 64 ≡ 2 ^ k
+shifted-one k h = let e : 1 * 2 ^ k ≡ 2 ^ k = omega arith in shl-exact {a = 1} 1 k 64 (lit< tt) (omega arith) ∙ e
+
+-- The number of the position of level l over slot c, as the code has it.
+pub index-is : (l c : ℕ) → l < 5 → (1 * 2 ^ l % 2 ^ 64 - 1) + c / 2 ^ (5 - l) ≡ position l (c / 2 ^ (5 - l))
+index-is l c h = rw (shifted-one l (omega arith))
+
+-- It is one of 31.
+pub index-lt : (l c : ℕ) → l < 5 → c < 32 → (1 * 2 ^ l % 2 ^ 64 - 1) + c / 2 ^ (5 - l) < 31
+index-lt l c h b =
+    let e : 32 ≡ 2 ^ (l + (5 - l)) = let s : l + (5 - l) ≡ 5 = omega arith in rw s in
+    let j : c / 2 ^ (5 - l) < 2 ^ l = shr-lt l (5 - l) (rw e at b) in
+    let m : 2 ^ suc l ≤ 2 ^ 5 = pow-mono h in
+    rw (index-is l c h) (omega (arith, pow-suc 2 l, pow-pos l))
+
+module _ (entries : ℕ) (hops : List ℕ) (depth addr c l : ℕ) (level : l < 5) where
+  -- No position of the level begins at the slot.
+  pub head-apart : (c % (1 * 2 ^ (5 - l) % 2 ^ 64) ≡ 0 → ⊥) → slotHead entries hops depth addr c l ≡ []
+  head-apart n = rw (ne-eqb (c % 2 ^ (5 - l)) 0 (rw (shifted-one (5 - l) (omega arith)) at n))
+
+  module _ (begins : c % (1 * 2 ^ (5 - l) % 2 ^ 64) ≡ 0) where
+    begins-here : eqb (c % 2 ^ (5 - l)) 0 ≡ true
+    begins-here = eq-eqb (c % 2 ^ (5 - l)) 0 (rw (shifted-one (5 - l) (omega arith)) at begins)
+
+    -- One does, and has no entry.
+    pub head-absent : bit entries ((1 * 2 ^ l % 2 ^ 64 - 1) + c / 2 ^ (5 - l)) ≡ false → slotHead entries hops depth addr c l ≡ []
+    head-absent e = rw (begins-here, rw (index-is l c level) at e)
+
+    -- One does, and has one.
+    pub head-entry : bit entries ((1 * 2 ^ l % 2 ^ 64 - 1) + c / 2 ^ (5 - l)) ≡ true
+        → slotHead entries hops depth addr c l ≡ routeOf addr (depth + l) (getD hops ((1 * 2 ^ l % 2 ^ 64 - 1) + c / 2 ^ (5 - l)) 0) ∷ []
+    head-entry e = rw (begins-here, rw (index-is l c level) at e, index-is l c level)

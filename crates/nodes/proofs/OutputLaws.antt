@@ -6,6 +6,7 @@ use mathlib.Core.Bool.{Bool, true, false, cond}
 use mathlib.Core.List.{List, [], _∷_, _++_, append-assoc, append-nil}
 use native.Mathlib.Omega.{arith}
 use native.Mathlib.Nat.{pow-suc}
+use native.Mathlib.Numerals.{add-one}
 use lib.Dec.{lit<, eqb}
 use lib.Pow.{pow-pos, pow-mono, shl-exact, shr-lt}
 use borrow.Author.Tests.{eq-eqb, ne-eqb}
@@ -18,7 +19,7 @@ use Rattle.words.specs.Bits.{bit}
 use Rattle.words.specs.Positions.{position}
 use Rattle.table.proofs.Written.{length-bytes}
 use Rattle.nodes.specs.Node.{spare}
-use Rattle.nodes.specs.Output.{wireOf, Wrote, routeOf, slotHead}
+use Rattle.nodes.specs.Output.{wireOf, Wrote, routeOf, slotHead, slotHeads}
 
 -- ---- The bytes of routes.
 
@@ -139,3 +140,17 @@ module _ (entries : ℕ) (hops : List ℕ) (depth addr c l : ℕ) (level : l < 5
     pub head-entry : bit entries ((1 * 2 ^ l % 2 ^ 64 - 1) + c / 2 ^ (5 - l)) ≡ true
         → slotHead entries hops depth addr c l ≡ routeOf addr (depth + l) (getD hops ((1 * 2 ^ l % 2 ^ 64 - 1) + c / 2 ^ (5 - l)) 0) ∷ []
     head-entry e = rw (begins-here, rw (index-is l c level) at e, index-is l c level)
+
+-- ---- The entries that begin at a slot, level by level.
+
+module _ (entries : ℕ) (hops : List ℕ) (depth addr c : ℕ) where
+  -- Of no level nothing is written.
+  pub heads-none : (o : List ℕ) → Wrote (slotHeads entries hops depth addr c 0) 0 0 o o
+  unfolding slotHeads
+  heads-none o = wrote-none 0 o
+
+  -- One level more.
+  pub heads-more : (l : ℕ) {n k : ℕ} {o o₁ o₂ : List ℕ} → Wrote (slotHeads entries hops depth addr c l) 0 n o o₁ → length o₁ ≡ length o
+      → Wrote (slotHead entries hops depth addr c l) n k o₁ o₂ → Wrote (slotHeads entries hops depth addr c (l + 1)) 0 k o o₂
+  unfolding slotHeads
+  heads-more l p same q = rw (add-one l) (wrote-then p q same)

@@ -5,21 +5,23 @@ use mathlib.Core.Path.{_≡_, refl, sym, ap, ap₂, _∙_}
 use mathlib.Core.Bool.{Bool, true, false, cond}
 use mathlib.Core.List.{List, [], _∷_, _++_, append-assoc, append-nil}
 use native.Mathlib.Omega.{arith}
-use native.Mathlib.Nat.{pow-suc}
+use native.Mathlib.Nat.{pow-suc, add-zero, add-mul, mul-comm, mul-assoc, div-add-mod'}
 use native.Mathlib.Numerals.{add-one}
 use lib.Dec.{lit<, eqb}
-use lib.Pow.{pow-pos, pow-mono, shl-exact, shr-lt}
-use borrow.Author.Tests.{eq-eqb, ne-eqb}
+use lib.Pow.{pow-pos, pow-mono, pow-add, shl-exact, shr-lt}
+use borrow.Author.Tests.{eq-eqb, ne-eqb, eqb-true}
 use lib.ListN.{length, getD, take, drop, length-append, length-take, length-drop, take-append-drop, drop-of-length-le}
 use lib.Seq.{length-take-le, take-all, take-at, drop-at, drop-drop, sets, sets-eq}
 use Rattle.theory.specs.Routes.{Route}
+use Rattle.positions.specs.Runs.{placeAt}
+use Rattle.positions.specs.Walk.{startsAt, heads}
 use Rattle.positions.specs.Wide.{narrow, narrowed}
 use Rattle.table.specs.Wire.{recordOf, bytesOf}
 use Rattle.words.specs.Bits.{bit}
 use Rattle.words.specs.Positions.{position}
 use Rattle.table.proofs.Written.{length-bytes}
-use Rattle.nodes.specs.Node.{spare}
-use Rattle.nodes.specs.Output.{wireOf, Wrote, routeOf, slotHead, slotHeads}
+use Rattle.nodes.specs.Node.{spare, slotSize}
+use Rattle.nodes.specs.Output.{wireOf, Wrote, routeOf, entryAt, slotHead, slotHeads}
 
 -- ---- The bytes of routes.
 
@@ -154,3 +156,40 @@ module _ (entries : ℕ) (hops : List ℕ) (depth addr c : ℕ) where
       → Wrote (slotHead entries hops depth addr c l) n k o₁ o₂ → Wrote (slotHeads entries hops depth addr c (l + 1)) 0 k o o₂
   unfolding slotHeads
   heads-more l p same q = rw (add-one l) (wrote-then p q same)
+
+-- ---- The entries that begin at a slot, as a walk by slots has them.
+
+-- Where a position of level l begins at slot c, it stands where the slot does.
+pub begins-at : (m key l c : ℕ) → c % 2 ^ (5 - l) ≡ 0 → placeAt m key 5 c ≡ placeAt m key l (c / 2 ^ (5 - l))
+begins-at m key l c z =
+    let q : c / 2 ^ (5 - l) * 2 ^ (5 - l) ≡ c = let s = div-add-mod' c (2 ^ (5 - l)) in omega arith in
+    let e : c * 2 ^ (m + 0) ≡ c / 2 ^ (5 - l) * 2 ^ (m + (5 - l)) =
+    rw (pow-add 2 m (5 - l), mul-comm (2 ^ m) (2 ^ (5 - l)), ← mul-assoc, q, add-zero m) in
+    ap (λ (n : ℕ). key + n) e
+
+module _ (entries : ℕ) (hops : List ℕ) (depth key c : ℕ) where
+  -- Of one level.
+  pub slot-head : (l : ℕ) → slotHead entries hops depth (placeAt (slotSize depth) key 5 c) c l ≡ startsAt (entryAt entries hops depth key) l c
+  slot-head l = go (eqb (c % 2 ^ (5 - l)) 0) refl
+    where
+      go : (b : Bool) → eqb (c % 2 ^ (5 - l)) 0 ≡ b
+          → slotHead entries hops depth (placeAt (slotSize depth) key 5 c) c l ≡ startsAt (entryAt entries hops depth key) l c
+      go true e = rw (e, begins-at (slotSize depth) key l c (eqb-true (c % 2 ^ (5 - l)) 0 e))
+      go false e = rw e
+
+  -- Of the first levels.
+  pub slot-heads : (l : ℕ)
+      → slotHeads entries hops depth (placeAt (slotSize depth) key 5 c) c l ≡ heads (entryAt entries hops depth key) l c
+  unfolding slotHeads heads
+  slot-heads zero = refl
+  slot-heads (suc l) = ap₂ _++_ (slot-heads l) (slot-head l)
+
+-- ---- How many records the slots of a node can have.
+
+-- With c slots of at most K - 1 records each, so with one slot more.
+pub slots-count : (K c n e k : ℕ) → n + c ≤ c * K → (e + k) + 1 ≤ K → (n + (e + k)) + (c + 1) ≤ (c + 1) * K
+slots-count K c n e k all one = let s : (c + 1) * K ≡ c * K + 1 * K = add-mul c 1 K in omega arith
+
+-- All 32 slots of a node, each of size m: 32 fewer than 8 for each address.
+pub node-count : (m n : ℕ) → n + 32 ≤ 32 * (8 * 2 ^ m) → n + 32 ≤ 8 * 2 ^ (m + 5)
+node-count m n h = let e : 2 ^ (m + 5) ≡ 2 ^ m * 32 = pow-add 2 m 5 in omega arith

@@ -1,2 +1,3 @@
 -- The laws of nodes.
 pub mod OutputLaws
+pub mod OutputLevels

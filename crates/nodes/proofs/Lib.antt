@@ -1,5 +1,6 @@
 -- The laws of nodes.
 pub mod OutputLaws
+pub mod OutputLevels
 pub mod GatherPlaces
 pub mod GatherRuns
 pub mod GatherSteps

@@ -16,7 +16,7 @@ use Rattle.table.specs.Wire.{recordOf, bytesOf, laid}
 use Rattle.table.proofs.Laid.{laid-none, laid-then, laid-tail, bytes-append}
 use Rattle.table.proofs.Written.{length-bytes}
 use Rattle.positions.specs.Runs.{placeAt}
-use Rattle.positions.specs.Walk.{startsAt, heads}
+use Rattle.positions.specs.Walk.{headsOf, startsAt, heads}
 use Rattle.positions.specs.Wide.{narrow, narrowed}
 use Rattle.positions.proofs.Wide.{narrowed-append, length-narrow}
 use Rattle.nodes.specs.Node.{spare, slotSize}
@@ -124,7 +124,7 @@ module _ (entries : ℕ) (hops : List ℕ) (depth key c : ℕ) where
   -- Of the first levels.
   pub slot-heads : (l : ℕ)
       → slotHeads entries hops depth (placeAt (slotSize depth) key 5 c) c l ≡ heads (entryAt entries hops depth key) l c
-  unfolding slotHeads heads
+  unfolding slotHeads headsOf
   slot-heads zero = refl
   slot-heads (suc l) = ap₂ _++_ (slot-heads l) (slot-head l)
 

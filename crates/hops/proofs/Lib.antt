@@ -1,0 +1,2 @@
+-- The laws of sets as words.
+pub mod SetLaws

@@ -1,7 +1,7 @@
 -- Candidate sets stand in ascending order, so the first hop is the smallest, and a lawful choice.
 use Prim.Native.Nat.{ℕ, zero, suc, _+_, _^_, _≤_, _<_}
-use mathlib.Core.Path.{_≡_, refl, sym}
-use mathlib.Core.Bool.{Bool, true, false, cond}
+use mathlib.Core.Path.{_≡_, refl, sym, ap₂, _∙_}
+use mathlib.Core.Bool.{Bool, true, false, true≢false, cond, _||_}
 use mathlib.Core.List.{List, [], _∷_}
 use mathlib.Core.Logic.{_⊎_, ⊎-elim}
 use native.Mathlib.Omega.{arith}
@@ -48,7 +48,7 @@ sorted-insert h (k ∷ s) p = go (ltb h k) refl (eqb h k) refl (sorted-insert h 
         above : k ≤ h → k < h
         above le = ⊎-elim (λ z. absurd (eqb-false h k q (sym z))) (λ lt. lt) (native.Mathlib.Nat.eq-or-lt-of-le le)
 
-sorted-union : (s t : List ℕ) → Sorted t → Sorted (union s t)
+pub sorted-union : (s t : List ℕ) → Sorted t → Sorted (union s t)
 sorted-union [] t p = p
 sorted-union (h ∷ s) t p = sorted-insert h (union s t) (sorted-union s t p)
 
@@ -60,7 +60,7 @@ above-common h (k ∷ s) t p = go (has k t) (above-common h s t (p .1))
     go true ih = (p .0, ih)
     go false ih = ih
 
-sorted-common : (s t : List ℕ) → Sorted s → Sorted (common s t)
+pub sorted-common : (s t : List ℕ) → Sorted s → Sorted (common s t)
 sorted-common [] t p = tt
 sorted-common (k ∷ s) t p = go (has k t) (sorted-common s t (p .1))
   where
@@ -90,11 +90,39 @@ unfolding sets
 sets-sorted f zero a = sorted-leaf (f a)
 sets-sorted f (suc n) a = sorted-combine (sets f n a) (sets f n (a + 2 ^ n)) (sets-sorted f n a) (sets-sorted f n (a + 2 ^ n))
 
+-- What is in a list that is above h is above h.
+pub above-has : (h : ℕ) (s : List ℕ) → Above h s → (k : ℕ) → has k s ≡ true → h < k
+above-has h [] p k e = let z : _≡_ {A = ℕ} 0 1 = cc in absurd (omega arith)
+above-has h (j ∷ s) p k e = ⊎-elim (λ q. omega (arith, eqb-true k j q)) (λ q. above-has h s (p .1) k q) (or-cases (eqb k j) (has k s) e)
+
 -- So the first hop is at most every other.
 pub smallest-least : (s : List ℕ) → Sorted s → (h : ℕ) → has h s ≡ true → smallest s ≤ h
 smallest-least [] p h e = omega arith
-smallest-least (k ∷ s) p h e = ⊎-elim (λ q. omega (arith, eqb-true h k q)) (λ q. go s (p .0) q) (or-cases (eqb h k) (has h s) e)
+smallest-least (k ∷ s) p h e =
+    ⊎-elim (λ q. omega (arith, eqb-true h k q)) (λ q. omega (arith, above-has k s (p .0) h q)) (or-cases (eqb h k) (has h s) e)
+
+-- Two ascending lists with the same members are equal: a set has one list.
+pub sorted-unique : (s t : List ℕ) → Sorted s → Sorted t → ((h : ℕ) → has h s ≡ has h t) → s ≡ t
+sorted-unique [] [] p q e = refl
+sorted-unique [] (k ∷ t) p q e = absurd (true≢false (sym (smallest-chooses k t) ∙ sym (e k)))
+sorted-unique (h ∷ s) [] p q e = absurd (true≢false (sym (smallest-chooses h s) ∙ e h))
+sorted-unique (h ∷ s) (k ∷ t) p q e =
+    let lower : h ≤ k = smallest-least (h ∷ s) p k (e k ∙ smallest-chooses k t) in
+    let upper : k ≤ h = smallest-least (k ∷ t) q h (sym (e h) ∙ smallest-chooses h s) in
+    let same : h ≡ k = omega arith in
+    ap₂ _∷_ same (sorted-unique s t (p .1) (q .1) (λ j. rest same j (eqb j k) refl))
   where
-    go : (s : List ℕ) → Above k s → has h s ≡ true → k ≤ h
-    go [] r q = let z : _≡_ {A = ℕ} 0 1 = cc in absurd (omega arith)
-    go (j ∷ s) r q = ⊎-elim (λ m. omega (arith, eqb-true h j m)) (λ m. go s (r .1) m) (or-cases (eqb h j) (has h s) q)
+    outside : (j : ℕ) (s : List ℕ) → Above j s → has j s ≡ false
+    outside j s r = go (has j s) refl
+      where
+        go : (b : Bool) → has j s ≡ b → has j s ≡ false
+        go true m = let lt : j < j = above-has j s r j m in absurd (omega arith)
+        go false m = m
+
+    rest : h ≡ k → (j : ℕ) (b : Bool) → eqb j k ≡ b → has j s ≡ has j t
+    rest same j true m =
+        let here : j ≡ k = eqb-true j k m in
+        rw here (outside k s (rw same at (p .0)) ∙ sym (outside k t (q .0)))
+    rest same j false m =
+        let both : (eqb j k || has j s) ≡ (eqb j k || has j t) = rw same at (e j) in
+        rw m at both

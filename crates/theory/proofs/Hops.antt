@@ -74,7 +74,7 @@ some-insert h (k ∷ s) = go (ltb h k) (eqb h k)
     go false true = tt
     go false false = tt
 
-some-union : (s t : List ℕ) → Some s → Some (union s t)
+pub some-union : (s t : List ℕ) → Some s → Some (union s t)
 some-union [] t p = absurd p
 some-union (h ∷ s) t p = some-insert h (union s t)
 
@@ -87,7 +87,7 @@ pub or-cases : (p q : Bool) → (p || q) ≡ true → (p ≡ true) ⊎ (q ≡ tr
 or-cases true q e = inl refl
 or-cases false q e = inr e
 
-and-left : (p q : Bool) → (p && q) ≡ true → p ≡ true
+pub and-left : (p q : Bool) → (p && q) ≡ true → p ≡ true
 and-left true q e = refl
 and-left false q e = e
 

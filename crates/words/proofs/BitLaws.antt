@@ -7,6 +7,7 @@ use native.Mathlib.Omega.{arith}
 use lib.Dec.{eqb, ltb, leb, lit<}
 use lib.Arith.{digits-mod}
 use lib.Pow.{pow-pos, pow-mono, pow-add, high, shr-shr, shl-shr, field, mod-mod-pow}
+use lib.Count.{trailingZeros, under}
 use lib.Bits.{bitAnd, bitOr, and-step, or-step, and-shr, or-shr, and-lt}
 use borrow.Author.Tests.{ltb-true, ltb-false, leb-true, leb-false, eqb-true, eqb-false, eq-eqb, ne-eqb}
 use Rattle.words.specs.Bits.{bit}
@@ -110,6 +111,10 @@ pub bit-shr : (x j k : ℕ) → bit (x / 2 ^ j) k ≡ bit x (j + k)
 unfolding bit
 bit-shr x j k = ap (λ (n : ℕ). eqb (n % 2) 1) (shr-shr x j k)
 
+-- Past the lowest bit stand those of the half.
+pub bit-half : (x k : ℕ) → bit x (suc k) ≡ bit (x / 2) k
+bit-half x k = let e : suc k ≡ 1 + k = omega arith in ap (bit x) e ∙ sym (bit-shr x 1 k)
+
 -- Past its width a word has no bit.
 pub bit-over : (w x k : ℕ) → x < 2 ^ w → w ≤ k → bit x k ≡ false
 unfolding bit
@@ -155,11 +160,7 @@ bit-not (suc w) x zero h l =
 bit-not (suc w) x (suc k) h l =
     let g : x / 2 < 2 ^ w = omega (arith, pow-suc 2 w) in
     let e : ((2 ^ suc w - 1) - x) / 2 ≡ (2 ^ w - 1) - x / 2 = omega (arith, pow-suc 2 w) in
-    ap (bit ((2 ^ suc w - 1) - x)) (sym (one-more k)) ∙ sym (bit-shr ((2 ^ suc w - 1) - x) 1 k) ∙ ap (λ (n : ℕ). bit n k) e
-    ∙ bit-not w (x / 2) k g (omega arith) ∙ ap not (bit-shr x 1 k ∙ ap (bit x) (one-more k))
-  where
-    one-more : (n : ℕ) → 1 + n ≡ suc n
-    one-more n = omega arith
+    bit-half ((2 ^ suc w - 1) - x) k ∙ ap (λ (n : ℕ). bit n k) e ∙ bit-not w (x / 2) k g (omega arith) ∙ ap not (sym (bit-half x k))
 
 -- The bits of `1 << k`.
 pub bit-one : (w k i : ℕ) → k < w → i < w → bit (1 * 2 ^ k % 2 ^ w) i ≡ eqb i k
@@ -221,3 +222,31 @@ bit-test w x k h l = go (bit x k) refl
         ap not
         (eq-eqb (bitAnd x (1 * 2 ^ k % 2 ^ w)) 0
         (same-bits w (and-lt w x (1 * 2 ^ k % 2 ^ w) h (mod-lt (1 * 2 ^ k) (pow-pos w))) (pow-pos w) (none e)))
+
+-- ---- the lowest set bit
+
+-- The count of zeros below the lowest set bit of a word that is not 0: that bit is set, and none below it.
+pub record LowestBit (w x k : ℕ) : Type 0 where
+  pub inside : k < w
+  pub isSet : bit x k ≡ true
+  pub clear : (i : ℕ) → i < k → bit x i ≡ false
+
+pub trailing-lowest : (w x : ℕ) → 0 < x → x < 2 ^ w → LowestBit w x (trailingZeros w x)
+unfolding trailingZeros bit
+trailing-lowest zero x p h = absurd (omega arith)
+trailing-lowest (suc w) x p h = go (x % 2) refl (λ (q : 0 < x / 2). trailing-lowest w (x / 2) q (omega (arith, pow-suc 2 w)))
+  where
+    low : (r : ℕ) → x % 2 ≡ r → bit x 0 ≡ eqb r 1
+    low r e = let z : x / 1 % 2 ≡ r = omega arith in ap (λ (n : ℕ). eqb n 1) z
+
+    go : (r : ℕ) → x % 2 ≡ r → (0 < x / 2 → LowestBit w (x / 2) (trailingZeros w (x / 2))) → LowestBit (suc w) x (under r (trailingZeros w (x / 2)))
+    go zero e rest =
+        let half : LowestBit w (x / 2) (trailingZeros w (x / 2)) = rest (omega arith) in
+        record { inside = omega (arith, half .inside); isSet = bit-half x (trailingZeros w (x / 2)) ∙ half .isSet; clear = below half }
+      where
+        below : LowestBit w (x / 2) (trailingZeros w (x / 2)) → (i : ℕ) → i < suc (trailingZeros w (x / 2)) → bit x i ≡ false
+        below half zero l = low 0 e
+        below half (suc i) l = bit-half x i ∙ half .clear i (omega arith)
+    go (suc r) e rest =
+        let one : x % 2 ≡ 1 = omega arith in
+        record { inside = omega arith; isSet = low 1 one; clear = λ i l. absurd (omega arith) }

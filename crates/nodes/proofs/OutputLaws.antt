@@ -35,15 +35,17 @@ wire-append x y = ap bytesOf (narrowed-append spare x y) ∙ bytes-append (narro
 
 -- ---- Writing by parts.
 
--- What is written, as the table's own laws on laying bytes have it.
+-- The bytes that `Wrote` names are laid as the table's own laws have it.
 laid-is : (rs : List Route) (done k : ℕ) (o : List ℕ) → k ≡ done + length rs
     → take (done * 8) o ++ (wireOf rs ++ drop (k * 8) o) ≡ laid (done * 8) (wireOf rs) o
 unfolding laid
 laid-is rs done k o e = let s : k * 8 ≡ done * 8 + length (wireOf rs) = omega (arith, length-wire rs) in rw s
 
+-- So is what was written, where it fits,
 pub wrote-laid : {rs : List Route} {done k : ℕ} {o o′ : List ℕ} → Wrote rs done k o o′ → k * 8 ≤ length o → o′ ≡ laid (done * 8) (wireOf rs) o
 wrote-laid {rs} {done} {k} {o} p fits = p .laid fits ∙ laid-is rs done k o (p .counted)
 
+-- and what is laid so was written.
 pub wrote-from : {rs : List Route} {done k : ℕ} {o o′ : List ℕ} → k ≡ done + length rs
     → (k * 8 ≤ length o → o′ ≡ laid (done * 8) (wireOf rs) o) → Wrote rs done k o o′
 wrote-from {rs} {done} {k} {o} e f = record { counted = e; laid = λ fits. f fits ∙ sym (laid-is rs done k o e) }

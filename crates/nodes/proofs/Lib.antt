@@ -1,3 +1,3 @@
 -- The laws of nodes.
-pub mod OutputLaws
 pub mod OutputLevels
+pub mod OutputLaws

@@ -1,5 +1,4 @@
-// What a table's members cover, node by node: the cover query, and modes 1, 2 and 3.
+// What the members of a set cover, node by node: the cover query, and mode 1.
 
-pub mod maps;
+pub mod maximal;
 pub mod query;
-pub mod sets;

@@ -5,10 +5,11 @@ use mathlib.Core.Path.{_≡_, refl, sym, ap, ap₂, _∙_}
 use mathlib.Core.Bool.{Bool, true, false}
 use mathlib.Core.List.{List, [], _∷_, _++_, append-nil}
 use native.Mathlib.Omega.{arith}
-use native.Mathlib.Nat.{add-zero, add-mul, mul-comm, mul-assoc, div-add-mod'}
+use native.Mathlib.Nat.{add-zero, add-mul, mul-comm, mul-assoc, mul-le-mul-right, mul-lt-mul-of-pos-right, div-add-mod'}
+use native.Mathlib.Numerals.{add-one}
 use lib.Dec.{eqb}
 use lib.ListN.{length, take, drop, length-append, length-drop, drop-of-length-le}
-use lib.Pow.{pow-add}
+use lib.Pow.{pow-pos, pow-add, pow-mono}
 use lib.Seq.{take-all}
 use borrow.Author.Tests.{eqb-true}
 use Rattle.theory.specs.Routes.{Route}
@@ -16,10 +17,10 @@ use Rattle.table.specs.Wire.{recordOf, bytesOf, laid}
 use Rattle.table.proofs.Laid.{laid-none, laid-then, laid-tail, bytes-append}
 use Rattle.table.proofs.Written.{length-bytes}
 use Rattle.positions.specs.Runs.{placeAt}
-use Rattle.positions.specs.Walk.{headsOf, startsAt, heads}
+use Rattle.positions.specs.Walk.{headsOf, slotsOf, startsAt, heads, slots}
 use Rattle.positions.specs.Wide.{narrow, narrowed}
 use Rattle.positions.proofs.Wide.{narrowed-append, length-narrow}
-use Rattle.nodes.specs.Node.{spare, slotSize}
+use Rattle.nodes.specs.Node.{wide, spare, slotSize}
 use Rattle.nodes.specs.Output.{wireOf, Wrote, entryAt, slotHead, slotHeads}
 
 -- ---- The bytes of routes.
@@ -34,15 +35,17 @@ wire-append x y = ap bytesOf (narrowed-append spare x y) ∙ bytes-append (narro
 
 -- ---- Writing by parts.
 
--- What is written, as the table's own laws on laying bytes have it.
+-- The bytes that `Wrote` names are laid as the table's own laws have it.
 laid-is : (rs : List Route) (done k : ℕ) (o : List ℕ) → k ≡ done + length rs
     → take (done * 8) o ++ (wireOf rs ++ drop (k * 8) o) ≡ laid (done * 8) (wireOf rs) o
 unfolding laid
 laid-is rs done k o e = let s : k * 8 ≡ done * 8 + length (wireOf rs) = omega (arith, length-wire rs) in rw s
 
+-- So is what was written, where it fits,
 pub wrote-laid : {rs : List Route} {done k : ℕ} {o o′ : List ℕ} → Wrote rs done k o o′ → k * 8 ≤ length o → o′ ≡ laid (done * 8) (wireOf rs) o
 wrote-laid {rs} {done} {k} {o} p fits = p .laid fits ∙ laid-is rs done k o (p .counted)
 
+-- and what is laid so was written.
 pub wrote-from : {rs : List Route} {done k : ℕ} {o o′ : List ℕ} → k ≡ done + length rs
     → (k * 8 ≤ length o → o′ ≡ laid (done * 8) (wireOf rs) o) → Wrote rs done k o o′
 wrote-from {rs} {done} {k} {o} e f = record { counted = e; laid = λ fits. f fits ∙ sym (laid-is rs done k o e) }
@@ -76,12 +79,6 @@ wrote-tail {rs} {done} {k} o ys at here within p =
     let z : drop (length o - at) (drop at o) ≡ [] = drop-of-length-le (drop at o) {i = length o - at} (omega arith) in
     let y : ys ≡ laid 0 (wireOf rs) (drop at o) = wrote-laid p (rw w (omega arith)) ∙ rw w in
     rw (z, append-nil, y) (laid-tail at 0 (wireOf rs) o ∙ rw (add-zero at, s)))
-
--- One part at the start of what is left, after another.
-pub wrote-next : {x y : List Route} {n k : ℕ} {o o₁ : List ℕ} (ys : List ℕ) (at : ℕ) → Wrote x 0 n o o₁ → length o₁ ≡ length o
-    → (n * 8 ≤ length o₁ → at ≡ n * 8) → at ≤ length o₁ → Wrote y 0 k (take (length o₁ - at) (drop at o₁)) ys
-    → Wrote (x ++ y) 0 (n + k) o (take at o₁ ++ (ys ++ drop (length o₁ - at) (drop at o₁)))
-wrote-next {o₁ = o₁} ys at p same here within q = wrote-then p (wrote-tail o₁ ys at here within q) same
 
 -- One record at the start of the output.
 pub wrote-record : (r : Route) (o o′ : List ℕ) → o′ ≡ laid 0 (recordOf (narrow spare r)) o → Wrote (r ∷ []) 0 1 o o′
@@ -128,6 +125,14 @@ module _ (entries : ℕ) (hops : List ℕ) (depth key c : ℕ) where
   slot-heads zero = refl
   slot-heads (suc l) = ap₂ _++_ (slot-heads l) (slot-head l)
 
+-- A slot of a node stands at a wide address.
+pub slot-below : (depth key c : ℕ) → depth ≤ 30 → c < 32 → key + 2 ^ (wide - depth) ≤ 2 ^ wide → placeAt (slotSize depth) key 5 c < 2 ^ wide
+slot-below depth key c deep b h =
+    let s : wide - depth ≡ slotSize depth + 5 = omega arith in
+    let e : 2 ^ (wide - depth) ≡ 2 ^ slotSize depth * 32 = rw s (pow-add 2 (slotSize depth) 5) in
+    let l : c * 2 ^ slotSize depth < 32 * 2 ^ slotSize depth = mul-lt-mul-of-pos-right b (pow-pos (slotSize depth)) in
+    rw (add-zero (slotSize depth)) (omega arith)
+
 -- ---- How many records the slots of a node can have.
 
 -- With c slots of at most K - 1 records each, so with one slot more.
@@ -137,3 +142,26 @@ slots-count K c n e k all one = let s : (c + 1) * K ≡ c * K + 1 * K = add-mul 
 -- All 32 slots of a node, each of size m: 32 fewer than 8 for each address.
 pub node-count : (m n : ℕ) → n + 32 ≤ 32 * (8 * 2 ^ m) → n + 32 ≤ 8 * 2 ^ (m + 5)
 node-count m n h = let e : 2 ^ (m + 5) ≡ 2 ^ m * 32 = pow-add 2 m 5 in omega arith
+
+-- After any of its slots there are few enough to count.
+pub slots-small : (m c n : ℕ) → m ≤ 30 → c ≤ 32 → n + c ≤ c * (8 * 2 ^ m) → n + c ≤ 2 ^ 38
+slots-small m c n h b all =
+    let one : 2 ^ m ≤ 2 ^ 30 = pow-mono h in
+    let more : c * (8 * 2 ^ m) ≤ 32 * (8 * 2 ^ m) = mul-le-mul-right (8 * 2 ^ m) b in
+    omega arith
+
+-- ---- A node written by its slots.
+
+-- Of no slot there is nothing to write.
+pub slots-zero : (entry : ℕ → ℕ → List Route) (slot : ℕ → List Route) → slots entry slot 0 ≡ []
+unfolding slotsOf
+slots-zero entry slot = refl
+
+-- One slot more: the entries that begin there, and then its own.
+pub slots-more : (entries : ℕ) (hops : List ℕ) (depth key : ℕ) (slot : ℕ → List Route) (c : ℕ) {n e k : ℕ} {o o₁ o₂ o₃ : List ℕ}
+    → Wrote (slots (entryAt entries hops depth key) slot c) 0 n o o₁ → length o₁ ≡ length o
+    → Wrote (slotHeads entries hops depth (placeAt (slotSize depth) key 5 c) c 5) n e o₁ o₂ → length o₂ ≡ length o₁ → Wrote (slot c) e k o₂ o₃
+    → Wrote (slots (entryAt entries hops depth key) slot (c + 1)) 0 k o o₃
+unfolding slotsOf
+slots-more entries hops depth key slot c p same q same′ r =
+    rw (add-one c, ← slot-heads entries hops depth key c 5) (wrote-then p (wrote-then q r same′) same)

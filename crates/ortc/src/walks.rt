@@ -157,7 +157,7 @@ pub struct Assigned {
 
 // Assigns hops to a node's positions from the first to the last, reading its own words from `top` on; `above` is assigned above the node.
 fn assign_nodes(work: &[u32], top: usize, above: u8) -> Assigned
-    requires { ⌜ (xs : List ℕ) × Begins (packed xs) top (now work) ⌝ }
+    requires { ⌜ ((xs : List ℕ) × Begins (packed xs) top (now work)) ⌝ }
     requires { ⌜ above ≤ 64 ⌝ }
     ensures { λ r. ⌜ ((xs : List ℕ) → Begins (packed xs) top (now (work .entry)) → r .top ≡ top + length (packed xs)) ⌝ }
     ensures { λ r. ⌜ ((f : ℕ → Answer) (m a : ℕ) (xs : List ℕ) → ShowsNode f m a xs → Begins (packed xs) top (now (work .entry)) → (l j : ℕ) → l ≤ 4 → j < 2 ^ l → (getD (r .hops) (position l j) 0 ≤ 64) × (hopOf (getD (r .hops) (position l j) 0) ≡ assignedAt f m a (hopOf above) l j)) ⌝ }

@@ -1,4 +1,4 @@
-// Modes 1 and 2: sets.
+// Mode 1: the maximal prefixes that a set's members cover.
 
 use super::query::with_slot;
 use nodes::emit::emit_slot;
@@ -12,59 +12,18 @@ use words::coverage::member_coverage;
 use words::coverage::parent_coverage;
 use words::ladder::push_l4;
 ghost use mathlib.Core.Path.{_≡_};
-ghost use mathlib.Core.Bool.{false, _||_};
+ghost use mathlib.Core.Bool.{_||_};
 ghost use mathlib.Core.List.{List};
 ghost use Prim.Native.Nat.{ℕ, _+_, _-_, _*_, _^_, _≤_, _<_};
 ghost use lib.ListN.{length};
-ghost use Rattle.theory.specs.Routes.{All, held};
+ghost use Rattle.theory.specs.Routes.{held};
 ghost use Rattle.words.specs.Bits.{bit};
 ghost use Rattle.positions.specs.Walk.{walk};
-ghost use Rattle.positions.specs.Walks.{consistentSetOut, consistentSetNext, maximalOut, maximalNext};
+ghost use Rattle.positions.specs.Walks.{maximalOut, maximalNext};
 ghost use Rattle.nodes.specs.Node.{wide, run, slotSize, Node};
 ghost use Rattle.nodes.specs.Output.{Wrote};
 ghost use Rattle.nodes.specs.Room.{Block, Begins, nodesDeep, nodesBelow, Laid, Stored};
 ghost use Rattle.cover.specs.Coverage.{IsCoverage, coverageWord, Entries};
-
-// Writes the members of a node and all below it that have no member above them, where the node has none, and says how many they are: mode 2.
-pub fn aggregate_consistent_set(
-    table: &[u8],
-    lo: usize,
-    hi: usize,
-    depth: usize,
-    key: u64,
-    out: &mut [u8],
-) -> usize
-    requires { ⌜ Node (now table) lo hi depth key ⌝ }
-    requires { ⌜ All (λ r. r .hop ≡ 0) (run (now table) lo hi) ⌝ }
-    ensures { λ r. ⌜ r + 6 ≤ 8 * 2 ^ (wide - depth) ⌝ }
-    ensures { λ r. ⌜ Wrote (walk (consistentSetOut wide (run (now (table .entry)) lo hi)) (consistentSetNext wide (run (now (table .entry)) lo hi)) (wide - depth) key false) 0 r (now (out .entry)) (now (out .exit)) ⌝ }
-{
-    let mut first = [0usize; 63];
-    let mut end = [0usize; 63];
-    let present = gather(table, lo, hi, depth, key, &mut first, &mut end);
-    let hops = [0u8; 31];
-    let members = member_coverage(present);
-    let under = members.children_under_member;
-    let entries = keep_of(present, 0, members.covered);
-    let mut n: usize = 0;
-    let mut c: usize = 0;
-    while c < 32 {
-        let slot = slot_key(key, depth, c);
-        let here = past(n, out.len());
-        n += emit_slot(entries, &hops, c, slot, depth, &mut out[here..]);
-        let from = first[31 + c];
-        let to = end[31 + c];
-        let gone = has_bit(under, c as u32);
-        c += 1;
-        if from < to {
-            if !gone {
-                let here = past(n, out.len());
-                n += aggregate_consistent_set(table, from, to, depth + 5, slot, &mut out[here..]);
-            }
-        }
-    }
-    n
-}
 
 // What the first walk of mode 1 says of a node: the positions that its members at or below them cover, and where its block begins.
 pub struct Covered {

@@ -2,7 +2,7 @@
 use Prim.Native.Nat.{ℕ, _^_, _<_}
 use mathlib.Core.Path.{_≡_}
 use mathlib.Core.Bool.{true}
-use mathlib.Core.List.{List, [], _∷_}
+use mathlib.Core.List.{List}
 use Rattle.theory.specs.Results.{Cand, hole, of, has}
 use Rattle.theory.proofs.Chosen.{Sorted}
 use Rattle.theory.proofs.Hops.{Some}

@@ -1,10 +1,9 @@
 // Candidate sets as 64-bit words: hop h is bit h; the word 0 is a hole.
 
 ghost use mathlib.Core.Path.{_≡_};
-ghost use mathlib.Core.Bool.{true};
 ghost use mathlib.Core.List.{List};
-ghost use Prim.Native.Nat.{ℕ, _^_, _≤_, _<_};
-ghost use Rattle.theory.specs.Results.{Cand, leaf, of};
+ghost use Prim.Native.Nat.{ℕ, _≤_, _<_};
+ghost use Rattle.theory.specs.Results.{Cand, leaf};
 ghost use Rattle.positions.specs.Runs.{hopOf, orElse};
 ghost use Rattle.hops.specs.Sets.{ShowsHops, ShowsSet};
 

@@ -48,6 +48,7 @@ sorted-insert h (k ∷ s) p = go (ltb h k) refl (eqb h k) refl (sorted-insert h 
         above : k ≤ h → k < h
         above le = ⊎-elim (λ z. absurd (eqb-false h k q (sym z))) (λ lt. lt) (native.Mathlib.Nat.eq-or-lt-of-le le)
 
+-- A union with an ascending list is ascending.
 pub sorted-union : (s t : List ℕ) → Sorted t → Sorted (union s t)
 sorted-union [] t p = p
 sorted-union (h ∷ s) t p = sorted-insert h (union s t) (sorted-union s t p)
@@ -60,6 +61,7 @@ above-common h (k ∷ s) t p = go (has k t) (above-common h s t (p .1))
     go true ih = (p .0, ih)
     go false ih = ih
 
+-- What an ascending list has in common with another is ascending.
 pub sorted-common : (s t : List ℕ) → Sorted s → Sorted (common s t)
 sorted-common [] t p = tt
 sorted-common (k ∷ s) t p = go (has k t) (sorted-common s t (p .1))

@@ -74,6 +74,7 @@ some-insert h (k ∷ s) = go (ltb h k) (eqb h k)
     go false true = tt
     go false false = tt
 
+-- A union with a set that is not empty is not empty.
 pub some-union : (s t : List ℕ) → Some s → Some (union s t)
 some-union [] t p = absurd p
 some-union (h ∷ s) t p = some-insert h (union s t)
@@ -87,6 +88,7 @@ pub or-cases : (p q : Bool) → (p || q) ≡ true → (p ≡ true) ⊎ (q ≡ tr
 or-cases true q e = inl refl
 or-cases false q e = inr e
 
+-- What holds with another holds.
 pub and-left : (p q : Bool) → (p && q) ≡ true → p ≡ true
 and-left true q e = refl
 and-left false q e = e

@@ -225,12 +225,13 @@ bit-test w x k h l = go (bit x k) refl
 
 -- ---- the lowest set bit
 
--- The count of zeros below the lowest set bit of a word that is not 0: that bit is set, and none below it.
+-- Bit k is the lowest set bit of x, a word of w bits: it is set, and none below it.
 pub record LowestBit (w x k : ℕ) : Type 0 where
   pub inside : k < w
   pub isSet : bit x k ≡ true
   pub clear : (i : ℕ) → i < k → bit x i ≡ false
 
+-- The zeros below it are what `trailing_zeros` counts, in a word that is not 0.
 pub trailing-lowest : (w x : ℕ) → 0 < x → x < 2 ^ w → LowestBit w x (trailingZeros w x)
 unfolding trailingZeros bit
 trailing-lowest zero x p h = absurd (omega arith)

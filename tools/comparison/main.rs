@@ -22,6 +22,7 @@ const FOLDER: &str = "target/comparison";
 const BATCH: u64 = 2_000;
 const QUICK_CASES: u64 = 20_000;
 const QUICK_REPLAY_CASES: u64 = 2_000;
+const QUICK_WORDS: u64 = 100_000;
 
 /// The answer that is expected: refusals 1 to 9 and addresses held by the model, all else by the crate.
 fn expected(case: &Case) -> Answer {
@@ -136,21 +137,26 @@ impl Counts {
     }
 }
 
-/// What replay writes for these bytes of cases.
-fn replay(command: &str, bytes: &[u8], worker: usize) -> String {
-    let file = format!("{FOLDER}/replay.{worker}.bin");
+/// What a program of the repository writes for these bytes.
+fn program(command: &str, name: &str, bytes: &[u8], worker: usize) -> Vec<u8> {
+    let file = format!("{FOLDER}/{name}.{worker}.bin");
     fs::write(&file, bytes).unwrap_or_else(|error| fail(format!("cannot write {file}: {error}")));
     let input = fs::File::open(&file).unwrap_or_else(|error| fail(format!("cannot read {file}: {error}")));
     let output = Command::new(command)
-        .arg("replay")
+        .arg(name)
         .stdin(input)
         .stderr(Stdio::inherit())
         .output()
         .unwrap_or_else(|error| fail(format!("cannot run {command}: {error}")));
     if !output.status.success() {
-        fail(format!("replay ended with {}; its cases are in {file}", output.status));
+        fail(format!("{name} ended with {}; its input is in {file}", output.status));
     }
-    String::from_utf8_lossy(&output.stdout).into_owned()
+    output.stdout
+}
+
+/// What replay writes for these bytes of cases.
+fn replay(command: &str, bytes: &[u8], worker: usize) -> String {
+    String::from_utf8_lossy(&program(command, "replay", bytes, worker)).into_owned()
 }
 
 /// Holds replay to the expected texts of some cases, taken in one run.
@@ -387,9 +393,27 @@ fn number(words: &mut impl Iterator<Item = String>, word: &str) -> u64 {
     words.next().and_then(|n| n.parse().ok()).unwrap_or_else(|| fail(format!("{word} needs a number")))
 }
 
+/// Holds the program ladders to the crate's folds and pushes: on all patterns of each half of a word, and on random words.
+fn run_ladders(command: &str, random: u64, seed: u64) {
+    let mut source = generate::Random::new(seed, 0);
+    let halves = (0..=0xFFFFu32).flat_map(|half| [half, half << 16]);
+    let words: Vec<u32> = halves.chain((0..random).map(|_| source.next() as u32)).collect();
+    let wrote = program(command, "ladders", &words.iter().flat_map(|word| word.to_be_bytes()).collect::<Vec<u8>>(), 0);
+    let expected = words.iter().flat_map(|&word| oracle::ladders(word)).flat_map(u32::to_be_bytes);
+    if let Some(at) = expected.clone().zip(&wrote).position(|(crates, ours)| crates != *ours) {
+        println!("compare: DIFFERENCE: ladders of the word {:#010x}, result {} of 10", words[at / 40], at % 40 / 4 + 1);
+        exit(1);
+    }
+    if wrote.len() != 40 * words.len() {
+        println!("compare: DIFFERENCE: ladders wrote {} bytes for {} words", wrote.len(), words.len());
+        exit(1);
+    }
+    println!("compare: ladders agrees with the crate on {} words, 10 results each", words.len());
+}
+
 fn main() {
     let mut words = std::env::args().skip(1);
-    let (mut what, mut cases, mut seed, mut command) = (String::new(), 0, 1, None);
+    let (mut what, mut cases, mut seed, mut command, mut ladders) = (String::new(), 0, 1, None, None);
     let mut fixed_list = (String::new(), String::new());
     while let Some(word) = words.next() {
         match word.as_str() {
@@ -397,6 +421,11 @@ fn main() {
                 what = word.clone();
                 cases = number(&mut words, &word);
             }
+            "--words" => {
+                what = word.clone();
+                cases = number(&mut words, &word);
+            }
+            "--ladders" => ladders = words.next(),
             "--seed" => seed = number(&mut words, &word),
             "--replay" => command = words.next(),
             "--fixed-list" => fixed_list = (words.next().unwrap_or_default(), words.next().unwrap_or_default()),
@@ -404,18 +433,22 @@ fn main() {
             _ => fail(format!("there is no word {word}")),
         }
     }
-    let command = command.as_deref();
+    let (command, ladders) = (command.as_deref(), ladders.as_deref());
     match what.as_str() {
         "--cases" if cases > 0 => run(cases, seed, command, cases),
         "--quick" => {
             run_worked();
             check_fixed(&fixed_list.0, &fixed_list.1);
             self_test();
+            if let Some(command) = ladders {
+                run_ladders(command, QUICK_WORDS, seed);
+            }
             if let Some(command) = command {
                 check_ends(command);
             }
             run(QUICK_CASES, seed, command, QUICK_REPLAY_CASES);
         }
+        "--words" => run_ladders(ladders.unwrap_or_else(|| fail("there is no program ladders".to_string())), cases, seed),
         "--self-test" => self_test(),
         "--fixed" => {
             run_worked();

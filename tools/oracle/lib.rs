@@ -118,3 +118,20 @@ pub fn lookup(routes: &[Route], address: u32) -> Option<(u8, u8)> {
     let (_, length): (u32, u8) = present.prefix(address);
     Some((*present.get(), length))
 }
+
+/// The crate's folds and pushes of a word, in the order in which the program `ladders` writes them.
+pub fn ladders(word: u32) -> [u32; 10] {
+    use aggregate::*;
+    [
+        fold_children(word),
+        fold_l4(word),
+        fold_l3(word),
+        fold_l2(word),
+        fold_l1(word),
+        push_l0(word),
+        push_l1(word),
+        push_l2(word),
+        push_l3(word),
+        push_l4(word),
+    ]
+}

@@ -1,15 +1,15 @@
 -- Laws of judging a table by the rules 3 to 8, one record after another. Assumes nothing.
-use mathlib.Core.Path.{_≡_, refl, sym, ap, _∙_}
+use mathlib.Core.Path.{_≡_, refl, ap, _∙_}
 use mathlib.Core.Bool.{Bool, true, false}
 use mathlib.Core.List.{List, [], _∷_, _++_}
-use Prim.Native.Nat.{ℕ, zero, suc, _+_, _-_, _/_, _%_, _≤_, _<_}
+use Prim.Native.Nat.{ℕ, zero, suc, _+_, _-_, _%_, _≤_, _<_}
 use native.Mathlib.Numerals.{add-one}
 use native.Mathlib.Omega.{arith}
-use lib.Dec.{eqb, leb}
+use lib.Dec.{leb}
 use lib.ListN.{length}
 use borrow.Author.Tests.{eq-eqb, ne-eqb, le-leb, lt-leb}
-use Rattle.table.specs.Rules.{Rule, rule, Reply, gives, refuses, judge, broken}
-use Rattle.table.specs.Wire.{records, routeAt, hostClear, tailKept, inOrder, recordRules, rulesFrom, tableRules}
+use Rattle.table.specs.Rules.{Rule, rule, gives, refuses, judge, broken}
+use Rattle.table.specs.Wire.{routeAt, records, hostClear, tailKept, inOrder, recordRules, rulesFrom, tableRules}
 
 -- ---- Any list of rules: whether it refuses, and how, does not depend on the value.
 pub gives-any : {A B : Type 0} (rs : List Rule) (a c : A) (b : B) → judge rs a ≡ gives c → judge rs b ≡ gives b

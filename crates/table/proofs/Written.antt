@@ -1,12 +1,11 @@
 -- From routes to bytes and back: reading the records of routes gives the routes, and writing the routes of a table gives its bytes. Assumes nothing.
 use mathlib.Core.Path.{_≡_, refl, sym, ap, ap₂, _∙_}
-use mathlib.Core.Bool.{Bool}
 use mathlib.Core.List.{List, [], _∷_, _++_}
-use Prim.Native.Nat.{ℕ, zero, suc, _+_, _*_, _/_, _%_, _^_, _≤_, _<_}
+use Prim.Native.Nat.{ℕ, zero, suc, _+_, _*_, _%_, _^_, _≤_, _<_}
 use native.Mathlib.Omega.{arith}
 use lib.ListN.{length, getD, take, drop, length-drop}
 use lib.Seq.{getD-append-add, getD-drop, take-all, take-add, drop-drop}
-use Rattle.theory.specs.Routes.{Route, Valid, All, nil, cons}
+use Rattle.theory.specs.Routes.{Route, Valid, All, cons}
 use Rattle.table.specs.Wire.{byteAt, join, routeAt, routesFrom, records, routes, Bytes, recordOf, bytesOf}
 use Rattle.table.proofs.Octets.{join-octets, octet-0, octet-1, octet-2, octet-3}
 

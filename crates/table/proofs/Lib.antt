@@ -1,12 +1,13 @@
--- The laws of the table on the wire.
+-- The laws of the table on the wire, in the order to read them. The theorems to look for: Accepted.refused-exactly, Tables.accepted-table,
+-- table-accepted and bytes-routes, Written.routes-bytes, Laid.laid-then and laid-record, and those of Calls, of the three calls.
 pub mod Laws
 pub mod Judging
-pub mod Reading
 pub mod Accepted
 pub mod Octets
+pub mod Reading
 pub mod Written
 pub mod Tables
+pub mod Laid
 pub mod Longest
 pub mod Calls
 pub mod Examples
-pub mod Laid

@@ -12,12 +12,14 @@ use Rattle.table.specs.Wire.{routeAt, routesFrom, records, routes}
 abbrev pub rest : List ℕ → ℕ → List Route
 rest t i = routesFrom t i (records t - i)
 
+-- Behind the last record there are none.
 pub rest-end : (t : List ℕ) (i : ℕ) → i ≡ records t → rest t i ≡ []
 unfolding routesFrom
 rest-end t i e =
     let z : records t - i ≡ 0 = omega arith in
     rw z
 
+-- From record 0 on they are the table's.
 pub rest-all : (t : List ℕ) (i : ℕ) → i ≡ 0 → rest t i ≡ routes t
 unfolding routes
 rest-all t i e = ap₂ (routesFrom t) e (omega arith)
@@ -31,6 +33,7 @@ rest-step t i p h =
     ap (routesFrom t (i - 1)) e ∙ ap (λ (j : ℕ). routeAt t (i - 1) ∷ routesFrom t j (records t - i)) f
 
 -- ---- Parts of the routes, for runs of records.
+-- There are as many as asked for.
 pub length-from : (t : List ℕ) (i k : ℕ) → length (routesFrom t i k) ≡ k
 unfolding routesFrom
 length-from t i zero = refl
@@ -56,13 +59,14 @@ routes-at t j d h =
     let e : 0 + j ≡ j = omega arith in
     from-at t 0 (records t) j d h ∙ ap (routeAt t) e
 
--- The first j of k routes, and those behind them.
+-- The first j of k routes.
 pub from-take : (t : List ℕ) (i k j : ℕ) → j ≤ k → take j (routesFrom t i k) ≡ routesFrom t i j
 unfolding routesFrom
 from-take t i k zero h = refl
 from-take t i zero (suc j) h = absurd (omega arith)
 from-take t i (suc k) (suc j) h = ap (λ (rs : List Route). routeAt t i ∷ rs) (from-take t (suc i) k j (omega arith))
 
+-- Those behind the first j.
 pub from-drop : (t : List ℕ) (i k j : ℕ) → j ≤ k → drop j (routesFrom t i k) ≡ routesFrom t (i + j) (k - j)
 unfolding routesFrom
 from-drop t i k zero h =
@@ -84,10 +88,12 @@ routes-part t lo hi l h =
     ∙ from-take t lo (records t - lo) (hi - lo) (omega arith)
 
 -- ---- The sum of the sizes, route by route.
+-- One route more.
 pub sum-step : (w : ℕ) (r : Route) (rs : List Route) → addressSum w (r ∷ rs) ≡ 2 ^ (w - r .len) + addressSum w rs
 unfolding addressSum
 sum-step w r rs = refl
 
+-- No route.
 pub sum-none : (w : ℕ) → addressSum w [] ≡ 0
 unfolding addressSum
 sum-none w = refl

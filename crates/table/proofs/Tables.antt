@@ -11,9 +11,9 @@ use lib.ListN.{length}
 use lib.Pow.{split}
 use Rattle.theory.specs.Routes.{Route, Valid, All, nil, cons, Before, Ascending, empty, first}
 use Rattle.theory.proofs.Lists.{all-map}
-use Rattle.table.specs.Facts.{TailKept, OrderKept, Kept, Accepted}
+use Rattle.table.specs.Facts.{TailKept, OrderKept, Kept, Accepted, Lawful}
 use Rattle.table.specs.Rules.{gives, judge}
-use Rattle.table.specs.Wire.{byteAt, routeAt, routesFrom, records, routes, Bytes, bytesOf, topHop, Lawful, tableRules}
+use Rattle.table.specs.Wire.{byteAt, routeAt, routesFrom, records, routes, Bytes, bytesOf, topHop, tableRules}
 use Rattle.table.proofs.Accepted.{not-refused, accepted}
 use Rattle.table.proofs.Octets.{join-small}
 use Rattle.table.proofs.Reading.{length-from, length-routes}

@@ -27,14 +27,17 @@ shown : {P : Type 0} (b : Bool) → (b ≡ true → P) → (P → b ≡ true) �
 shown true f g = yes (f refl)
 shown false f g = no (λ p. let z : _≡_ {A = ℕ} 0 1 = cc (g p) in absurd (omega arith))
 
+-- Rule 5.
 pub length-shown : (t : List ℕ) (i : ℕ) → Shows (LengthKept t i) (leb (routeAt t i .len) 32)
 length-shown t i = shown (leb (routeAt t i .len) 32) (leb-true (routeAt t i .len) 32) (le-leb (routeAt t i .len) 32)
 
+-- Rule 6.
 pub host-shown : (t : List ℕ) (i : ℕ) → Shows (HostKept t i) (hostClear (routeAt t i))
 host-shown t i =
     shown (hostClear (routeAt t i)) (eqb-true (routeAt t i .addr % 2 ^ (32 - routeAt t i .len)) 0)
     (eq-eqb (routeAt t i .addr % 2 ^ (32 - routeAt t i .len)) 0)
 
+-- Rule 7.
 pub tail-shown : (s : Bool) (t : List ℕ) (i : ℕ) → Shows (TailKept s t i) (tailKept s t i)
 tail-shown s t i = shown (tailKept s t i) into from
   where
@@ -47,6 +50,7 @@ tail-shown s t i = shown (tailKept s t i) into from
     from : TailKept s t i → tailKept s t i ≡ true
     from k = simp (le-leb (byteAt t i 5) (topHop s) (k .0), eq-eqb (byteAt t i 6) 0 (k .1), eq-eqb (byteAt t i 7) 0 (k .2))
 
+-- Table order.
 pub before-shown : (r s : Route) → Shows (Before r s) (before r s)
 before-shown r s = shown (before r s) (λ e. into e (ltb (r .addr) (s .addr)) refl) from
   where
@@ -61,6 +65,7 @@ before-shown r s = shown (before r s) (λ e. into e (ltb (r .addr) (s .addr)) re
     from (inr h) =
         simp (le-ltb (r .addr) (s .addr) (omega arith), eq-eqb (r .addr) (s .addr) (h .0), lt-ltb (r .len) (s .len) (h .1))
 
+-- Rule 8.
 pub order-shown : (t : List ℕ) (i : ℕ) → Shows (OrderKept t i) (inOrder t i)
 order-shown t zero = yes tt
 order-shown t (suc i) = before-shown (routeAt t i) (routeAt t (suc i))

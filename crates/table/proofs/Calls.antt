@@ -7,16 +7,16 @@ use mathlib.Core.Logic.{_↔_}
 use Prim.Native.Nat.{ℕ}
 use native.Mathlib.Omega.{arith}
 use Rattle.theory.specs.Routes.{held, miss, hit, lookup}
-use Rattle.table.specs.Rules.{Reply, gives, refuses, judge}
-use Rattle.table.specs.Wire.{records, routes, tableRules}
-use Rattle.table.specs.Facts.{Accepted, Refused, Longest}
-use Rattle.table.specs.Calls.{checkedSays, checkReply, lookupSays, lookupReply, addressSum, heldSays, heldReply}
 use Rattle.table.specs.declared.answers.Checked.{Checked}
 use Rattle.table.specs.declared.answers.Checked.the-variants.{Valid, Refused as NotValid}
 use Rattle.table.specs.declared.answers.Lookup.{Lookup}
 use Rattle.table.specs.declared.answers.Lookup.the-variants.{Route, NoRoute, Refused as NotLooked}
 use Rattle.table.specs.declared.answers.AddressesHeld.{AddressesHeld}
 use Rattle.table.specs.declared.answers.AddressesHeld.the-variants.{Sum, Refused as NotSummed}
+use Rattle.table.specs.Calls.{checkedSays, checkReply, lookupSays, lookupReply, addressSum, heldSays, heldReply}
+use Rattle.table.specs.Facts.{Accepted, Refused, Longest}
+use Rattle.table.specs.Rules.{Reply, gives, refuses, judge}
+use Rattle.table.specs.Wire.{records, routes, tableRules}
 use Rattle.table.proofs.Accepted.{not-refused, accepted, refused-exactly}
 use Rattle.table.proofs.Longest.{miss-held, is-longest}
 
@@ -69,6 +69,7 @@ module _ {R A : Type 0} (says : R → Reply A) (same : (b c : R) → says b ≡ 
 
 -- ---- The check of a table.
 module _ (s : Bool) (t : List ℕ) where
+  -- No second answer satisfies the statement.
   pub check-unique : (a b : Checked) → checkedSays a ≡ checkReply s t → checkedSays b ≡ checkReply s t → a ≡ b
   check-unique = unique checkedSays checked-same s t (records t)
 
@@ -77,11 +78,13 @@ module _ (s : Bool) (t : List ℕ) where
     pub check-valid-exactly : (n : ℕ) → r ≡ Valid n ↔ (Accepted s t × (records t ≡ n))
     check-valid-exactly n = gives-exactly checkedSays checked-same s t (records t) r e (Valid n) n refl
 
+    -- It answers a refusal exactly when its number and index are the first in the order.
     pub check-refused-exactly : (n i : ℕ) → r ≡ NotValid n i ↔ Refused s t n i
     check-refused-exactly n i = refuses-exactly checkedSays checked-same s t (records t) r e (NotValid n i) n i refl
 
 -- ---- Lookup.
 module _ (t : List ℕ) (x : ℕ) where
+  -- No second answer satisfies the statement.
   pub lookup-unique : (a b : Lookup) → lookupSays a ≡ lookupReply t x → lookupSays b ≡ lookupReply t x → a ≡ b
   lookup-unique = unique lookupSays lookup-same false t (lookup 32 (routes t) x)
 
@@ -103,11 +106,13 @@ module _ (t : List ℕ) (x : ℕ) where
           λ f. none .1 (f .0, miss-held 32 x (routes t) .1 (f .1)),
         )
 
+    -- It answers a refusal exactly when its number and index are the first in the order.
     pub lookup-refused-exactly : (n i : ℕ) → r ≡ NotLooked n i ↔ Refused false t n i
     lookup-refused-exactly n i = refuses-exactly lookupSays lookup-same false t (lookup 32 (routes t) x) r e (NotLooked n i) n i refl
 
 -- ---- Addresses held.
 module _ (t : List ℕ) where
+  -- No second answer satisfies the statement.
   pub held-unique : (a b : AddressesHeld) → heldSays a ≡ heldReply t → heldSays b ≡ heldReply t → a ≡ b
   held-unique = unique heldSays sum-same false t (addressSum 32 (routes t))
 
@@ -116,5 +121,6 @@ module _ (t : List ℕ) where
     pub held-sum-exactly : (n : ℕ) → r ≡ Sum n ↔ (Accepted false t × (addressSum 32 (routes t) ≡ n))
     held-sum-exactly n = gives-exactly heldSays sum-same false t (addressSum 32 (routes t)) r e (Sum n) n refl
 
+    -- It answers a refusal exactly when its number and index are the first in the order.
     pub held-refused-exactly : (n i : ℕ) → r ≡ NotSummed n i ↔ Refused false t n i
     held-refused-exactly n i = refuses-exactly heldSays sum-same false t (addressSum 32 (routes t)) r e (NotSummed n i) n i refl

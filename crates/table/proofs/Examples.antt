@@ -2,11 +2,11 @@
 use mathlib.Core.Path.{_≡_, refl}
 use mathlib.Core.Bool.{true, false}
 use mathlib.Core.List.{List, [], _∷_}
-use Prim.Native.Nat.{ℕ, _+_, _*_, _^_}
+use Prim.Native.Nat.{ℕ, _+_, _*_}
 use Rattle.theory.specs.Routes.{miss, hit}
+use Rattle.table.specs.Calls.{checkReply, lookupReply, addressSum, heldReply}
 use Rattle.table.specs.Rules.{gives, refuses, judge}
 use Rattle.table.specs.Wire.{routeAt, routesFrom, routes, recordRules, rulesFrom, tableRules}
-use Rattle.table.specs.Calls.{checkReply, lookupReply, addressSum, heldReply}
 
 -- 10.0.0.0/8 by hop 1, and 10.1.0.0/16 inside it by hop 2.
 abbrev nested : List ℕ
@@ -21,15 +21,17 @@ pub nested-held : heldReply nested ≡ gives 16842752
 unfolding judge tableRules rulesFrom recordRules routeAt routesFrom routes addressSum
 nested-held = refl
 
--- The longer match wins, the shorter serves the rest, and outside both there is no route.
+-- Inside both the longer match wins.
 pub nested-inside : lookupReply nested (ip 10 1 2 3) ≡ gives (hit 16 2)
 unfolding judge tableRules rulesFrom recordRules routeAt routesFrom routes
 nested-inside = refl
 
+-- The shorter serves the rest.
 pub nested-rest : lookupReply nested (ip 10 2 2 3) ≡ gives (hit 8 1)
 unfolding judge tableRules rulesFrom recordRules routeAt routesFrom routes
 nested-rest = refl
 
+-- Outside both there is no route.
 pub nested-outside : lookupReply nested (ip 11 1 2 3) ≡ gives miss
 unfolding judge tableRules rulesFrom recordRules routeAt routesFrom routes
 nested-outside = refl

@@ -1,17 +1,18 @@
 -- Laws of judging a table by the rules 3 to 8, one record after another. Assumes nothing.
-use mathlib.Core.Path.{_≡_, refl, sym, ap, _∙_}
+use mathlib.Core.Path.{_≡_, refl, ap, _∙_}
 use mathlib.Core.Bool.{Bool, true, false}
 use mathlib.Core.List.{List, [], _∷_, _++_}
-use Prim.Native.Nat.{ℕ, zero, suc, _+_, _-_, _/_, _%_, _≤_, _<_}
+use Prim.Native.Nat.{ℕ, zero, suc, _+_, _-_, _%_, _≤_, _<_}
 use native.Mathlib.Numerals.{add-one}
 use native.Mathlib.Omega.{arith}
-use lib.Dec.{eqb, leb}
+use lib.Dec.{leb}
 use lib.ListN.{length}
 use borrow.Author.Tests.{eq-eqb, ne-eqb, le-leb, lt-leb}
-use Rattle.table.specs.Rules.{Rule, rule, Reply, gives, refuses, judge, broken}
-use Rattle.table.specs.Wire.{records, routeAt, hostClear, tailKept, inOrder, recordRules, rulesFrom, tableRules}
+use Rattle.table.specs.Rules.{Rule, rule, gives, refuses, judge, broken}
+use Rattle.table.specs.Wire.{routeAt, records, hostClear, tailKept, inOrder, recordRules, rulesFrom, tableRules}
 
 -- ---- Any list of rules: whether it refuses, and how, does not depend on the value.
+-- One value given, any is given.
 pub gives-any : {A B : Type 0} (rs : List Rule) (a c : A) (b : B) → judge rs a ≡ gives c → judge rs b ≡ gives b
 unfolding judge
 gives-any [] a c b e = refl
@@ -21,6 +22,7 @@ gives-any (r ∷ rs) a c b e = go (r .kept) refl (gives-any rs a c b)
     go true p more = rw p (more (rw p at e))
     go false p more = let z : _≡_ {A = ℕ} 0 1 = cc (rw p at e) in absurd (omega arith)
 
+-- One value refused, any is refused alike.
 pub refuses-any : {A B : Type 0} (rs : List Rule) (a : A) (b : B) (n i : ℕ) → judge rs a ≡ refuses n i → judge rs b ≡ refuses n i
 unfolding judge
 refuses-any [] a b n i e = let z : _≡_ {A = ℕ} 0 1 = cc in absurd (omega arith)
@@ -54,6 +56,7 @@ four-broken i rs a false q r o z = refl
 
 module _ {A : Type 0} (a : A) (s : Bool) (t : List ℕ) where
   -- ---- The records that are left, from record i on.
+  -- A record that breaks no rule is passed.
   pub scan-good : (i k : ℕ) → 0 < k → broken (recordRules s t i) ≡ 0 → judge (rulesFrom s t i k) a ≡ judge (rulesFrom s t (i + 1) (k - 1)) a
   unfolding rulesFrom recordRules
   scan-good i zero h z = absurd (omega arith)
@@ -62,25 +65,30 @@ module _ {A : Type 0} (a : A) (s : Bool) (t : List ℕ) where
       four-kept i (rulesFrom s t (suc i) k) a (leb (routeAt t i .len) 32) (hostClear (routeAt t i)) (tailKept s t i) (inOrder t i) z
       ∙ rw add-one (ap (λ (n : ℕ). judge (rulesFrom s t (suc i) n) a) e)
 
+  -- A record that breaks a rule refuses with the first that it breaks.
   pub scan-bad : (i k : ℕ) → 0 < k → (broken (recordRules s t i) ≡ 0 → ⊥) → judge (rulesFrom s t i k) a ≡ refuses (broken (recordRules s t i)) i
   unfolding rulesFrom recordRules
   scan-bad i zero h n = absurd (omega arith)
   scan-bad i (suc k) h n =
       four-broken i (rulesFrom s t (suc i) k) a (leb (routeAt t i .len) 32) (hostClear (routeAt t i)) (tailKept s t i) (inOrder t i) n
 
+  -- No record is left.
   pub scan-end : (i k : ℕ) → k ≡ 0 → judge (rulesFrom s t i k) a ≡ gives a
   unfolding judge rulesFrom
   scan-end i k e = rw e
 
   -- ---- The whole table.
+  -- Number 3.
   pub not-whole : (length t % 8 ≡ 0 → ⊥) → judge (tableRules s t) a ≡ refuses 3 0
   unfolding judge tableRules
   not-whole n = simp (ne-eqb (length t % 8) 0 n)
 
+  -- Number 4.
   pub too-many : length t % 8 ≡ 0 → 1024 < records t → judge (tableRules s t) a ≡ refuses 4 0
   unfolding judge tableRules
   too-many e h = simp (eq-eqb (length t % 8) 0 e, lt-leb (records t) 1024 h)
 
+  -- Past 3 and 4 the records decide.
   pub is-scan : length t % 8 ≡ 0 → records t ≤ 1024 → judge (tableRules s t) a ≡ judge (rulesFrom s t 0 (records t)) a
   unfolding judge tableRules
   is-scan e h = simp (eq-eqb (length t % 8) 0 e, le-leb (records t) 1024 h)

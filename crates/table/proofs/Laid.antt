@@ -35,6 +35,7 @@ laid-none k o =
     ap (λ (m : ℕ). take k o ++ drop m o) e ∙ take-append-drop k o
 
 module _ (k : ℕ) (bs o : List ℕ) (fits : k + length bs ≤ length o) where
+  -- The length stays.
   pub length-laid : length (laid k bs o) ≡ length o
   unfolding laid
   length-laid =
@@ -44,11 +45,12 @@ module _ (k : ℕ) (bs o : List ℕ) (fits : k + length bs ≤ length o) where
   seam : length (take k o ++ bs) ≡ k + length bs
   seam = let e = length-take-le k o (omega arith) in simp length-append (omega arith)
 
-  -- Up to the end of what is laid, and behind it.
+  -- Up to its end the list is what was before it and what is laid.
   pub take-laid : take (k + length bs) (laid k bs o) ≡ take k o ++ bs
   unfolding laid
   take-laid = ap (take (k + length bs)) (sym (append-assoc (take k o) bs (drop (k + length bs) o))) ∙ take-at (take k o ++ bs) (drop (k + length bs) o) (k + length bs) seam
 
+  -- Behind what is laid the list is as it was.
   pub drop-laid : drop (k + length bs) (laid k bs o) ≡ drop (k + length bs) o
   unfolding laid
   drop-laid = ap (drop (k + length bs)) (sym (append-assoc (take k o) bs (drop (k + length bs) o))) ∙ drop-at (take k o ++ bs) (drop (k + length bs) o) (k + length bs) seam

@@ -1,5 +1,5 @@
 -- What the longest match of theory is: a member that matches, and no member that matches is longer. Assumes nothing.
-use mathlib.Core.Path.{_≡_, refl, sym, ap, ap₂, _∙_}
+use mathlib.Core.Path.{_≡_, refl, sym, _∙_}
 use mathlib.Core.Bool.{Bool, true, false, cond, _||_}
 use mathlib.Core.List.{List, [], _∷_}
 use mathlib.Core.Logic.{_↔_}
@@ -7,8 +7,9 @@ use Prim.Native.Nat.{ℕ, _≤_}
 use native.Mathlib.Omega.{arith}
 use lib.Dec.{ltb}
 use borrow.Author.Tests.{ltb-true, ltb-false}
-use Rattle.table.specs.Facts.{Longest}
 use Rattle.theory.specs.Routes.{Route, matches, held, Match, miss, hit, longer, lookup, Member, head, later}
+use Rattle.table.specs.Facts.{Longest}
+use Rattle.table.specs.Wire.{route}
 
 miss-not-hit : {A : Type 0} (l h : ℕ) → miss ≡ hit l h → A
 miss-not-hit l h e = let z : _≡_ {A = ℕ} 0 1 = cc in absurd (omega arith)

@@ -13,6 +13,7 @@ join-octets a h =
     omega arith
 
 module _ (a b c d : ℕ) (ha : a < 256) (hb : b < 256) (hc : c < 256) (hd : d < 256) where
+  -- The octets of four octets' number are these octets.
   pub octet-0 : join a b c d / 16777216 % 256 ≡ a
   octet-0 = omega arith
 
@@ -25,5 +26,6 @@ module _ (a b c d : ℕ) (ha : a < 256) (hb : b < 256) (hc : c < 256) (hd : d < 
   pub octet-3 : join a b c d % 256 ≡ d
   octet-3 = omega arith
 
+  -- It has 32 bits.
   pub join-small : join a b c d < 2 ^ 32
   join-small = omega arith

@@ -11,11 +11,12 @@ use lib.ListN.{length}
 use lib.Pow.{split}
 use Rattle.theory.specs.Routes.{Route, Valid, All, nil, cons, Before, Ascending, empty, first}
 use Rattle.theory.proofs.Lists.{all-map}
-use Rattle.table.specs.Facts.{TailKept, OrderKept, Kept, Accepted}
+use Rattle.table.specs.Facts.{TailKept, OrderKept, Kept, Accepted, Lawful}
 use Rattle.table.specs.Rules.{gives, judge}
-use Rattle.table.specs.Wire.{byteAt, routeAt, routesFrom, records, routes, Bytes, bytesOf, topHop, Lawful, tableRules}
+use Rattle.table.specs.Wire.{byteAt, routeAt, routesFrom, records, routes, Bytes, bytesOf, topHop, tableRules}
 use Rattle.table.proofs.Accepted.{not-refused, accepted}
 use Rattle.table.proofs.Octets.{join-small}
+use Rattle.table.proofs.Reading.{length-from, length-routes}
 use Rattle.table.proofs.Written.{length-bytes, records-bytes, byte-shift, route-shift, route-head, bytes-back}
 
 -- ---- The order.
@@ -41,16 +42,6 @@ ascending-routes t i (suc zero) p = first nil empty
 ascending-routes t i (suc (suc k)) p =
     front (routeAt t i) (routeAt t (suc i)) (routesFrom t (suc (suc i)) k) (p i (omega arith) (omega arith))
     (ascending-routes t (suc i) (suc k) (λ j l h. p j (omega arith) (omega arith)))
-
-length-from : (t : List ℕ) (i k : ℕ) → length (routesFrom t i k) ≡ k
-unfolding routesFrom
-length-from t i zero = refl
-length-from t i (suc k) = ap suc (length-from t (suc i) k)
-
--- There is a route for each whole record.
-pub length-routes : (t : List ℕ) → length (routes t) ≡ records t
-unfolding routes
-length-routes t = length-from t 0 (records t)
 
 module _ (s : Bool) (t : List ℕ) (bytes : Bytes t) where
   addr-small : (i : ℕ) → routeAt t i .addr < 2 ^ 32

@@ -1,21 +1,22 @@
 -- From routes to bytes and back: reading the records of routes gives the routes, and writing the routes of a table gives its bytes. Assumes nothing.
 use mathlib.Core.Path.{_≡_, refl, sym, ap, ap₂, _∙_}
-use mathlib.Core.Bool.{Bool}
 use mathlib.Core.List.{List, [], _∷_, _++_}
-use Prim.Native.Nat.{ℕ, zero, suc, _+_, _*_, _/_, _%_, _^_, _≤_, _<_}
+use Prim.Native.Nat.{ℕ, zero, suc, _+_, _*_, _%_, _^_, _≤_, _<_}
 use native.Mathlib.Omega.{arith}
 use lib.ListN.{length, getD, take, drop, length-drop}
 use lib.Seq.{getD-append-add, getD-drop, take-all, take-add, drop-drop}
-use Rattle.theory.specs.Routes.{Route, Valid, All, nil, cons}
+use Rattle.theory.specs.Routes.{Route, Valid, All, cons}
 use Rattle.table.specs.Wire.{byteAt, join, routeAt, routesFrom, records, routes, Bytes, recordOf, bytesOf}
 use Rattle.table.proofs.Octets.{join-octets, octet-0, octet-1, octet-2, octet-3}
 
 -- ---- Reading what is written.
+-- Eight bytes a route.
 pub length-bytes : (rs : List Route) → length (bytesOf rs) ≡ 8 * length rs
 unfolding bytesOf
 length-bytes [] = refl
 length-bytes (r ∷ rs) = let e = length-bytes rs in omega arith
 
+-- A record a route.
 pub records-bytes : (rs : List Route) → records (bytesOf rs) ≡ length rs
 records-bytes rs = let e = length-bytes rs in omega arith
 
@@ -25,10 +26,12 @@ byte-shift r t i k =
     let e : 8 * suc i + k ≡ 8 + (8 * i + k) = omega arith in
     ap (λ (m : ℕ). getD (recordOf r ++ t) m 0) e ∙ getD-append-add (recordOf r) t (8 * i + k) 0
 
+-- So are the routes.
 pub route-shift : (r : Route) (t : List ℕ) (i : ℕ) → routeAt (recordOf r ++ t) (suc i) ≡ routeAt t i
 unfolding routeAt
 route-shift r t i = simp (byte-shift r t i)
 
+-- The first record is its route's.
 pub route-head : (r : Route) (t : List ℕ) → r .addr < 2 ^ 32 → routeAt (recordOf r ++ t) 0 ≡ r
 unfolding routeAt
 route-head r t h = ap (λ (a : ℕ). record { addr = a; len = r .len; hop = r .hop }) (join-octets (r .addr) h)

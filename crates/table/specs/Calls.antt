@@ -3,8 +3,6 @@ use Prim.Native.Nat.{ℕ, _+_, _-_, _^_, _≤_, _<_}
 use mathlib.Core.Bool.{Bool, false}
 use mathlib.Core.List.{List, [], _∷_}
 use Rattle.theory.specs.Routes.{Route, Match, miss, hit, lookup}
-use Rattle.table.specs.Rules.{Reply, gives, refuses, judge}
-use Rattle.table.specs.Wire.{records, routeAt, routes, tableRules}
 use Rattle.table.specs.declared.answers.Checked.{Checked}
 use Rattle.table.specs.declared.answers.Checked.the-variants.{Valid, Refused as NotValid}
 use Rattle.table.specs.declared.answers.Lookup.{Lookup}
@@ -13,6 +11,8 @@ use Rattle.table.specs.declared.answers.AddressesHeld.{AddressesHeld}
 use Rattle.table.specs.declared.answers.AddressesHeld.the-variants.{Sum, Refused as NotSummed}
 use Rattle.table.specs.declared.matching.Found.{Found as Best}
 use Rattle.table.specs.declared.matching.Found.the-variants.{Nothing, Match as One}
+use Rattle.table.specs.Rules.{Reply, gives, refuses, judge}
+use Rattle.table.specs.Wire.{routeAt, records, routes, tableRules}
 
 -- ---- The check of a table.
 

@@ -6,8 +6,8 @@ use mathlib.Core.Path.{_≡_}
 use mathlib.Core.Bool.{Bool, true}
 use mathlib.Core.List.{List}
 use lib.ListN.{length}
-use Rattle.theory.specs.Routes.{Route, Before, Member, matches}
-use Rattle.table.specs.Wire.{byteAt, records, routeAt, topHop}
+use Rattle.theory.specs.Routes.{Route, matches, All, Before, Table, Member}
+use Rattle.table.specs.Wire.{byteAt, routeAt, records, topHop}
 
 -- ---- Of record i.
 
@@ -55,6 +55,12 @@ pub data Refused (isSet : Bool) (t : List ℕ) : ℕ → ℕ → Type 0 where
   three : (length t % 8 ≡ 0 → ⊥) → Refused isSet t 3 0
   four : length t % 8 ≡ 0 → 1024 < records t → Refused isSet t 4 0
   of-record : {n i : ℕ} → length t % 8 ≡ 0 → records t ≤ 1024 → i < records t → ((j : ℕ) → j < i → Kept isSet t j) → Breaks isSet t i n → Refused isSet t n i
+
+-- What the routes of an accepted table keep: they are a table of width 32, their hops are in range, and they are at most 1,024.
+pub record Lawful (isSet : Bool) (rs : List Route) : Type 0 where
+  pub table : Table 32 rs
+  pub hops : All (λ r. r .hop ≤ topHop isSet) rs
+  pub few : length rs ≤ 1024
 
 -- ---- Of a longest match.
 

@@ -1,17 +1,14 @@
 -- `check_table` answers what judging the table by its rules gives. The loop's invariant: judging the whole table is judging the records
 -- from record i on. Assumes nothing.
-use mathlib.Core.Path.{_≡_, sym, ap, ap₂, _∙_}
 use Prim.Native.Nat.{ℕ, _+_, _-_, _≤_}
+use mathlib.Core.Path.{_≡_, sym, ap, _∙_}
 use native.Mathlib.Omega.{arith}
 use Rattle.table.specs.Rules.{refuses, judge}
-use Rattle.table.specs.Wire.{records, rulesFrom, tableRules}
+use Rattle.table.specs.Wire.{records, rulesFrom}
 use Rattle.table.specs.Calls.{checkReply}
 use Rattle.table.proofs.Judging.{not-whole, too-many, is-scan, scan-bad, scan-good, scan-end}
 use Rattle.table.proofs.check_table.Statement.{statement}
 use Rattle.table.proofs.check_table.Tie as tie
-use Rattle.table.proofs.check_table.Reads as reads
-use Rattle.table.proofs.check_table.Lts as lts
-use Rattle.table.proofs.rules.fault.Reads as fault-reads
 
 abbrev Inv-loop : tie.InvT-loop
 Inv-loop table is-set size n i₀ i = (i ≤ n) × (checkReply is-set table ≡ judge (rulesFrom is-set table i (n - i)) n)

@@ -1,39 +1,30 @@
+-- `matching::longer_of` is theory's `longer`, case by case. Assumes nothing.
 use borrow.Author.Tests.{lt-ltb, le-ltb}
 use borrow.Author.Needs.{needs}
 use Rattle.table.proofs.matching.longer_of.Statement.{statement}
 use Rattle.table.proofs.matching.longer_of.Tie as tie
-use Rattle.table.proofs.matching.longer_of.Reads as reads
-use Rattle.table.proofs.matching.longer_of.Lts as lts
 
--- src/matching.rt:41:27
 enum-told : tie.Need-enum-told
 enum-told c = search needs
 
--- src/matching.rt:42:29
 enum-known-a : tie.Need-enum-known-a
 enum-known-a c = search needs
 
--- src/matching.rt:43:31
 enum-told-2 : tie.Need-enum-told-2
 enum-told-2 c = search needs
 
--- src/matching.rt:44:33
 enum-known-b : tie.Need-enum-known-b
 enum-known-b c = search needs
 
--- src/matching.rt:37:1
 returns : tie.Need-returns
 returns c = search needs
 
--- src/matching.rt:37:1
 returns-2 : tie.Need-returns-2
 returns-2 c = simp (c .enum-told2 .given .1, c .before .before .before .a .given .1)
 
--- src/matching.rt:37:1
 returns-3 : tie.Need-returns-3
 returns-3 c = simp (c .before .before .b .given .1, c .before .before .before .before .before .a .given .1, lt-ltb _ _ (c .if1 .taken))
 
--- src/matching.rt:37:1
 returns-4 : tie.Need-returns-4
 returns-4 c = simp (c .before .before .b .given .1, c .before .before .before .before .before .a .given .1, le-ltb _ _ (c .if1 .left))
 

@@ -1,18 +1,16 @@
-use Rattle.table.proofs.Reading.{rest, rest-end, rest-all, rest-step}
-use Rattle.table.specs.Calls.{matchOf}
-use Rattle.table.specs.Wire.{records, routeAt}
-use Rattle.theory.specs.Routes.{Route, Match, longer, tried, lookup}
-use borrow.Author.Needs.{needs}
-use native.Mathlib.Omega.{arith}
-use Prim.Native.Nat.{ℕ, _-_, _≤_}
+-- `matching::longest_in` goes from the last record to the first. The loop's invariant: the best so far is the longest match among the
+-- routes from record i on. Assumes nothing.
+use Prim.Native.Nat.{_-_, _≤_}
 use mathlib.Core.List.{List}
 use mathlib.Core.Path.{_≡_, refl, sym, ap, ap₂, _∙_}
+use native.Mathlib.Omega.{arith}
+use borrow.Author.Needs.{needs}
+use Rattle.theory.specs.Routes.{Route, longer, lookup}
+use Rattle.table.specs.Calls.{matchOf}
+use Rattle.table.specs.Wire.{records}
+use Rattle.table.proofs.Reading.{rest, rest-end, rest-all, rest-step}
 use Rattle.table.proofs.matching.longest_in.Statement.{statement}
 use Rattle.table.proofs.matching.longest_in.Tie as tie
-use Rattle.table.proofs.matching.longest_in.Reads as reads
-use Rattle.table.proofs.matching.longest_in.Lts as lts
-use Rattle.table.proofs.matching.longer_of.Reads as longer-of-reads
-use Rattle.table.proofs.matching.tried_at.Reads as tried-at-reads
 
 abbrev Inv-loop : tie.InvT-loop
 Inv-loop table address best₀ i₀ best i = (i ≤ records table) × (matchOf best ≡ lookup 32 (rest table i) address)
@@ -20,27 +18,21 @@ Inv-loop table address best₀ i₀ best i = (i ≤ records table) × (matchOf b
 abbrev μ-loop : tie.MeasureT-loop
 μ-loop table address best₀ i₀ best i = i
 
--- src/matching.rt:62:5
 loop-holds : tie.Need-loop-holds Inv-loop μ-loop
 loop-holds c = (omega arith, ap (λ (rs : List Route). lookup 32 rs (c .before .args .address)) (sym (rest-end (c .before .args .table .now) (records (c .before .args .table .now)) refl)))
 
--- src/matching.rt:63:9
 sub-i : tie.Need-sub-i Inv-loop μ-loop
 sub-i c = omega arith
 
--- src/matching.rt:64:26
 tried-at-requires : tie.Need-tried-at-requires Inv-loop μ-loop
 tried-at-requires c κs = (omega arith, c .before .before .before .pre (c .before .loop .i - 1) (omega arith))
 
--- src/matching.rt:64:9
 longer-of-requires : tie.Need-longer-of-requires Inv-loop μ-loop
 longer-of-requires c κs = search needs
 
--- src/matching.rt:62:5
 loop-less : tie.Need-loop-less Inv-loop μ-loop
 loop-less c = omega arith
 
--- src/matching.rt:62:5
 loop-again : tie.Need-loop-again Inv-loop μ-loop
 loop-again c = (
   omega arith,
@@ -49,7 +41,6 @@ loop-again c = (
       ∙ ap (λ (rs : List Route). lookup 32 rs (c .before .before .before .before .before .args .address)) (sym (rest-step (c .before .before .before .before .before .args .table .now) (c .before .before .before .loop .i) (omega arith) (omega arith))),
 )
 
--- src/matching.rt:56:1
 returns : tie.Need-returns Inv-loop μ-loop
 returns c = c .before .loop .inv .1 ∙ ap (λ (rs : List Route). lookup 32 rs (c .before .before .before .args .address)) (rest-all (c .before .before .before .args .table .now) (c .before .loop .i) (omega arith))
 

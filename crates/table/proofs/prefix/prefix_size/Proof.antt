@@ -1,25 +1,20 @@
-use Rattle.table.proofs.Laws.{one-shl}
-use native.Mathlib.Omega.{arith}
+-- `prefix::prefix_size` is a power of two that fits. Assumes nothing.
 use Prim.Native.Nat.{_-_}
+use native.Mathlib.Omega.{arith}
 use borrow.Author.Needs.{needs}
+use Rattle.table.proofs.Laws.{one-shl}
 use Rattle.table.proofs.prefix.prefix_size.Statement.{statement}
 use Rattle.table.proofs.prefix.prefix_size.Tie as tie
-use Rattle.table.proofs.prefix.prefix_size.Reads as reads
-use Rattle.table.proofs.prefix.prefix_size.Lts as lts
 
--- src/prefix.rt:12:11
 sub-result : tie.Need-sub-result
 sub-result c = search needs
 
--- src/prefix.rt:12:11
 cast-result : tie.Need-cast-result
 cast-result c = search needs
 
--- src/prefix.rt:12:5
 shl-result : tie.Need-shl-result
 shl-result c = search needs
 
--- src/prefix.rt:8:1
 returns : tie.Need-returns
 returns c = one-shl (32 - c .args .len) (omega arith)
 

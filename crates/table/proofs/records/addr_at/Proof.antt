@@ -1,49 +1,37 @@
+-- `records::addr_at` joins the four octets of record i. Assumes nothing.
 use native.Mathlib.Nat.{add-zero}
-use Rattle.table.specs.Wire.{routeAt}
 use borrow.Author.Needs.{needs}
+use Rattle.table.specs.Wire.{routeAt}
 use Rattle.table.proofs.records.addr_at.Statement.{statement}
 use Rattle.table.proofs.records.addr_at.Tie as tie
-use Rattle.table.proofs.records.addr_at.Reads as reads
-use Rattle.table.proofs.records.addr_at.Lts as lts
-use Rattle.table.proofs.records.join4.Reads as join4-reads
 
--- src/records.rt:19:13
 mul-k : tie.Need-mul-k
 mul-k c = search needs
 
--- src/records.rt:20:11
 shared-slice-read-join4 : tie.Need-shared-slice-read-join4
 shared-slice-read-join4 c = search needs
 
--- src/records.rt:20:27
 add-join4 : tie.Need-add-join4
 add-join4 c = search needs
 
--- src/records.rt:20:21
 shared-slice-read-join4-2 : tie.Need-shared-slice-read-join4-2
 shared-slice-read-join4-2 c = search needs
 
--- src/records.rt:20:41
 add-join4-2 : tie.Need-add-join4-2
 add-join4-2 c = search needs
 
--- src/records.rt:20:35
 shared-slice-read-join4-3 : tie.Need-shared-slice-read-join4-3
 shared-slice-read-join4-3 c = search needs
 
--- src/records.rt:20:55
 add-join4-3 : tie.Need-add-join4-3
 add-join4-3 c = search needs
 
--- src/records.rt:20:49
 shared-slice-read-join4-4 : tie.Need-shared-slice-read-join4-4
 shared-slice-read-join4-4 c = search needs
 
--- src/records.rt:20:5
 join4-requires : tie.Need-join4-requires
 join4-requires c κs = search needs
 
--- src/records.rt:15:1
 returns : tie.Need-returns
 unfolding routeAt
 returns c = simp add-zero (c .join4 .ensures)

@@ -1,18 +1,14 @@
+-- `rules::comes_before` compares addresses, then lengths. Assumes nothing.
 use borrow.Author.Tests.{lt-ltb, le-ltb, eq-eqb, ne-eqb}
 use Rattle.table.proofs.rules.comes_before.Statement.{statement}
 use Rattle.table.proofs.rules.comes_before.Tie as tie
-use Rattle.table.proofs.rules.comes_before.Reads as reads
-use Rattle.table.proofs.rules.comes_before.Lts as lts
 
--- src/rules.rt:35:1
 returns : tie.Need-returns
 returns c = simp (lt-ltb _ _ (c .if1 .taken))
 
--- src/rules.rt:35:1
 returns-2 : tie.Need-returns-2
 returns-2 c = simp (le-ltb _ _ (c .before .if1 .left), eq-eqb _ _ (c .if2 .taken))
 
--- src/rules.rt:35:1
 returns-3 : tie.Need-returns-3
 returns-3 c = simp (le-ltb _ _ (c .before .if1 .left), ne-eqb _ _ (c .if2 .left))
 

@@ -5,7 +5,7 @@ use lib.Dec.{leb}
 use borrow.Author.Needs.{needs}
 use borrow.Author.Tests.{le-leb, lt-leb, not-true, not-false}
 use Rattle.table.specs.Rules.{broken}
-use Rattle.table.specs.Wire.{routeAt, hostClear, tailKept, recordRules}
+use Rattle.table.specs.Wire.{routeAt, hostClear, recordRules}
 use Rattle.table.proofs.rules.fault.Statement.{statement}
 use Rattle.table.proofs.rules.fault.Tie as tie
 

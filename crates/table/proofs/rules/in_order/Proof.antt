@@ -1,43 +1,31 @@
+-- `rules::in_order` compares record i with the one before it. Assumes nothing.
 use mathlib.Core.Path.{_∙_}
-use Rattle.table.proofs.Laws.{order-next}
 use borrow.Author.Needs.{needs}
+use Rattle.table.proofs.Laws.{order-next}
 use Rattle.table.proofs.rules.in_order.Statement.{statement}
 use Rattle.table.proofs.rules.in_order.Tie as tie
-use Rattle.table.proofs.rules.in_order.Reads as reads
-use Rattle.table.proofs.rules.in_order.Lts as lts
-use Rattle.table.proofs.records.addr_at.Reads as addr-at-reads
-use Rattle.table.proofs.records.len_at.Reads as len-at-reads
-use Rattle.table.proofs.rules.comes_before.Reads as comes-before-reads
 
--- src/rules.rt:51:9
 returns : tie.Need-returns
 returns c = search needs
 
--- src/rules.rt:53:16
 sub-last : tie.Need-sub-last
 sub-last c = search needs
 
--- src/rules.rt:54:18
 addr-at-requires : tie.Need-addr-at-requires
 addr-at-requires c κs = search needs
 
--- src/rules.rt:54:40
 len-at-requires : tie.Need-len-at-requires
 len-at-requires c κs = search needs
 
--- src/rules.rt:54:61
 addr-at-requires-2 : tie.Need-addr-at-requires-2
 addr-at-requires-2 c κs = search needs
 
--- src/rules.rt:54:80
 len-at-requires-2 : tie.Need-len-at-requires-2
 len-at-requires-2 c κs = search needs
 
--- src/rules.rt:54:5
 comes-before-requires : tie.Need-comes-before-requires
 comes-before-requires c κs = search needs
 
--- src/rules.rt:46:1
 returns-2 : tie.Need-returns-2
 returns-2 c = rw (c .before .len-at2 .ensures, c .before .before .addr-at2 .ensures, c .before .before .before .len-at .ensures, c .before .before .before .before .addr-at .ensures) at (c .comes-before .ensures) ∙ order-next _ _ (c .before .before .before .before .before .if1 .left)
 

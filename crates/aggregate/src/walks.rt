@@ -1,0 +1,39 @@
+// The walks of the five modes over a whole table.
+
+use consistent::maps::aggregate_consistent_map;
+use consistent::sets::aggregate_consistent_set;
+use cover::maximal::aggregate_set;
+use cover::maximal::collect_coverage;
+use ortc::walks::collect_sets;
+
+// Lays what the mode's walk reads into the room: the coverage of the nodes in mode 1, their candidate sets in modes 4 and 5. Says where it begins.
+pub fn prepare(table: &[u8], mode: u32, fill: u8, work: &mut [u32]) -> usize {
+    let records = table.len() / 8;
+    let size = work.len();
+    if mode == 1 {
+        let root = collect_coverage(table, 0, records, 0, 0, work, size);
+        return root.top;
+    }
+    if 4 <= mode {
+        let root = collect_sets(table, 0, records, 0, 0, 64, fill, work, size);
+        return root.top;
+    }
+    size
+}
+
+// Writes the mode's result into the output, if it has room for it, and says how many records it has.
+pub fn write(table: &[u8], mode: u32, fill: u8, work: &[u32], top: usize, out: &mut [u8]) -> usize {
+    let records = table.len() / 8;
+    if mode == 1 {
+        let root = aggregate_set(table, 0, records, 0, 0, false, work, top, out);
+        return root.count;
+    }
+    if mode == 2 {
+        return aggregate_consistent_set(table, 0, records, 0, 0, out);
+    }
+    if mode == 3 {
+        return aggregate_consistent_map(table, 0, records, 0, 0, 64, out);
+    }
+    let root = ortc::walks::rewrite(table, 0, records, 0, 0, 64, fill, 64, work, top, out);
+    root.count
+}

@@ -1,0 +1,2 @@
+-- The laws of nodes.
+pub mod RoomLaws

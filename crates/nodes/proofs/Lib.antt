@@ -1,2 +1,3 @@
 -- The laws of nodes.
 pub mod RoomLaws
+pub mod RoomBlocks

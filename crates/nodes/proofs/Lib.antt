@@ -1,3 +1,4 @@
 -- The laws of nodes.
 pub mod RoomLaws
 pub mod RoomBlocks
+pub mod RoomSizes

@@ -31,11 +31,11 @@ refuses-any (r ∷ rs) a b n i e = go (r .kept) refl (refuses-any rs a b n i)
     go false p more = let f = rw p at e in rw p (cc)
 
 -- ---- One record: rules 5 to 8 by the outcome of each.
-abbrev pub four : ℕ → Bool → Bool → Bool → Bool → List Rule
-four i p q r o = rule 5 i p ∷ rule 6 i q ∷ rule 7 i r ∷ rule 8 i o ∷ []
+abbrev fourRules : ℕ → Bool → Bool → Bool → Bool → List Rule
+fourRules i p q r o = rule 5 i p ∷ rule 6 i q ∷ rule 7 i r ∷ rule 8 i o ∷ []
 
-four-kept : {A : Type 0} (i : ℕ) (rs : List Rule) (a : A) (p q r o : Bool) → broken (four i p q r o) ≡ 0
-    → judge (four i p q r o ++ rs) a ≡ judge rs a
+four-kept : {A : Type 0} (i : ℕ) (rs : List Rule) (a : A) (p q r o : Bool) → broken (fourRules i p q r o) ≡ 0
+    → judge (fourRules i p q r o ++ rs) a ≡ judge rs a
 unfolding judge broken
 four-kept i rs a true true true true z = refl
 four-kept i rs a true true true false z = absurd (omega arith)
@@ -43,8 +43,8 @@ four-kept i rs a true true false o z = absurd (omega arith)
 four-kept i rs a true false r o z = absurd (omega arith)
 four-kept i rs a false q r o z = absurd (omega arith)
 
-four-broken : {A : Type 0} (i : ℕ) (rs : List Rule) (a : A) (p q r o : Bool) → (broken (four i p q r o) ≡ 0 → ⊥)
-    → judge (four i p q r o ++ rs) a ≡ refuses (broken (four i p q r o)) i
+four-broken : {A : Type 0} (i : ℕ) (rs : List Rule) (a : A) (p q r o : Bool) → (broken (fourRules i p q r o) ≡ 0 → ⊥)
+    → judge (fourRules i p q r o ++ rs) a ≡ refuses (broken (fourRules i p q r o)) i
 unfolding judge broken
 four-broken i rs a true true true true z = absurd (z refl)
 four-broken i rs a true true true false z = refl

@@ -3,3 +3,13 @@ pub mod Laws
 pub mod Judging
 pub mod Reading
 pub mod Accepted
+pub mod Octets
+pub mod Written
+pub mod Tables
+pub mod Longest
+pub mod Calls
+pub mod Examples
+pub mod Laid
+pub mod NodeCount
+pub mod NodePass
+pub mod NodeRuns

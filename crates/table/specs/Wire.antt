@@ -1,10 +1,10 @@
 -- The table on the wire: from bytes to routes and back, and the rules 3 to 8 that a table's bytes keep. First octet first.
-use Prim.Native.Nat.{ℕ, zero, suc, _+_, _-_, _*_, _/_, _%_, _^_, _<_}
+use Prim.Native.Nat.{ℕ, zero, suc, _+_, _-_, _*_, _/_, _%_, _^_, _≤_, _<_}
 use mathlib.Core.Bool.{Bool, true, cond, _||_, _&&_}
 use mathlib.Core.List.{List, [], _∷_, _++_}
 use lib.Dec.{leb, ltb, eqb}
-use lib.ListN.{length, getD}
-use Rattle.theory.specs.Routes.{Route}
+use lib.ListN.{length, getD, take, drop}
+use Rattle.theory.specs.Routes.{Route, All, Table}
 use Rattle.table.specs.Rules.{Rule, rule}
 
 -- ---- From bytes to routes.
@@ -41,6 +41,10 @@ Bytes t = (k : ℕ) → getD t k 0 < 256
 
 -- ---- From routes to bytes.
 
+-- A route from its parts.
+abbrev pub route : ℕ → ℕ → ℕ → Route
+route addr len hop = record { addr = addr; len = len; hop = hop }
+
 -- The 8 bytes of a route's record.
 abbrev pub recordOf : Route → List ℕ
 recordOf r =
@@ -58,6 +62,10 @@ recordOf r =
 unfoldable pub bytesOf : List Route → List ℕ
 bytesOf [] = []
 bytesOf (r ∷ rs) = recordOf r ++ bytesOf rs
+
+-- A list with bytes laid over it from place k on.
+unfoldable pub laid : ℕ → List ℕ → List ℕ → List ℕ
+laid k bytes o = take k o ++ (bytes ++ drop (k + length bytes) o)
 
 -- ---- The rules, by document 01's numbers.
 
@@ -81,6 +89,12 @@ before r s = ltb (r .addr) (s .addr) || (eqb (r .addr) (s .addr) && ltb (r .len)
 abbrev pub inOrder : List ℕ → ℕ → Bool
 inOrder t zero = true
 inOrder t (suc i) = before (routeAt t i) (routeAt t (suc i))
+
+-- What the routes of an accepted table keep: they are a table of width 32, their hops are in range, and they are at most 1,024.
+pub record Lawful (isSet : Bool) (rs : List Route) : Type 0 where
+  pub table : Table 32 rs
+  pub hops : All (λ r. r .hop ≤ topHop isSet) rs
+  pub few : length rs ≤ 1024
 
 -- Rules 5 to 8 for record i.
 unfoldable pub recordRules : Bool → List ℕ → ℕ → List Rule

@@ -1,6 +1,7 @@
 // Tables on the wire: the check of a table, the longest match of an address, the addresses held.
 
 pub mod answers;
+pub mod count;
 mod matching;
 mod prefix;
 pub mod records;

@@ -22,8 +22,8 @@ enum-told c = search needs
 
 -- src/lib.rt:99:49
 sum-of-sizes-requires : tie.Need-sum-of-sizes-requires
-sum-of-sizes-requires c κs = let k = accepted _ _ false _ (sym (c .before .before .check-table .ensures) ∙ ap checkedSays (c .enum-told .given .1)) in
-    (λ i h. k .each i h .short, k .few)
+sum-of-sizes-requires c κs = let k = accepted false _ _ (sym (c .before .before .check-table .ensures) ∙ ap checkedSays (c .enum-told .given .1)) in
+    (λ i h. k .each i h .length-kept, k .few)
 
 -- src/lib.rt:100:28
 enum-known-number : tie.Need-enum-known-number

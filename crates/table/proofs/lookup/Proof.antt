@@ -23,7 +23,7 @@ enum-told c = search needs
 
 -- src/lib.rt:72:40
 longest-in-requires : tie.Need-longest-in-requires
-longest-in-requires c κs = λ i h. accepted _ _ false _ (sym (c .before .before .check-table .ensures) ∙ ap checkedSays (c .enum-told .given .1)) .each i h .short
+longest-in-requires c κs = λ i h. accepted false _ _ (sym (c .before .before .check-table .ensures) ∙ ap checkedSays (c .enum-told .given .1)) .each i h .length-kept
 
 -- src/lib.rt:72:30
 answer-of-requires : tie.Need-answer-of-requires

@@ -2,3 +2,4 @@
 pub mod RoomLaws
 pub mod RoomBlocks
 pub mod RoomSizes
+pub mod RoomNodes

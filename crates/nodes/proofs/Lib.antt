@@ -2,4 +2,5 @@
 pub mod RoomLaws
 pub mod RoomBlocks
 pub mod RoomSizes
+pub mod RoomWalk
 pub mod RoomNodes

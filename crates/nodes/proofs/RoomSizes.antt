@@ -1,8 +1,8 @@
 -- How long a node's block is, by the nodes in it, and the room that a walk from the last slot to the first has left for each slot and for the
 -- node's own words. Over the most own words that a node has.
 use Prim.Native.Nat.{ℕ, zero, suc, _+_, _-_, _*_, _≤_, _<_}
-use mathlib.Core.Path.{_≡_, refl, sym, ap, _∙_}
-use mathlib.Core.List.{List, [], _∷_, _++_}
+use mathlib.Core.Path.{_≡_, refl, ap, _∙_}
+use mathlib.Core.List.{List, [], _∷_}
 use native.Mathlib.Nat.{mul-add}
 use native.Mathlib.Numerals.{add-one}
 use native.Mathlib.Omega.{arith}
@@ -11,7 +11,7 @@ use Rattle.theory.specs.Routes.{Route}
 use Rattle.positions.specs.Runs.{inside, placeAt}
 use Rattle.nodes.specs.Node.{wide, slotSize}
 use Rattle.nodes.specs.Room.{SlotBlock, SlotBlocks, Block, nodesDeep, orNone, slotNodes, nodesBelow}
-use Rattle.nodes.proofs.RoomBlocks.{BlockAt, deep-step}
+use Rattle.nodes.proofs.RoomBlocks.{deep-step}
 
 -- ---- The nodes below a node, slot by slot.
 
@@ -97,12 +97,15 @@ module _ (most : ℕ) (own : ℕ → ℕ → List Route → List ℕ → Type 0)
 
 -- ---- The room left. Before slot c is met from the back, there is room for the slots up to it and for the node itself.
 module _ (most : ℕ) (nodes : ℕ → List Route → ℕ) (m a : ℕ) (t : List Route) where
-  -- There is room for the block of slot c.
+  -- There is room for the block of slot c, which is none where the slot has no route.
+  pub room-slot : (c at : ℕ) → most * (1 + slotNodes nodes m a t (c + 1)) ≤ at → most * nodesAt nodes m a t c ≤ at
+  room-slot c at h = omega (arith, times-next most nodes m a t c)
+
   pub room-child : (c at : ℕ) → most * (1 + slotNodes nodes m a t (c + 1)) ≤ at → 0 < length (inside wide m (placeAt m a 5 c) t)
       → most * nodes (placeAt m a 5 c) (inside wide m (placeAt m a 5 c) t) ≤ at
   room-child c at h s =
       let e = some-number (inside wide m (placeAt m a 5 c) t) (nodes (placeAt m a 5 c) (inside wide m (placeAt m a 5 c) t)) s in
-      rw (← e) (omega (arith, times-next most nodes m a t c))
+      rw e at (room-slot c at h)
 
   -- After it there is room for the slots before it.
   pub room-step : (c at at′ : ℕ) → most * (1 + slotNodes nodes m a t (c + 1)) ≤ at → at ≤ at′ + most * nodesAt nodes m a t c

@@ -11,7 +11,6 @@ use table::check_table;
 use table::count::count_nodes;
 use walks::prepare;
 use walks::write;
-
 ghost use mathlib.Core.Path.{_≡_};
 ghost use Prim.Native.Nat.{ℕ, _≤_};
 ghost use lib.ListN.{length, replicate};
@@ -48,7 +47,14 @@ fn fill_of(mode: u32, default: u32) -> u8 {
 }
 
 // The rewrite of a table that keeps the rules and has so many records, in a room that is long enough.
-fn rewrite_checked(table: &[u8], mode: u32, fill: u8, records: usize, output: &mut [u8], work: &mut [u32]) -> Rewritten {
+fn rewrite_checked(
+    table: &[u8],
+    mode: u32,
+    fill: u8,
+    records: usize,
+    output: &mut [u8],
+    work: &mut [u32],
+) -> Rewritten {
     let top = prepare(table, mode, fill, work);
     let mut nothing = [0u8; 0];
     let count = write(table, mode, fill, work, top, &mut nothing);
@@ -66,7 +72,13 @@ fn rewrite_checked(table: &[u8], mode: u32, fill: u8, records: usize, output: &m
 }
 
 // The rewrite, but for the room, in which it leaves words.
-fn rewrite_in(table: &[u8], mode: u32, default: u32, output: &mut [u8], work: &mut [u32]) -> Rewritten
+fn rewrite_in(
+    table: &[u8],
+    mode: u32,
+    default: u32,
+    output: &mut [u8],
+    work: &mut [u32],
+) -> Rewritten
     ensures { λ r. ⌜ RewritesIn (now (table .entry)) mode default (now (output .entry)) (length (now (work .entry))) r (now (output .exit)) ⌝ }
 {
     if no_mode(mode) {
@@ -97,7 +109,13 @@ fn rewrite_in(table: &[u8], mode: u32, default: u32, output: &mut [u8], work: &m
 
 // Rewrites a table in a mode, 1 to 5, into the output: the number of records written from its start, and how many more they are than the
 // table's; or a refusal. Mode 5 gives the default to what has no route. The room is zero throughout afterwards.
-pub fn rewrite(table: &[u8], mode: u32, default: u32, output: &mut [u8], work: &mut [u32]) -> Rewritten
+pub fn rewrite(
+    table: &[u8],
+    mode: u32,
+    default: u32,
+    output: &mut [u8],
+    work: &mut [u32],
+) -> Rewritten
     ensures { λ r. ⌜ Rewrites (now (table .entry)) mode default (now (output .entry)) (length (now (work .entry))) r (now (output .exit)) (now (work .exit)) ⌝ }
 {
     let answer = rewrite_in(table, mode, default, output, work);

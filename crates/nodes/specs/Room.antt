@@ -1,6 +1,6 @@
 -- The work room: words laid from its end downward, a block of words for each node. From its start a node's block reads: the node's own
 -- words, then the blocks of its slots that have a record, in order.
-use Prim.Native.Nat.{ℕ, zero, suc, _+_, _-_, _*_, _/_}
+use Prim.Native.Nat.{ℕ, zero, suc, _+_, _-_, _*_, _/_, _≤_}
 use mathlib.Core.Path.{_≡_}
 use mathlib.Core.List.{List, [], _∷_, _++_}
 use lib.ListN.{length, take, drop}
@@ -74,3 +74,21 @@ pub record Stored (own : ℕ → ℕ → List Route → List ℕ → Type 0) (k 
   pub words : List ℕ
   pub block : Block own k a t words
   pub begins : Begins words top o
+
+-- ---- The loops over a node's slots.
+
+-- From the last slot to the first: the blocks of the slots from c on are laid from `at` to top, and below `at` there is room for those before
+-- them and for the node's own words, where a node has `most` words.
+pub record SlotsLaid (most : ℕ) (block : ℕ → List Route → List ℕ → Type 0) (nodes : ℕ → List Route → ℕ) (m a : ℕ) (t : List Route)
+    (c top at : ℕ) (o o′ : List ℕ) : Type 0 where
+  pub words : List ℕ
+  pub pushed : Pushed words top at o o′
+  pub blocks : SlotBlocks block m a t (32 - c) words
+  pub room : most * (1 + slotNodes nodes m a t c) ≤ at
+
+-- From the first slot to the last: the blocks of the slots from c on stand from `at` to `end`.
+pub record SlotsAhead (block : ℕ → List Route → List ℕ → Type 0) (m a : ℕ) (t : List Route) (c at end : ℕ) (o : List ℕ) : Type 0 where
+  pub words : List ℕ
+  pub begins : Begins words at o
+  pub blocks : SlotBlocks block m a t (32 - c) words
+  pub ends : at + length words ≡ end

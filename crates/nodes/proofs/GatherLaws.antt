@@ -1,18 +1,15 @@
 -- What the pass over a node's records is good for: the hops that cover the positions, the positions with a route, the nodes in the slots, and the
 -- node of a whole table.
-use Prim.Native.Nat.{ℕ, zero, suc, _+_, _-_, _*_, _/_, _^_, _≤_, _<_}
+use Prim.Native.Nat.{ℕ, zero, suc, _+_, _-_, _/_, _^_, _≤_, _<_}
 use mathlib.Core.Path.{_≡_, refl, sym, ap, subst, _∙_}
-use mathlib.Core.Bool.{Bool, true, false, cond}
+use mathlib.Core.Bool.{Bool, true, false}
 use mathlib.Core.List.{List, [], _∷_}
-use mathlib.Core.Logic.{_↔_}
-use native.Mathlib.Nat.{pow-suc}
 use native.Mathlib.Decide.{decLt}
 use native.Mathlib.Omega.{arith}
-use lib.Dec.{ltb}
 use lib.ListN.{getD}
 use borrow.Author.Tests.{lt-ltb, le-ltb}
 use Rattle.theory.specs.Results.{part}
-use Rattle.theory.specs.Routes.{Route, Answer, none, via, All, cons, Aligned, Table, Member}
+use Rattle.theory.specs.Routes.{Route, All, Aligned, Table, Member}
 use Rattle.theory.proofs.Blocks.{aligned-zero}
 use Rattle.theory.proofs.Lists.{all-map, all-member}
 use Rattle.theory.proofs.Order.{valid-within}
@@ -20,17 +17,18 @@ use Rattle.theory.proofs.Parts.{all-part, table-part, part-agree}
 use Rattle.theory.proofs.Preserve.{Within}
 use Rattle.theory.proofs.Routed.{routed}
 use Rattle.table.specs.Rules.{gives, judge}
-use Rattle.table.specs.Wire.{records, routeAt, routesFrom, routes, Bytes, topHop, Lawful, tableRules}
+use Rattle.table.specs.Wire.{records, routeAt, routes, Bytes, topHop, Lawful, tableRules}
 use Rattle.table.proofs.Tables.{accepted-table}
 use Rattle.words.specs.Bits.{bit}
 use Rattle.words.specs.Positions.{position}
-use Rattle.positions.specs.Runs.{isAt, isIn, inside, headHop, own, orElse, sizeAt, placeAt, cover}
+use Rattle.positions.specs.Runs.{isAt, inside, headHop, own, orElse, sizeAt, placeAt, cover}
 use Rattle.positions.specs.Wide.{widened}
 use Rattle.positions.proofs.Runs.{Run, inside-within}
 use Rattle.positions.proofs.RunsNode.{size-slot, place-aligned, place-nested, above-lt}
 use Rattle.positions.proofs.Wide.{all-widen, table-widen, short-widen}
 use Rattle.nodes.specs.Node.{wide, spare, wideAt, run, slotSize, Node, hopOf}
 use Rattle.nodes.specs.Gathered.{filed, some, runAt, Gathered, valueOf, coveringAt}
+use Rattle.nodes.proofs.GatherPlaces.{filed-position}
 use Rattle.nodes.proofs.GatherRuns.{member-run, run-none, run-first}
 
 -- ---- The records of a position, and of a slot.
@@ -48,7 +46,7 @@ module _ {t : List ℕ} {lo hi depth key : ℕ} {first end : List ℕ} {present 
       → part (filed (slotSize depth) key l j) (run t lo hi) ≡ part (isAt wide (sizeAt (slotSize depth) l) (placeAt (slotSize depth) key l j)) (run t lo hi)
   position-part l j le lt =
       part-agree (filed (slotSize depth) key l j) (isAt wide (sizeAt (slotSize depth) l) (placeAt (slotSize depth) key l j)) (run t lo hi)
-      (λ r m. rw (lt-ltb l 5 (omega arith)))
+      (λ r m. filed-position (slotSize depth) key l j r (omega arith))
 
   pub position-run : (l j : ℕ) → l ≤ 4 → j < 2 ^ l
       → runAt t first end (position l j) ≡ part (isAt wide (sizeAt (slotSize depth) l) (placeAt (slotSize depth) key l j)) (run t lo hi)
@@ -68,7 +66,9 @@ module _ {t : List ℕ} {lo hi depth key : ℕ} {first end : List ℕ} {present 
   -- A position is marked exactly when it has a hop of its own.
   pub member-is : (l j : ℕ) → l ≤ 4 → j < 2 ^ l
       → bit present (position l j) ≡ routed (own wide (sizeAt (slotSize depth) l) (placeAt (slotSize depth) key l j) (run t lo hi))
-  member-is l j le lt = g .members l j le lt ∙ ap some (position-part l j le lt) ∙ has-hop (part (isAt wide (sizeAt (slotSize depth) l) (placeAt (slotSize depth) key l j)) (run t lo hi))
+  member-is l j le lt =
+      g .members l j le lt ∙ ap some (position-part l j le lt)
+      ∙ has-hop (part (isAt wide (sizeAt (slotSize depth) l) (placeAt (slotSize depth) key l j)) (run t lo hi))
     where
       has-hop : (rs : List Route) → some rs ≡ routed (headHop rs)
       has-hop [] = refl
@@ -95,14 +95,19 @@ module _ (t : List ℕ) (first end over : ℕ) (hops : All (λ r. r .hop < 64) (
       go (yes lt) = rw (lt-ltb first end lt) (omega (arith, first-hop lt))
       go (no ge) = let le : end ≤ first = omega arith in rw (le-ltb first end le) h
 
-module _ {t : List ℕ} {lo hi depth key : ℕ} {first end : List ℕ} {present : ℕ} (n : Node t lo hi depth key) (g : Gathered t lo hi depth key first end present) where
+module _ {t : List ℕ} {lo hi depth key : ℕ} {first end : List ℕ} {present : ℕ} (n : Node t lo hi depth key)
+    (g : Gathered t lo hi depth key first end present) where
+  -- The records of every place end in the table.
+  pub ends-in : (b : ℕ) → b < 63 → getD end b 0 ≤ records t
+  ends-in b h = omega (arith, g .bounds b h, n .high)
+
   hops-at : (l j : ℕ) → l ≤ 4 → j < 2 ^ l → All (λ r. r .hop < 64) (runAt t first end (position l j))
   hops-at l j le lt = rw (position-run g l j le lt) (all-part _ (λ r h e. h) (n .hops))
 
-  at : (inherited l j over : ℕ) → l ≤ 4 → j < 2 ^ l
+  position-hop : (l j over : ℕ) → l ≤ 4 → j < 2 ^ l
       → hopOf (valueOf t (getD first (position l j) 0) (getD end (position l j) 0) over)
       ≡ orElse (own wide (sizeAt (slotSize depth) l) (placeAt (slotSize depth) key l j) (run t lo hi)) (hopOf over)
-  at inherited l j over le lt =
+  position-hop l j over le lt =
       value-is t (getD first (position l j) 0) (getD end (position l j) 0) over (hops-at l j le lt)
       ∙ ap (λ (rs : List Route). orElse (headHop rs) (hopOf over)) (position-run g l j le lt)
 
@@ -110,9 +115,9 @@ module _ {t : List ℕ} {lo hi depth key : ℕ} {first end : List ℕ} {present 
   pub covering-is : (inherited l j : ℕ) → l ≤ 4 → j < 2 ^ l
       → hopOf (coveringAt t first end inherited l j) ≡ cover wide (slotSize depth) key (run t lo hi) (hopOf inherited) l j
   unfolding coveringAt cover
-  covering-is inherited zero j le lt = at inherited zero j inherited le lt
+  covering-is inherited zero j le lt = position-hop zero j inherited le lt
   covering-is inherited (suc l) j le lt =
-      at inherited (suc l) j (coveringAt t first end inherited l (j / 2)) le lt
+      position-hop (suc l) j (coveringAt t first end inherited l (j / 2)) le lt
       ∙ ap (orElse (own wide (sizeAt (slotSize depth) (suc l)) (placeAt (slotSize depth) key (suc l) j) (run t lo hi)))
       (covering-is inherited l (j / 2) (omega arith) (above-lt l j lt))
 
@@ -131,7 +136,7 @@ module _ {t : List ℕ} {lo hi depth key : ℕ} {first end : List ℕ} {present 
   child-node c lt has =
       record {
         low = omega arith;
-        high = omega (arith, g .bounds (31 + c) (omega arith), n .high);
+        high = ends-in (31 + c) (omega arith);
         level = suc (n .level);
         fives = omega (arith, n .fives);
         deep = omega (arith, all-member inner one .deep, all-member shorts one, n .fives, n .deep);

@@ -1,4 +1,5 @@
 -- The laws of nodes.
+pub mod OutputLevels
 pub mod OutputLaws
 pub mod GatherPlaces
 pub mod GatherRuns

@@ -1,93 +1,93 @@
 -- What is written of a node by parts: nothing, one record, one part after another, and a part lent as the output's tail; the whole at the end;
--- the entries that begin at a slot as a walk has them; and how many records the slots of a node can have.
+-- the entries that begin at a slot as a walk has them; and how many records the slots of a node can have. Assumes nothing.
 use Prim.Native.Nat.{ℕ, zero, suc, _+_, _-_, _*_, _/_, _%_, _^_, _≤_, _<_}
 use mathlib.Core.Path.{_≡_, refl, sym, ap, ap₂, _∙_}
-use mathlib.Core.Bool.{Bool, true, false, cond}
-use mathlib.Core.List.{List, [], _∷_, _++_, append-assoc, append-nil}
+use mathlib.Core.Bool.{Bool, true, false}
+use mathlib.Core.List.{List, [], _∷_, _++_, append-nil}
 use native.Mathlib.Omega.{arith}
-use lib.ListN.{length, take, drop, length-append, length-take, length-drop, take-append-drop, drop-of-length-le}
-use lib.Seq.{length-take-le, take-all, take-at, drop-at, drop-drop, sets, sets-eq}
+use native.Mathlib.Nat.{add-zero, add-mul, mul-comm, mul-assoc, mul-le-mul-right, mul-lt-mul-of-pos-right, div-add-mod'}
+use native.Mathlib.Numerals.{add-one}
+use lib.Dec.{eqb}
+use lib.ListN.{length, take, drop, length-append, length-drop, drop-of-length-le}
+use lib.Pow.{pow-pos, pow-add, pow-mono}
+use lib.Seq.{take-all}
+use borrow.Author.Tests.{eqb-true}
 use Rattle.theory.specs.Routes.{Route}
-use Rattle.positions.specs.Wide.{narrow, narrowed}
-use Rattle.table.specs.Wire.{recordOf, bytesOf}
+use Rattle.table.specs.Wire.{recordOf, bytesOf, laid}
+use Rattle.table.proofs.Laid.{laid-none, laid-then, laid-tail, bytes-append}
 use Rattle.table.proofs.Written.{length-bytes}
-use Rattle.nodes.specs.Node.{spare}
-use Rattle.nodes.specs.Output.{wireOf, Wrote, routeOf}
+use Rattle.positions.specs.Runs.{placeAt}
+use Rattle.positions.specs.Walk.{startsAt, heads, slots}
+use Rattle.positions.specs.Wide.{narrow, narrowed}
+use Rattle.positions.proofs.Wide.{narrowed-append, length-narrow}
+use Rattle.nodes.specs.Node.{wide, spare, slotSize}
+use Rattle.nodes.specs.Output.{wireOf, Wrote, entryAt, slotHead, slotHeads}
 
 -- ---- The bytes of routes.
 
-length-narrowed : (rs : List Route) → length (narrowed spare rs) ≡ length rs
-length-narrowed [] = refl
-length-narrowed (r ∷ rs) = ap suc (length-narrowed rs)
-
 -- Each route has 8 bytes.
 pub length-wire : (rs : List Route) → length (wireOf rs) ≡ length rs * 8
-length-wire rs = omega (arith, length-bytes (narrowed spare rs), length-narrowed rs)
+length-wire rs = omega (arith, length-bytes (narrowed spare rs), length-narrow spare rs)
 
 -- The bytes of one part after another.
 pub wire-append : (x y : List Route) → wireOf (x ++ y) ≡ wireOf x ++ wireOf y
-unfolding bytesOf
-wire-append [] y = refl
-wire-append (r ∷ x) y = ap (λ (b : List ℕ). recordOf (narrow spare r) ++ b) (wire-append x y)
-
--- The bytes of one route.
-pub wire-one : (r : Route) → wireOf (r ∷ []) ≡ recordOf (narrow spare r)
-unfolding bytesOf
-wire-one r = refl
+wire-append x y = ap bytesOf (narrowed-append spare x y) ∙ bytes-append (narrowed spare x) (narrowed spare y)
 
 -- ---- Writing by parts.
+
+-- The bytes that `Wrote` names are laid as the table's own laws have it.
+laid-is : (rs : List Route) (done k : ℕ) (o : List ℕ) → k ≡ done + length rs
+    → take (done * 8) o ++ (wireOf rs ++ drop (k * 8) o) ≡ laid (done * 8) (wireOf rs) o
+unfolding laid
+laid-is rs done k o e = let s : k * 8 ≡ done * 8 + length (wireOf rs) = omega (arith, length-wire rs) in rw s
+
+-- So is what was written, where it fits,
+pub wrote-laid : {rs : List Route} {done k : ℕ} {o o′ : List ℕ} → Wrote rs done k o o′ → k * 8 ≤ length o → o′ ≡ laid (done * 8) (wireOf rs) o
+wrote-laid {rs} {done} {k} {o} p fits = p .laid fits ∙ laid-is rs done k o (p .counted)
+
+-- and what is laid so was written.
+pub wrote-from : {rs : List Route} {done k : ℕ} {o o′ : List ℕ} → k ≡ done + length rs
+    → (k * 8 ≤ length o → o′ ≡ laid (done * 8) (wireOf rs) o) → Wrote rs done k o o′
+wrote-from {rs} {done} {k} {o} e f = record { counted = e; laid = λ fits. f fits ∙ sym (laid-is rs done k o e) }
 
 -- Nothing is written where there is nothing to write.
 pub wrote-none : (done : ℕ) (o : List ℕ) → Wrote [] done done o o
 unfolding bytesOf
-wrote-none done o = record { counted = omega arith; laid = λ fits. sym (take-append-drop (done * 8) o) }
+wrote-none done o = wrote-from (omega arith) (λ fits. sym (laid-none (done * 8) o))
 
 -- One part, and another after it.
 pub wrote-then : {x y : List Route} {d k m : ℕ} {o o₁ o₂ : List ℕ} → Wrote x d k o o₁ → Wrote y k m o₁ o₂ → length o₁ ≡ length o
     → Wrote (x ++ y) d m o o₂
-wrote-then {x} {y} {d} {k} {m} {o} {o₁} {o₂} p q same = record {
-  counted = let a = p .counted in let b = q .counted in omega (arith, length-append x y);
-  laid = λ fits.
-      let a = p .counted in
-      let b = q .counted in
-      let e₁ : o₁ ≡ (take (d * 8) o ++ wireOf x) ++ drop (k * 8) o =
-      p .laid (omega arith) ∙ sym (append-assoc (take (d * 8) o) (wireOf x) (drop (k * 8) o)) in
-      let t : length (take (d * 8) o) ≡ d * 8 = length-take-le (d * 8) o (omega arith) in
-      let l : length (take (d * 8) o ++ wireOf x) ≡ k * 8 =
-      omega (arith, length-append (take (d * 8) o) (wireOf x), length-wire x) in
-      let f : take (k * 8) o₁ ≡ take (d * 8) o ++ wireOf x = ap (take (k * 8)) e₁ ∙ take-at (take (d * 8) o ++ wireOf x) (drop (k * 8) o) (k * 8) l in
-      let g : drop (m * 8) o₁ ≡ drop (m * 8) o =
-      let s : m * 8 ≡ k * 8 + length y * 8 = omega arith in
-      let u : drop (k * 8) o₁ ≡ drop (k * 8) o = ap (drop (k * 8)) e₁ ∙ drop-at (take (d * 8) o ++ wireOf x) (drop (k * 8) o) (k * 8) l in
-      rw s (sym (drop-drop (length y * 8) (k * 8) o₁) ∙ ap (drop (length y * 8)) u ∙ drop-drop (length y * 8) (k * 8) o) in
-      q .laid (omega arith) ∙ rw (f, g, wire-append x y) (simp append-assoc);
-}
+wrote-then {x} {y} {d} {k} {m} {o} {o₁} {o₂} p q same =
+    let a = p .counted in
+    let b = q .counted in
+    wrote-from (omega (arith, length-append x y)) (λ fits.
+    let s : k * 8 ≡ d * 8 + length (wireOf x) = omega (arith, length-wire x) in
+    let room : d * 8 + length (wireOf x) + length (wireOf y) ≤ length o = omega (arith, length-wire y) in
+    wrote-laid q (omega arith) ∙ rw (wrote-laid p (omega arith), s, wire-append x y) (laid-then (d * 8) (wireOf x) (wireOf y) o room))
 
 -- What a call that was lent the tail of the output from `at` on wrote there.
 pub wrote-tail : {rs : List Route} {done k : ℕ} (o ys : List ℕ) (at : ℕ) → (done * 8 ≤ length o → at ≡ done * 8) → at ≤ length o
     → Wrote rs 0 k (take (length o - at) (drop at o)) ys
     → Wrote rs done (done + k) o (take at o ++ (ys ++ drop (length o - at) (drop at o)))
-wrote-tail {rs} {done} {k} o ys at here within p = record {
-  counted = let a = p .counted in omega arith;
-  laid = λ fits.
-      let a = p .counted in
-      let s : at ≡ done * 8 = here (omega arith) in
-      let n : length (drop at o) ≡ length o - at = length-drop at o in
-      let w : take (length o - at) (drop at o) ≡ drop at o = take-all (length o - at) (drop at o) (omega arith) in
-      let z : drop (length o - at) (drop at o) ≡ [] = drop-of-length-le (drop at o) {i = length o - at} (omega arith) in
-      let room : k * 8 ≤ length (take (length o - at) (drop at o)) = rw w (omega arith) in
-      let y : ys ≡ wireOf rs ++ drop (k * 8) (drop at o) = p .laid room ∙ rw w in
-      let e : at + k * 8 ≡ (done + k) * 8 = omega arith in
-      rw (z, append-nil, y, drop-drop, e, s);
-}
+wrote-tail {rs} {done} {k} o ys at here within p =
+    let a = p .counted in
+    wrote-from (omega arith) (λ fits.
+    let s : at ≡ done * 8 = here (omega arith) in
+    let n : length (drop at o) ≡ length o - at = length-drop at o in
+    let w : take (length o - at) (drop at o) ≡ drop at o = take-all (length o - at) (drop at o) (omega arith) in
+    let z : drop (length o - at) (drop at o) ≡ [] = drop-of-length-le (drop at o) {i = length o - at} (omega arith) in
+    let y : ys ≡ laid 0 (wireOf rs) (drop at o) = wrote-laid p (rw w (omega arith)) ∙ rw w in
+    rw (z, append-nil, y) (laid-tail at 0 (wireOf rs) o ∙ rw (add-zero at, s)))
 
 -- One record at the start of the output.
-pub wrote-record : (r : Route) (o : List ℕ) → 8 ≤ length o → Wrote (r ∷ []) 0 1 o (sets o 0 (recordOf (narrow spare r)))
-wrote-record r o long = record { counted = refl; laid = λ fits. rw (wire-one r) (sets-eq (recordOf (narrow spare r)) o 0 long) }
+pub wrote-record : (r : Route) (o o′ : List ℕ) → o′ ≡ laid 0 (recordOf (narrow spare r)) o → Wrote (r ∷ []) 0 1 o o′
+unfolding bytesOf
+wrote-record r o o′ e = wrote-from refl (λ fits. e)
 
 -- Where there is no room for a record it is counted only.
-pub wrote-short : (r : Route) (o : List ℕ) → length o < 8 → Wrote (r ∷ []) 0 1 o o
-wrote-short r o short = record { counted = refl; laid = λ fits. absurd (omega arith) }
+pub wrote-short : (r : Route) (o o′ : List ℕ) → length o < 8 → Wrote (r ∷ []) 0 1 o o′
+wrote-short r o o′ short = record { counted = refl; laid = λ fits. absurd (omega arith) }
 
 -- All that is written, where it fits: the routes' bytes, and what stood after them.
 pub wrote-whole : {rs : List Route} {k : ℕ} {o o′ : List ℕ} → Wrote rs 0 k o o′ → k * 8 ≤ length o
@@ -97,3 +97,71 @@ wrote-whole p fits = (p .laid fits, let a = p .counted in omega arith)
 -- How many were written, whatever room there was.
 pub wrote-count : {rs : List Route} {k : ℕ} {o o′ : List ℕ} → Wrote rs 0 k o o′ → k ≡ length rs
 wrote-count p = let a = p .counted in omega arith
+
+-- ---- The entries that begin at a slot, as a walk by slots has them.
+
+-- Where a position of level l begins at slot c, it stands where the slot does.
+pub begins-at : (m key l c : ℕ) → c % 2 ^ (5 - l) ≡ 0 → placeAt m key 5 c ≡ placeAt m key l (c / 2 ^ (5 - l))
+begins-at m key l c z =
+    let q : c / 2 ^ (5 - l) * 2 ^ (5 - l) ≡ c = let s = div-add-mod' c (2 ^ (5 - l)) in omega arith in
+    let e : c * 2 ^ (m + 0) ≡ c / 2 ^ (5 - l) * 2 ^ (m + (5 - l)) =
+    rw (pow-add 2 m (5 - l), mul-comm (2 ^ m) (2 ^ (5 - l)), ← mul-assoc, q, add-zero m) in
+    ap (λ (n : ℕ). key + n) e
+
+module _ (entries : ℕ) (hops : List ℕ) (depth key c : ℕ) where
+  -- Of one level.
+  pub slot-head : (l : ℕ) → slotHead entries hops depth (placeAt (slotSize depth) key 5 c) c l ≡ startsAt (entryAt entries hops depth key) l c
+  slot-head l = go (eqb (c % 2 ^ (5 - l)) 0) refl
+    where
+      go : (b : Bool) → eqb (c % 2 ^ (5 - l)) 0 ≡ b
+          → slotHead entries hops depth (placeAt (slotSize depth) key 5 c) c l ≡ startsAt (entryAt entries hops depth key) l c
+      go true e = rw (e, begins-at (slotSize depth) key l c (eqb-true (c % 2 ^ (5 - l)) 0 e))
+      go false e = rw e
+
+  -- Of the first levels.
+  pub slot-heads : (l : ℕ)
+      → slotHeads entries hops depth (placeAt (slotSize depth) key 5 c) c l ≡ heads (entryAt entries hops depth key) l c
+  unfolding slotHeads heads
+  slot-heads zero = refl
+  slot-heads (suc l) = ap₂ _++_ (slot-heads l) (slot-head l)
+
+-- A slot of a node stands at a wide address.
+pub slot-below : (depth key c : ℕ) → depth ≤ 30 → c < 32 → key + 2 ^ (wide - depth) ≤ 2 ^ wide → placeAt (slotSize depth) key 5 c < 2 ^ wide
+slot-below depth key c deep b h =
+    let s : wide - depth ≡ slotSize depth + 5 = omega arith in
+    let e : 2 ^ (wide - depth) ≡ 2 ^ slotSize depth * 32 = rw s (pow-add 2 (slotSize depth) 5) in
+    let l : c * 2 ^ slotSize depth < 32 * 2 ^ slotSize depth = mul-lt-mul-of-pos-right b (pow-pos (slotSize depth)) in
+    rw (add-zero (slotSize depth)) (omega arith)
+
+-- ---- How many records the slots of a node can have.
+
+-- With c slots of at most K - 1 records each, so with one slot more.
+pub slots-count : (K c n e k : ℕ) → n + c ≤ c * K → (e + k) + 1 ≤ K → (n + (e + k)) + (c + 1) ≤ (c + 1) * K
+slots-count K c n e k all one = let s : (c + 1) * K ≡ c * K + 1 * K = add-mul c 1 K in omega arith
+
+-- All 32 slots of a node, each of size m: 32 fewer than 8 for each address.
+pub node-count : (m n : ℕ) → n + 32 ≤ 32 * (8 * 2 ^ m) → n + 32 ≤ 8 * 2 ^ (m + 5)
+node-count m n h = let e : 2 ^ (m + 5) ≡ 2 ^ m * 32 = pow-add 2 m 5 in omega arith
+
+-- After any of its slots there are few enough to count.
+pub slots-small : (m c n : ℕ) → m ≤ 30 → c ≤ 32 → n + c ≤ c * (8 * 2 ^ m) → n + c ≤ 2 ^ 38
+slots-small m c n h b all =
+    let one : 2 ^ m ≤ 2 ^ 30 = pow-mono h in
+    let more : c * (8 * 2 ^ m) ≤ 32 * (8 * 2 ^ m) = mul-le-mul-right (8 * 2 ^ m) b in
+    omega arith
+
+-- ---- A node written by its slots.
+
+-- Of no slot there is nothing to write.
+pub slots-zero : (entry : ℕ → ℕ → List Route) (slot : ℕ → List Route) → slots entry slot 0 ≡ []
+unfolding slots
+slots-zero entry slot = refl
+
+-- One slot more: the entries that begin there, and then its own.
+pub slots-more : (entries : ℕ) (hops : List ℕ) (depth key : ℕ) (slot : ℕ → List Route) (c : ℕ) {n e k : ℕ} {o o₁ o₂ o₃ : List ℕ}
+    → Wrote (slots (entryAt entries hops depth key) slot c) 0 n o o₁ → length o₁ ≡ length o
+    → Wrote (slotHeads entries hops depth (placeAt (slotSize depth) key 5 c) c 5) n e o₁ o₂ → length o₂ ≡ length o₁ → Wrote (slot c) e k o₂ o₃
+    → Wrote (slots (entryAt entries hops depth key) slot (c + 1)) 0 k o o₃
+unfolding slots
+slots-more entries hops depth key slot c p same q same′ r =
+    rw (add-one c, ← slot-heads entries hops depth key c 5) (wrote-then p (wrote-then q r same′) same)

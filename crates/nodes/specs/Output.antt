@@ -1,12 +1,12 @@
 -- What is written of a node: records laid one after another at the start of the output, where they fit.
-use Prim.Native.Nat.{ℕ, zero, suc, _+_, _-_, _*_, _/_, _%_, _^_, _≤_, _<_}
+use Prim.Native.Nat.{ℕ, zero, suc, _+_, _-_, _*_, _/_, _%_, _^_, _≤_}
 use mathlib.Core.Path.{_≡_}
-use mathlib.Core.Bool.{Bool, cond}
+use mathlib.Core.Bool.{cond}
 use mathlib.Core.List.{List, [], _∷_, _++_}
 use lib.Dec.{eqb}
 use lib.ListN.{length, getD, take, drop}
 use Rattle.theory.specs.Routes.{Route}
-use Rattle.table.specs.Wire.{bytesOf}
+use Rattle.table.specs.Wire.{bytesOf, route}
 use Rattle.words.specs.Bits.{bit}
 use Rattle.words.specs.Positions.{position}
 use Rattle.positions.specs.Runs.{placeAt}
@@ -22,15 +22,11 @@ pub record Wrote (rs : List Route) (done k : ℕ) (o o′ : List ℕ) : Type 0 w
   pub counted : k ≡ done + length rs
   pub laid : k * 8 ≤ length o → o′ ≡ take (done * 8) o ++ (wireOf rs ++ drop (k * 8) o)
 
--- A route by its parts.
-abbrev pub routeOf : ℕ → ℕ → ℕ → Route
-routeOf addr len hop = record { addr = addr; len = len; hop = hop }
-
 -- The entry of position j of level l, where the bits say which positions have one, and the list their hops.
 abbrev pub entryAt : ℕ → List ℕ → ℕ → ℕ → ℕ → ℕ → List Route
 entryAt entries hops depth key l j =
     cond (bit entries (position l j))
-    (routeOf (placeAt (slotSize depth) key l j) (depth + l) (getD hops (position l j) 0) ∷ [])
+    (route (placeAt (slotSize depth) key l j) (depth + l) (getD hops (position l j) 0) ∷ [])
     []
 
 -- The entry of the position of level l that begins at slot c, which stands at addr, if one does and has an entry.
@@ -38,7 +34,7 @@ abbrev pub slotHead : ℕ → List ℕ → ℕ → ℕ → ℕ → ℕ → List 
 slotHead entries hops depth addr c l =
     cond (eqb (c % 2 ^ (5 - l)) 0)
     (cond (bit entries (position l (c / 2 ^ (5 - l))))
-    (routeOf addr (depth + l) (getD hops (position l (c / 2 ^ (5 - l))) 0) ∷ [])
+    (route addr (depth + l) (getD hops (position l (c / 2 ^ (5 - l))) 0) ∷ [])
     [])
     []
 

@@ -1,12 +1,14 @@
 // Writing the entries of a node's positions, slot by slot, in table order. Where the output has no room nothing is written, but it is counted.
 
+use table::records::write_record;
 use words::bits::has_bit;
 ghost use mathlib.Core.Path.{_≡_};
 ghost use Prim.Native.Nat.{_+_, _*_, _^_, _≤_, _<_};
 ghost use mathlib.Core.List.{[], _∷_};
 ghost use lib.ListN.{length};
+ghost use Rattle.table.specs.Wire.{route};
 ghost use Rattle.nodes.specs.Node.{wide};
-ghost use Rattle.nodes.specs.Output.{Wrote, routeOf, slotHead, slotHeads};
+ghost use Rattle.nodes.specs.Output.{Wrote, slotHead, slotHeads};
 
 // Where `count` records end in an output of `len` bytes; its end, where they do not fit.
 pub fn past(count: usize, len: usize) -> usize
@@ -19,18 +21,10 @@ pub fn past(count: usize, len: usize) -> usize
 // Writes one record at the start of the output, if there is room for it.
 pub fn put(out: &mut [u8], addr: u64, len: usize, hop: u8)
     requires { ⌜ (addr < 2 ^ wide) × (len < 256) ⌝ }
-    ensures { λ _. ⌜ Wrote (routeOf addr len hop ∷ []) 0 1 (now (out .entry)) (now (out .exit)) ⌝ }
+    ensures { λ _. ⌜ Wrote (route addr len hop ∷ []) 0 1 (now (out .entry)) (now (out .exit)) ⌝ }
 {
     if 8 <= out.len() {
-        let a = addr / 8;
-        out[0] = (a / 16777216 % 256) as u8;
-        out[1] = (a / 65536 % 256) as u8;
-        out[2] = (a / 256 % 256) as u8;
-        out[3] = (a % 256) as u8;
-        out[4] = len as u8;
-        out[5] = hop;
-        out[6] = 0;
-        out[7] = 0;
+        write_record(out, 0, (addr / 8) as u32, len as u8, hop);
     }
 }
 

@@ -9,3 +9,4 @@ pub mod Tables
 pub mod Longest
 pub mod Calls
 pub mod Examples
+pub mod Laid

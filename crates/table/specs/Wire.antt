@@ -3,7 +3,7 @@ use Prim.Native.Nat.{ℕ, zero, suc, _+_, _-_, _*_, _/_, _%_, _^_, _≤_, _<_}
 use mathlib.Core.Bool.{Bool, true, cond, _||_, _&&_}
 use mathlib.Core.List.{List, [], _∷_, _++_}
 use lib.Dec.{leb, ltb, eqb}
-use lib.ListN.{length, getD}
+use lib.ListN.{length, getD, take, drop}
 use Rattle.theory.specs.Routes.{Route, All, Table}
 use Rattle.table.specs.Rules.{Rule, rule}
 
@@ -41,6 +41,10 @@ Bytes t = (k : ℕ) → getD t k 0 < 256
 
 -- ---- From routes to bytes.
 
+-- A route from its parts.
+abbrev pub route : ℕ → ℕ → ℕ → Route
+route addr len hop = record { addr = addr; len = len; hop = hop }
+
 -- The 8 bytes of a route's record.
 abbrev pub recordOf : Route → List ℕ
 recordOf r =
@@ -58,6 +62,10 @@ recordOf r =
 unfoldable pub bytesOf : List Route → List ℕ
 bytesOf [] = []
 bytesOf (r ∷ rs) = recordOf r ++ bytesOf rs
+
+-- A list with bytes laid over it from place k on.
+unfoldable pub laid : ℕ → List ℕ → List ℕ → List ℕ
+laid k bytes o = take k o ++ (bytes ++ drop (k + length bytes) o)
 
 -- ---- The rules, by document 01's numbers.
 

@@ -1,8 +1,9 @@
 // One record of a table: reading its fields, and writing it whole.
 
 ghost use mathlib.Core.Path.{_≡_};
-ghost use Prim.Native.Nat.{_+_, _*_, _<_};
-ghost use Rattle.table.specs.Wire.{join, records, routeAt};
+ghost use Prim.Native.Nat.{_+_, _*_, _<_, _≤_};
+ghost use lib.ListN.{length};
+ghost use Rattle.table.specs.Wire.{join, records, routeAt, route, recordOf, laid};
 
 // Four octets as a number, the first the most significant.
 pub fn join4(a: u8, b: u8, c: u8, d: u8) -> u32
@@ -34,4 +35,20 @@ pub fn hop_at(table: &[u8], i: usize) -> u8
     ensures { λ r. ⌜ r ≡ routeAt (now (table .entry)) i .hop ⌝ }
 {
     table[8 * i + 5]
+}
+
+// Writes a record at record index `at` of the output. The other bytes stay.
+pub fn write_record(out: &mut [u8], at: usize, addr: u32, len: u8, hop: u8)
+    requires { ⌜ 8 * at + 8 ≤ length (now out) ⌝ }
+    ensures { λ _. ⌜ now (out .exit) ≡ laid (8 * at) (recordOf (route addr len hop)) (now (out .entry)) ⌝ }
+{
+    let k = 8 * at;
+    out[k] = (addr / 16777216 % 256) as u8;
+    out[k + 1] = (addr / 65536 % 256) as u8;
+    out[k + 2] = (addr / 256 % 256) as u8;
+    out[k + 3] = (addr % 256) as u8;
+    out[k + 4] = len;
+    out[k + 5] = hop;
+    out[k + 6] = 0;
+    out[k + 7] = 0;
 }

@@ -1,0 +1,58 @@
+-- `nodes::emit::emit_slot` meets its contract. The loop: the entries of the first l levels are written, at most one for each. Assumes nothing.
+use mathlib.Core.Path.{_≡_, refl, _∙_}
+use Prim.Native.Nat.{_-_, _≤_}
+use native.Mathlib.Omega.{arith}
+use lib.ListN.{length}
+use borrow.Author.Needs.{needs}
+use Rattle.nodes.specs.Output.{Wrote, slotHeads}
+use Rattle.nodes.proofs.OutputLevels.{heads-none, heads-more}
+use Rattle.nodes.proofs.emit.emit_slot.Statement.{statement}
+use Rattle.nodes.proofs.emit.emit_slot.Tie as tie
+
+abbrev Inv-loop : tie.InvT-loop
+Inv-loop entries hops c addr depth out₀ n₀ l₀ out n l =
+    (l ≤ 5) × ((n ≤ l) × ((length out ≡ length out₀) × Wrote (slotHeads entries hops depth addr c l) 0 n out₀ out))
+
+abbrev μ-loop : tie.MeasureT-loop
+μ-loop entries hops c addr depth out₀ n₀ l₀ out n l = 5 - l
+
+loop-holds : tie.Need-loop-holds Inv-loop μ-loop
+loop-holds c = (omega arith, (omega arith, (refl, heads-none _ _ _ _ _ _)))
+
+emit-level-requires : tie.Need-emit-level-requires Inv-loop μ-loop
+emit-level-requires c κs = ((omega arith, (omega arith, omega arith)), (omega arith, omega arith))
+
+add-l : tie.Need-add-l Inv-loop μ-loop
+add-l c = search needs
+
+loop-less : tie.Need-loop-less Inv-loop μ-loop
+loop-less c = omega arith
+
+loop-again : tie.Need-loop-again Inv-loop μ-loop
+loop-again c =
+    let call = c .before .before .emit-level in
+    let inv = c .before .before .before .before .before .loop .inv in
+    let same = inv .1 .1 .0 in
+    (omega arith, (omega arith, (call .kept .1 .1 .1 .1 .1 .1 .1 .0 ∙ same, heads-more _ _ _ _ _ _ (inv .1 .1 .1) same (call .ensures .1))))
+
+same-length : tie.Need-same-length Inv-loop μ-loop
+same-length c = c .before .loop .inv .1 .1 .0
+
+returns : tie.Need-returns Inv-loop μ-loop
+returns c =
+    let five : c .before .loop .l ≡ 5 = omega arith in
+    (omega arith, rw five at (c .before .loop .inv .1 .1 .1))
+
+pub emit-slot-spec : {M : Type 1} → statement M
+emit-slot-spec =
+    tie.close
+    (tie.spec
+    Inv-loop
+    μ-loop
+    loop-holds
+    emit-level-requires
+    add-l
+    loop-less
+    loop-again
+    same-length
+    returns)

@@ -10,3 +10,4 @@ pub mod RoomBlocks
 pub mod RoomSizes
 pub mod RoomWalk
 pub mod RoomNodes
+pub mod GatherLaws

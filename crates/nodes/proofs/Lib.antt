@@ -5,3 +5,7 @@ pub mod GatherPlaces
 pub mod GatherRuns
 pub mod GatherSteps
 pub mod GatherCovers
+pub mod RoomLaws
+pub mod RoomBlocks
+pub mod RoomSizes
+pub mod RoomNodes

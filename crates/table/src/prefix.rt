@@ -1,5 +1,7 @@
-// Prefix arithmetic on 32-bit addresses.
+// Prefix arithmetic on 32-bit addresses, as the rules and the longest match use it.
 
+use words::prefix::contains;
+use words::prefix::host_bits_clear;
 ghost use mathlib.Core.Path.{_≡_};
 ghost use Prim.Native.Nat.{_-_, _/_, _%_, _^_, _≤_};
 ghost use lib.Dec.{eqb};
@@ -17,7 +19,7 @@ pub fn host_clear(addr: u32, len: u8) -> bool
     requires { ⌜ len ≤ 32 ⌝ }
     ensures { λ r. ⌜ r ≡ eqb (addr % 2 ^ (32 - len)) 0 ⌝ }
 {
-    (addr as u64) & (prefix_size(len) - 1) == 0
+    host_bits_clear(addr, len)
 }
 
 // Two addresses share their first `len` bits.
@@ -25,6 +27,5 @@ pub fn agree(x: u32, addr: u32, len: u8) -> bool
     requires { ⌜ len ≤ 32 ⌝ }
     ensures { λ r. ⌜ r ≡ eqb (x / 2 ^ (32 - len)) (addr / 2 ^ (32 - len)) ⌝ }
 {
-    let k = 32 - len;
-    (x as u64) >> k == (addr as u64) >> k
+    contains(addr, len, x, 32)
 }

@@ -29,7 +29,7 @@ use Rattle.nodes.specs.Gathered.{runAt, Gathered, overAt, coveringAt}
 use Rattle.nodes.specs.Output.{entryAt}
 use Rattle.nodes.proofs.GatherLaws.{position-run, covering-is, covering-le}
 use Rattle.nodes.proofs.GatherRuns.{run-none, run-first}
-use Rattle.consistent.proofs.KeptSlots.{keptWalk, keptState, kept-slots}
+use Rattle.consistent.proofs.KeptSlots.{keptWalk, keptState, kept-no-child, kept-slots}
 
 -- ---- The bits.
 
@@ -130,13 +130,21 @@ abbrev pub mapSlot : List ℕ → List ℕ → List ℕ → List ℕ → ℕ →
 mapSlot t first end hops depth key c =
     keptWalk isSame orElse (runAt t first end (31 + c)) (slotSize depth) (placeAt (slotSize depth) key 5 c) (hopOf (getD hops (15 + c / 2) 0))
 
-module _ {t : List ℕ} {lo hi depth key : ℕ} {first end : List ℕ} {present : ℕ} (n : Node t lo hi depth key)
-    (g : Gathered t lo hi depth key first end present) (inherited : ℕ) (hops : List ℕ)
-    (covering : (l j : ℕ) → l ≤ 4 → j < 2 ^ l → getD hops (position l j) 0 ≡ coveringAt t first end inherited l j) where
+-- What the code finds of a node before it writes: the records of each place, the hops that cover the positions, and which have an entry.
+pub record Found (t : List ℕ) (lo hi depth key inherited : ℕ) (first end hops : List ℕ) (entries : ℕ) : Type 0 where
+  pub node : Node t lo hi depth key
+  pub known : inherited ≤ 64
+  pub present : ℕ
+  pub gathered : Gathered t lo hi depth key first end present
+  pub covering : (l j : ℕ) → l ≤ 4 → j < 2 ^ l → getD hops (position l j) 0 ≡ coveringAt t first end inherited l j
+  pub bits : (b : ℕ) → b < 31 → bit entries b ≡ entryBit first end hops inherited b
+
+module _ {t : List ℕ} {lo hi depth key inherited : ℕ} {first end hops : List ℕ} {entries : ℕ}
+    (f : Found t lo hi depth key inherited first end hops entries) where
   -- The code's hops say what covers the positions,
   hops-cover : (l j : ℕ) → l ≤ 4 → j < 2 ^ l
       → hopOf (getD hops (position l j) 0) ≡ cover wide (slotSize depth) key (run t lo hi) (hopOf inherited) l j
-  hops-cover l j le lt = rw (covering l j le lt) (covering-is n g inherited l j le lt)
+  hops-cover l j le lt = rw (f .covering l j le lt) (covering-is (f .node) (f .gathered) inherited l j le lt)
 
   -- what covers them from above,
   hops-over : (l j : ℕ) → l ≤ 4 → j < 2 ^ l
@@ -146,38 +154,52 @@ module _ {t : List ℕ} {lo hi depth key : ℕ} {first end : List ℕ} {present 
       rw (ne-eqb (position (suc l) j) 0 (λ z. omega (arith, pow-suc 2 l, pow-pos l)), above l j) (hops-cover l (j / 2) (omega arith) (above-lt l j lt))
 
   -- and what covers the slots.
-  pub hops-slot : (c : ℕ) → c < 32
+  hops-slot : (c : ℕ) → c < 32
       → hopOf (getD hops (15 + c / 2) 0) ≡ keptState isSame orElse (run t lo hi) (slotSize depth) key (hopOf inherited) 5 c
   hops-slot c lt =
       hops-cover 4 (c / 2) (le-refl 4) (omega arith) ∙ sym (consistent-map-state wide (slotSize depth) key (run t lo hi) (hopOf inherited) 5 c)
 
-  -- It is a hop or 64, if that of the node is.
-  pub slot-le : inherited ≤ 64 → (c : ℕ) → c < 32 → getD hops (15 + c / 2) 0 ≤ 64
-  slot-le h c lt = rw (covering 4 (c / 2) (le-refl 4) (omega arith)) (covering-le n g inherited 4 (c / 2) h (le-refl 4) (omega arith))
+  -- That of a slot is a hop or 64.
+  pub slot-le : (c : ℕ) → c < 32 → getD hops (15 + c / 2) 0 ≤ 64
+  slot-le c lt =
+      rw (f .covering 4 (c / 2) (le-refl 4) (omega arith))
+      (covering-le (f .node) (f .gathered) inherited 4 (c / 2) (f .known) (le-refl 4) (omega arith))
 
-  module _ (entries : ℕ) (bits : (b : ℕ) → b < 31 → bit entries b ≡ entryBit first end hops inherited b) where
-    -- A position has the entry that the walk puts out there.
-    map-entry : (l j : ℕ) → l ≤ 4 → j < 2 ^ l → entryAt entries hops depth key l j
-        ≡ keptOut isSame wide (run t lo hi) (sizeAt (slotSize depth) l) (placeAt (slotSize depth) key l j)
-        (keptState isSame orElse (run t lo hi) (slotSize depth) key (hopOf inherited) l j)
-    map-entry l j le lt =
-        rw (
-          bits (position l j) (in-word l j le lt),
-          consistent-map-state wide (slotSize depth) key (run t lo hi) (hopOf inherited) l j,
-          ← hops-over l j le lt,
-        )
-        (entry-is t (getD first (position l j) 0) (getD end (position l j) 0) (getD hops (position l j) 0) (overAt hops (position l j) inherited)
-        (placeAt (slotSize depth) key l j) (sizeAt (slotSize depth) l) (depth + l)
-        (own wide (sizeAt (slotSize depth) l) (placeAt (slotSize depth) key l j) (run t lo hi)) (omega (arith, n .deep))
-        (ap headHop (sym (position-run g l j le lt)))
-        (hops-cover l j le lt ∙ cover-own wide (slotSize depth) key (run t lo hi) (hopOf inherited) l j
-        ∙ ap (orElse (own wide (sizeAt (slotSize depth) l) (placeAt (slotSize depth) key l j) (run t lo hi))) (sym (hops-over l j le lt))))
+  -- A position has the entry that the walk puts out there.
+  map-entry : (l j : ℕ) → l ≤ 4 → j < 2 ^ l → entryAt entries hops depth key l j
+      ≡ keptOut isSame wide (run t lo hi) (sizeAt (slotSize depth) l) (placeAt (slotSize depth) key l j)
+      (keptState isSame orElse (run t lo hi) (slotSize depth) key (hopOf inherited) l j)
+  map-entry l j le lt =
+      rw (
+        f .bits (position l j) (in-word l j le lt),
+        consistent-map-state wide (slotSize depth) key (run t lo hi) (hopOf inherited) l j,
+        ← hops-over l j le lt,
+      )
+      (entry-is t (getD first (position l j) 0) (getD end (position l j) 0) (getD hops (position l j) 0) (overAt hops (position l j) inherited)
+      (placeAt (slotSize depth) key l j) (sizeAt (slotSize depth) l) (depth + l)
+      (own wide (sizeAt (slotSize depth) l) (placeAt (slotSize depth) key l j) (run t lo hi)) (omega (arith, f .node .deep))
+      (ap headHop (sym (position-run (f .gathered) l j le lt)))
+      (hops-cover l j le lt ∙ cover-own wide (slotSize depth) key (run t lo hi) (hopOf inherited) l j
+      ∙ ap (orElse (own wide (sizeAt (slotSize depth) l) (placeAt (slotSize depth) key l j) (run t lo hi))) (sym (hops-over l j le lt))))
 
-    -- The walk through a node.
-    pub map-slots : walk (consistentMapOut wide (run t lo hi)) (consistentMapNext wide (run t lo hi)) (wide - depth) key (hopOf inherited)
-        ≡ slots (entryAt entries hops depth key) (mapSlot t first end hops depth key) 32
-    map-slots =
-        kept-slots isSame orElse g n (hopOf inherited) entries hops map-entry
-        ∙ slots-agree 5 (entryAt entries hops depth key) (entryAt entries hops depth key) (λ l j lt small. refl) _ _
-        (λ c lt. ap (keptWalk isSame orElse (runAt t first end (31 + c)) (slotSize depth) (placeAt (slotSize depth) key 5 c)) (sym (hops-slot c lt)))
-        32 (le-refl 32)
+  -- The walk of mode 3 through the node, by its slots.
+  pub map-slots : walk (consistentMapOut wide (run t lo hi)) (consistentMapNext wide (run t lo hi)) (wide - depth) key (hopOf inherited)
+      ≡ slots (entryAt entries hops depth key) (mapSlot t first end hops depth key) 32
+  map-slots =
+      kept-slots isSame orElse (f .gathered) (f .node) (hopOf inherited) entries hops map-entry
+      ∙ slots-agree 5 (entryAt entries hops depth key) (entryAt entries hops depth key) (λ l j lt small. refl) _ _
+      (λ c lt. ap (keptWalk isSame orElse (runAt t first end (31 + c)) (slotSize depth) (placeAt (slotSize depth) key 5 c)) (sym (hops-slot c lt)))
+      32 (le-refl 32)
+
+  -- A slot with records has what the walk of its node has.
+  pub map-child : (c place : ℕ) → place ≡ placeAt (slotSize depth) key 5 c
+      → walk (consistentMapOut wide (runAt t first end (31 + c))) (consistentMapNext wide (runAt t first end (31 + c))) (wide - (depth + 5)) place
+      (hopOf (getD hops (15 + c / 2) 0))
+      ≡ mapSlot t first end hops depth key c
+  map-child c place e =
+      let size : wide - (depth + 5) ≡ slotSize depth = omega (arith, f .node .deep) in
+      rw (size, e)
+
+  -- One without has nothing.
+  pub map-no-child : (c : ℕ) → c < 32 → getD end (31 + c) 0 ≤ getD first (31 + c) 0 → mapSlot t first end hops depth key c ≡ []
+  map-no-child c lt le = kept-no-child isSame orElse (f .gathered) c lt le (hopOf (getD hops (15 + c / 2) 0))

@@ -1,2 +1,3 @@
 -- The laws of modes 2 and 3.
 pub mod KeptSlots
+pub mod SetLaws

@@ -20,7 +20,7 @@ use Rattle.positions.proofs.Modes.{consistent-set-state}
 use Rattle.positions.proofs.Slots.{reached-keeps, walk-nothing}
 use Rattle.nodes.specs.Node.{wide, run, slotSize, Node}
 use Rattle.nodes.specs.Gathered.{runAt, Gathered}
-use Rattle.nodes.specs.Output.{entryAt}
+use Rattle.nodes.specs.Output.{Wrote, entryAt}
 use Rattle.nodes.proofs.GatherLaws.{slot-records}
 use Rattle.nodes.proofs.MemberLaws.{slot-is, top-member}
 use Rattle.consistent.proofs.KeptSlots.{keptWalk, keptState, kept-no-child, kept-slots}
@@ -73,12 +73,13 @@ module _ {t : List ℕ} {lo hi depth key : ℕ} {first end : List ℕ} {present 
   pub slot-without : (c : ℕ) → c < 32 → getD end (31 + c) 0 ≤ getD first (31 + c) 0 → setSlot t lo hi depth key first end c ≡ []
   slot-without c lt le = kept-no-child isBelow orRouted g c lt le (keptState isBelow orRouted (run t lo hi) (slotSize depth) key false 5 c)
 
-  -- Another has those of its node.
-  pub slot-open : Node t lo hi depth key → (c : ℕ) → c < 32 → bit under c ≡ false
-      → setSlot t lo hi depth key first end c ≡ setWalk (runAt t first end (31 + c)) (wide - (depth + 5)) (placeAt (slotSize depth) key 5 c) false
-  slot-open n c lt e =
+  -- Another has those of its node: what a call for that node wrote is what the walk puts out at the slot.
+  pub slot-open : Node t lo hi depth key → (c : ℕ) → c < 32 → bit under c ≡ false → (a : ℕ) → a ≡ placeAt (slotSize depth) key 5 c
+      → {k : ℕ} {o o′ : List ℕ} → Wrote (setWalk (runAt t first end (31 + c)) (wide - (depth + 5)) a false) 0 k o o′
+      → Wrote (setSlot t lo hi depth key first end c) 0 k o o′
+  slot-open n c lt e a is w =
       let size : wide - (depth + 5) ≡ slotSize depth = omega (arith, n .deep) in
-      rw (slot-state c lt, e, size)
+      rw (slot-state c lt, e) (rw (is, size) at w)
 
   module _ (n : Node t lo hi depth key) (zero : All (λ r. r .hop ≡ 0) (run t lo hi)) (entries : ℕ) (kept : Kept present 0 covered entries)
       (hops : List ℕ) (zeros : (b : ℕ) → b < 31 → getD hops b 0 ≡ 0) where

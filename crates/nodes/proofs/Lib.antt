@@ -6,3 +6,4 @@ pub mod GatherRuns
 pub mod GatherSteps
 pub mod GatherCovers
 pub mod GatherLaws
+pub mod MemberLaws

@@ -11,3 +11,4 @@ pub mod RoomSizes
 pub mod RoomWalk
 pub mod RoomNodes
 pub mod GatherLaws
+pub mod MemberLaws

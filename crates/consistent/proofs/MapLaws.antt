@@ -1,0 +1,205 @@
+-- Mode 3 in a node: the bits that the code finds and the hops that cover the positions are the entries of the walk.
+use Prim.Native.Nat.{ℕ, zero, suc, _+_, _-_, _/_, _^_, _≤_, _<_}
+use mathlib.Core.Path.{_≡_, refl, sym, ap, _∙_}
+use mathlib.Core.Bool.{Bool, true, false, true≢false, cond, not, _&&_, _||_, and-false, or-false}
+use mathlib.Core.List.{List, [], _∷_}
+use mathlib.Core.Logic.{_⊎_, inl, inr}
+use native.Mathlib.Nat.{pow-suc, le-refl, eq-or-lt-of-le}
+use native.Mathlib.Decide.{decLt}
+use native.Mathlib.Omega.{arith}
+use lib.Dec.{eqb, ltb}
+use lib.ListN.{getD}
+use lib.Pow.{pow-pos}
+use borrow.Author.Tests.{lt-ltb, le-ltb, eq-eqb, ne-eqb}
+use Rattle.theory.specs.Routes.{Route, Answer, none, via}
+use Rattle.theory.proofs.Routed.{routed}
+use Rattle.table.specs.Wire.{route, routeAt}
+use Rattle.words.specs.Bits.{bit}
+use Rattle.words.specs.Positions.{position}
+use Rattle.words.proofs.BitLaws.{if-lt, if-eq, bit-zero}
+use Rattle.words.proofs.PositionLaws.{in-word, above}
+use Rattle.positions.specs.Runs.{hopOf, headHop, own, orElse, sizeAt, placeAt, cover, coverOver}
+use Rattle.positions.specs.Walk.{walk, slots}
+use Rattle.positions.specs.Walks.{entryUnless, keptOut, isSame, consistentMapOut, consistentMapNext}
+use Rattle.positions.proofs.Modes.{consistent-map-state}
+use Rattle.positions.proofs.RunsNode.{above-lt, cover-own}
+use Rattle.positions.proofs.Slots.{slots-agree}
+use Rattle.nodes.specs.Node.{wide, run, slotSize, Node}
+use Rattle.nodes.specs.Gathered.{runAt, Gathered, overAt, coveringAt}
+use Rattle.nodes.specs.Output.{entryAt}
+use Rattle.nodes.proofs.GatherLaws.{position-run, covering-is, covering-le}
+use Rattle.nodes.proofs.GatherRuns.{run-none, run-first}
+use Rattle.consistent.proofs.KeptSlots.{keptWalk, keptState, kept-no-child, kept-slots}
+
+-- ---- The bits.
+
+-- Has a position an entry: a record, by a hop other than the one that covers it from above?
+abbrev pub isEntry : ℕ → ℕ → ℕ → ℕ → Bool
+isEntry first end hop over = ltb first end && not (eqb hop over)
+
+module _ (first end hop over : ℕ) where
+  pub is-entry : first < end → (hop ≡ over → ⊥) → isEntry first end hop over ≡ true
+  is-entry lt ne = rw (lt-ltb first end lt, ne-eqb hop over ne)
+
+  pub same-no-entry : hop ≡ over → isEntry first end hop over ≡ false
+  same-no-entry e = rw (eq-eqb hop over e) (and-false (ltb first end))
+
+  pub bare-no-entry : end ≤ first → isEntry first end hop over ≡ false
+  bare-no-entry le = rw (le-ltb first end le)
+
+-- The same of position b, by the records of the positions and the hops that cover them.
+abbrev pub entryBit : List ℕ → List ℕ → List ℕ → ℕ → ℕ → Bool
+entryBit first end hops inherited b = isEntry (getD first b 0) (getD end b 0) (getD hops b 0) (overAt hops b inherited)
+
+-- The word has the bits that the test says, of the positions numbered below b.
+abbrev pub Marked : (ℕ → Bool) → ℕ → ℕ → Type 0
+Marked test b x = (i : ℕ) → i < 31 → bit x i ≡ (ltb i b && test i)
+
+module _ (test : ℕ → Bool) where
+  pub marked-none : Marked test 0 0
+  marked-none i lt = bit-zero i ∙ rw (le-ltb i 0 (omega arith))
+
+  -- One more.
+  pub marked-next : (b x y : ℕ) → Marked test b x → ((i : ℕ) → i < 31 → bit y i ≡ ((eqb i b && test b) || bit x i)) → Marked test (b + 1) y
+  marked-next b x y m e i lt =
+      e i lt ∙ ap (λ (t : Bool). (eqb i b && test b) || t) (m i lt)
+      ∙ if-eq (λ (t : Bool). ((t && test b) || (ltb i b && test i)) ≡ (ltb i (b + 1) && test i)) i b
+      (λ q. rw (← q, le-ltb i i (le-refl i), lt-ltb i (i + 1) (omega arith)) (or-false (test i)))
+      (λ ne. if-lt (λ (t : Bool). (t && test i) ≡ (ltb i (b + 1) && test i)) i b
+      (λ h. rw (lt-ltb i (b + 1) (omega arith))) (λ h. rw (le-ltb i (b + 1) (let d = ne-lt h ne in omega arith))))
+    where
+      ne-lt : b ≤ i → (i ≡ b → ⊥) → b < i
+      ne-lt h ne = go (eq-or-lt-of-le h)
+        where
+          go : (b ≡ i) ⊎ (b < i) → b < i
+          go (inl q) = absurd (ne (sym q))
+          go (inr d) = d
+
+  -- All of them.
+  pub marked-all : (b x : ℕ) → 31 ≤ b → Marked test b x → (i : ℕ) → i < 31 → bit x i ≡ test i
+  marked-all b x all m i lt = m i lt ∙ rw (lt-ltb i b (omega arith))
+
+-- ---- What a hop of the code says.
+
+-- What says a hop is that hop, below 64.
+hop-via : (x h : ℕ) → hopOf x ≡ via h → (x ≡ h) × (x < 64)
+hop-via x h = if-lt (λ (t : Bool). cond t (via x) none ≡ via h → (x ≡ h) × (x < 64)) x 64 (λ lt e. (same e, lt)) (λ ge e. absurd (differ e))
+  where
+    same : via x ≡ via h → x ≡ h
+    same e = ap (λ a. said a) e
+      where
+        said : Answer → ℕ
+        said none = x
+        said (via i) = i
+
+    differ : none ≡ via h → ⊥
+    differ e = true≢false (sym (ap routed e))
+
+-- A hop is said to be the same exactly when it is.
+hop-same : (h o : ℕ) → h < 64 → isSame h (hopOf o) ≡ eqb h o
+hop-same h o lt =
+    if-lt (λ (t : Bool). isSame h (cond t (via o) none) ≡ eqb h o) o 64
+    (λ a. if-eq (λ (t : Bool). eqb o h ≡ t) h o (λ e. eq-eqb o h (sym e)) (λ ne. ne-eqb o h (λ e. ne (sym e))))
+    (λ a. sym (ne-eqb h o (λ e. omega arith)))
+
+-- ---- The entries.
+
+-- The entry of a position with the records from..upto, whose own hop is o and which `hop` covers, where `over` covers it from above.
+entry-is : (t : List ℕ) (from upto hop over place size len : ℕ) (o : Answer) → wide - size ≡ len → o ≡ headHop (run t from upto)
+    → hopOf hop ≡ orElse o (hopOf over)
+    → cond (isEntry from upto hop over) (route place len hop ∷ []) [] ≡ entryUnless isSame wide size place o (hopOf over)
+entry-is t from upto hop over place size len o long own covers = go (decLt from upto)
+  where
+    same : (b : Bool) → cond (not b) (route place len hop ∷ []) [] ≡ cond b [] (route place len hop ∷ [])
+    same true = refl
+    same false = refl
+
+    go : Dec (from < upto)
+        → cond (isEntry from upto hop over) (route place len hop ∷ []) [] ≡ entryUnless isSame wide size place o (hopOf over)
+    go (yes has) =
+        let e : o ≡ via (routeAt t from .hop) = own ∙ ap headHop (run-first t from upto has) in
+        let z = hop-via hop (routeAt t from .hop) (covers ∙ ap (λ (a : Answer). orElse a (hopOf over)) e) in
+        rw (e, ← z .0, hop-same hop over (z .1), long, lt-ltb from upto has) (same (eqb hop over))
+    go (no ge) =
+        let le : upto ≤ from = omega arith in
+        let e : o ≡ none = own ∙ ap headHop (run-none t from upto le) in
+        rw (e, le-ltb from upto le)
+
+-- The walk of slot c, over its own records, by the hop that covers it.
+abbrev pub mapSlot : List ℕ → List ℕ → List ℕ → List ℕ → ℕ → ℕ → ℕ → List Route
+mapSlot t first end hops depth key c =
+    keptWalk isSame orElse (runAt t first end (31 + c)) (slotSize depth) (placeAt (slotSize depth) key 5 c) (hopOf (getD hops (15 + c / 2) 0))
+
+-- What the code finds of a node before it writes: the records of each place, the hops that cover the positions, and which have an entry.
+pub record Found (t : List ℕ) (lo hi depth key inherited : ℕ) (first end hops : List ℕ) (entries : ℕ) : Type 0 where
+  pub node : Node t lo hi depth key
+  pub known : inherited ≤ 64
+  pub present : ℕ
+  pub gathered : Gathered t lo hi depth key first end present
+  pub covering : (l j : ℕ) → l ≤ 4 → j < 2 ^ l → getD hops (position l j) 0 ≡ coveringAt t first end inherited l j
+  pub bits : (b : ℕ) → b < 31 → bit entries b ≡ entryBit first end hops inherited b
+
+module _ {t : List ℕ} {lo hi depth key inherited : ℕ} {first end hops : List ℕ} {entries : ℕ}
+    (f : Found t lo hi depth key inherited first end hops entries) where
+  -- The code's hops say what covers the positions,
+  hops-cover : (l j : ℕ) → l ≤ 4 → j < 2 ^ l
+      → hopOf (getD hops (position l j) 0) ≡ cover wide (slotSize depth) key (run t lo hi) (hopOf inherited) l j
+  hops-cover l j le lt = rw (f .covering l j le lt) (covering-is (f .node) (f .gathered) inherited l j le lt)
+
+  -- what covers them from above,
+  hops-over : (l j : ℕ) → l ≤ 4 → j < 2 ^ l
+      → hopOf (overAt hops (position l j) inherited) ≡ coverOver wide (slotSize depth) key (run t lo hi) (hopOf inherited) l j
+  hops-over zero j le lt = let z : position 0 j ≡ 0 = omega arith in rw (eq-eqb (position 0 j) 0 z)
+  hops-over (suc l) j le lt =
+      rw (ne-eqb (position (suc l) j) 0 (λ z. omega (arith, pow-suc 2 l, pow-pos l)), above l j) (hops-cover l (j / 2) (omega arith) (above-lt l j lt))
+
+  -- and what covers the slots.
+  hops-slot : (c : ℕ) → c < 32
+      → hopOf (getD hops (15 + c / 2) 0) ≡ keptState isSame orElse (run t lo hi) (slotSize depth) key (hopOf inherited) 5 c
+  hops-slot c lt =
+      hops-cover 4 (c / 2) (le-refl 4) (omega arith) ∙ sym (consistent-map-state wide (slotSize depth) key (run t lo hi) (hopOf inherited) 5 c)
+
+  -- That of a slot is a hop or 64.
+  pub slot-le : (c : ℕ) → c < 32 → getD hops (15 + c / 2) 0 ≤ 64
+  slot-le c lt =
+      rw (f .covering 4 (c / 2) (le-refl 4) (omega arith))
+      (covering-le (f .node) (f .gathered) inherited 4 (c / 2) (f .known) (le-refl 4) (omega arith))
+
+  -- A position has the entry that the walk puts out there.
+  map-entry : (l j : ℕ) → l ≤ 4 → j < 2 ^ l → entryAt entries hops depth key l j
+      ≡ keptOut isSame wide (run t lo hi) (sizeAt (slotSize depth) l) (placeAt (slotSize depth) key l j)
+      (keptState isSame orElse (run t lo hi) (slotSize depth) key (hopOf inherited) l j)
+  map-entry l j le lt =
+      rw (
+        f .bits (position l j) (in-word l j le lt),
+        consistent-map-state wide (slotSize depth) key (run t lo hi) (hopOf inherited) l j,
+        ← hops-over l j le lt,
+      )
+      (entry-is t (getD first (position l j) 0) (getD end (position l j) 0) (getD hops (position l j) 0) (overAt hops (position l j) inherited)
+      (placeAt (slotSize depth) key l j) (sizeAt (slotSize depth) l) (depth + l)
+      (own wide (sizeAt (slotSize depth) l) (placeAt (slotSize depth) key l j) (run t lo hi)) (omega (arith, f .node .deep))
+      (ap headHop (sym (position-run (f .gathered) l j le lt)))
+      (hops-cover l j le lt ∙ cover-own wide (slotSize depth) key (run t lo hi) (hopOf inherited) l j
+      ∙ ap (orElse (own wide (sizeAt (slotSize depth) l) (placeAt (slotSize depth) key l j) (run t lo hi))) (sym (hops-over l j le lt))))
+
+  -- The walk of mode 3 through the node, by its slots.
+  pub map-slots : walk (consistentMapOut wide (run t lo hi)) (consistentMapNext wide (run t lo hi)) (wide - depth) key (hopOf inherited)
+      ≡ slots (entryAt entries hops depth key) (mapSlot t first end hops depth key) 32
+  map-slots =
+      kept-slots isSame orElse (f .gathered) (f .node) (hopOf inherited) entries hops map-entry
+      ∙ slots-agree 5 (entryAt entries hops depth key) (entryAt entries hops depth key) (λ l j lt small. refl) _ _
+      (λ c lt. ap (keptWalk isSame orElse (runAt t first end (31 + c)) (slotSize depth) (placeAt (slotSize depth) key 5 c)) (sym (hops-slot c lt)))
+      32 (le-refl 32)
+
+  -- A slot with records has what the walk of its node has.
+  pub map-child : (c place : ℕ) → place ≡ placeAt (slotSize depth) key 5 c
+      → walk (consistentMapOut wide (runAt t first end (31 + c))) (consistentMapNext wide (runAt t first end (31 + c))) (wide - (depth + 5)) place
+      (hopOf (getD hops (15 + c / 2) 0))
+      ≡ mapSlot t first end hops depth key c
+  map-child c place e =
+      let size : wide - (depth + 5) ≡ slotSize depth = omega (arith, f .node .deep) in
+      rw (size, e)
+
+  -- One without has nothing.
+  pub map-no-child : (c : ℕ) → c < 32 → getD end (31 + c) 0 ≤ getD first (31 + c) 0 → mapSlot t first end hops depth key c ≡ []
+  map-no-child c lt le = kept-no-child isSame orElse (f .gathered) c lt le (hopOf (getD hops (15 + c / 2) 0))

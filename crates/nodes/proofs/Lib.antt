@@ -5,3 +5,4 @@ pub mod GatherPlaces
 pub mod GatherRuns
 pub mod GatherSteps
 pub mod GatherCovers
+pub mod GatherLaws

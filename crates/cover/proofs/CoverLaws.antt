@@ -4,27 +4,29 @@ use Prim.Native.Nat.{ℕ, zero, suc, _+_, _-_, _*_, _/_, _^_, _≤_, _<_}
 use mathlib.Core.Path.{_≡_, refl, sym, ap, ap₂, subst, _∙_}
 use mathlib.Core.Bool.{Bool, true, false, _&&_, _||_, and-false, or-false}
 use mathlib.Core.List.{List, []}
-use native.Mathlib.Nat.{pow-suc}
+use mathlib.Core.Logic.{_⊎_, inl, inr}
+use native.Mathlib.Nat.{pow-suc, eq-or-lt-of-le}
 use native.Mathlib.Omega.{arith}
 use lib.Dec.{eqb, ltb, leb}
 use lib.ListN.{getD}
 use borrow.Author.Tests.{lt-ltb, le-ltb, le-leb, lt-leb}
 use Rattle.theory.specs.Results.{In, throughout}
 use Rattle.theory.specs.Routes.{Route, held, Aligned}
+use Rattle.theory.proofs.Blocks.{pow-pos}
 use Rattle.theory.proofs.Preserve.{Within}
 use Rattle.theory.proofs.Routed.{routed}
 use Rattle.words.specs.Bits.{bit}
 use Rattle.words.specs.Coverage.{WhollyCovered}
 use Rattle.words.specs.Positions.{position, member, whole}
 use Rattle.words.proofs.BitLaws.{if-lt, if-le, if-eq, bit-zero}
-use Rattle.words.proofs.PositionLaws.{Place, above}
+use Rattle.words.proofs.PositionLaws.{in-word, Place, above}
 use Rattle.positions.specs.Runs.{inside, sizeAt, placeAt, memberOver}
 use Rattle.positions.proofs.Runs.{Nested, nested-start, throughout-under}
 use Rattle.positions.proofs.RunsNode.{size-slot, above-lt, ownAt, slot-run, level-zero, level-held, level-covered, halves-covered}
 use Rattle.nodes.specs.Node.{wide, run, slotSize, Node}
 use Rattle.nodes.specs.Gathered.{some, runAt, levelOf, Gathered}
 use Rattle.nodes.proofs.GatherLaws.{node-run, slot-records, no-child, member-is, child-node}
-use Rattle.nodes.proofs.GatherPlaces.{same-position, level-slot, place-in, place-at}
+use Rattle.nodes.proofs.GatherPlaces.{in-heap, same-position, level-slot, place-in, place-at}
 use Rattle.nodes.proofs.GatherRuns.{some-run}
 use Rattle.cover.specs.Coverage.{coveredIn, IsCoverage, recordOver}
 
@@ -235,7 +237,13 @@ module _ {t : List ℕ} {lo hi depth key : ℕ} {first end : List ℕ} {present 
 
   -- ---- The cover of a position, and of a prefix in a slot.
 
-  -- The node's routes cover a position when a record stands at it or above it, or the routes inside it cover it.
+  -- The node's routes cover a position when one stands above it, or those inside it cover it.
+  pub position-covered : (l j : ℕ) → l ≤ 5 → j < 2 ^ l
+      → throughout (held wide (run t lo hi)) (sizeAt (slotSize depth) l) (placeAt (slotSize depth) key l j)
+      ≡ (memberOver wide (slotSize depth) key (run t lo hi) l j || coveredIn (slotSize depth) key (run t lo hi) l j)
+  position-covered l j le lt = level-covered wide (slotSize depth) key (node-run n) l j le lt
+
+  -- By records: when one stands at it or above it, or the routes inside it cover it.
   pub position-query : (l j : ℕ) → l ≤ 4 → j < 2 ^ l
       → (recordOver first end l j || coveredIn (slotSize depth) key (run t lo hi) l j)
       ≡ throughout (held wide (run t lo hi)) (sizeAt (slotSize depth) l) (placeAt (slotSize depth) key l j)
@@ -244,7 +252,7 @@ module _ {t : List ℕ} {lo hi depth key : ℕ} {first end : List ℕ} {present 
       ap₂ _||_ (record-over l j le lt) inner
       ∙ either (routed (ownAt wide (slotSize depth) key (run t lo hi) l j)) (memberOver wide (slotSize depth) key (run t lo hi) l j) _
       ∙ ap (λ (b : Bool). memberOver wide (slotSize depth) key (run t lo hi) l j || b) (sym inner)
-      ∙ sym (level-covered wide (slotSize depth) key (node-run n) l j (omega arith) lt)
+      ∙ sym (position-covered l j (omega arith) lt)
     where
       either : (o b h : Bool) → ((o || b) || (o || h)) ≡ (b || (o || h))
       either true true h = refl
@@ -304,3 +312,85 @@ module _ {t : List ℕ} {lo hi depth key : ℕ} {first end : List ℕ} {present 
         let size : 2 ^ sizeAt (slotSize depth) 5 ≡ 2 ^ slotSize depth = ap (λ (k : ℕ). 2 ^ k) (size-slot (slotSize depth)) in
         nested-start (wide - len) query (slotSize depth) (placeAt (slotSize depth) key 5 c) (omega arith) aligned
         (slot-run wide (slotSize depth) key (node-run n) c .aligned) (omega (arith, i, size))
+
+-- ---- The same at the place of the node's heap that the code finds for it.
+
+-- A prefix in a node, the node's records by place, and the prefix's place b among them, with its level.
+pub record Sought (t : List ℕ) (lo hi depth key query len : ℕ) (first end : List ℕ) (present level b : ℕ) : Type 0 where
+  pub node : Node t lo hi depth key
+  pub gathered : Gathered t lo hi depth key first end present
+  pub lens : (depth ≤ len) × (len ≤ 32)
+  pub aligned : Aligned (wide - len) query
+  pub lies : (key ≤ query) × (query < key + 2 ^ (wide - depth))
+  pub leveled : (level ≡ levelOf len depth) × (level ≤ 5)
+  pub placed : b ≡ position level ((query - key) / 2 ^ sizeAt (slotSize depth) level)
+  pub few : (query - key) / 2 ^ sizeAt (slotSize depth) level < 2 ^ level
+
+module _ {t : List ℕ} {lo hi depth key query len : ℕ} {first end : List ℕ} {present level b : ℕ}
+    (s : Sought t lo hi depth key query len first end present level b) where
+  -- It is one of the 63 places.
+  pub place-lt : b < 63
+  place-lt = rw (s .placed) (in-heap level ((query - key) / 2 ^ sizeAt (slotSize depth) level) (s .leveled .1) (s .few))
+
+  -- A place before 31 is a position,
+  pub place-position : b < 31 → level ≤ 4
+  place-position h = go (eq-or-lt-of-le (s .leveled .1))
+    where
+      go : (level ≡ 5) ⊎ (level < 5) → level ≤ 4
+      go (inl five) = absurd (omega (arith, s .placed, ap (λ (l : ℕ). 2 ^ l) five))
+      go (inr lt) = omega arith
+
+  -- and is covered by a record at it or above it, or else from inside.
+  pub position-answer : (over : Bool) → b < 31 → ((l j : ℕ) → l ≤ 4 → j < 2 ^ l → b ≡ position l j → over ≡ recordOver first end l j)
+      → (over || coveredIn (slotSize depth) key (run t lo hi) level ((query - key) / 2 ^ sizeAt (slotSize depth) level))
+      ≡ throughout (held wide (run t lo hi)) (wide - len) query
+  position-answer over h found =
+      let index = (query - key) / 2 ^ sizeAt (slotSize depth) level in
+      ap (λ (o : Bool). o || coveredIn (slotSize depth) key (run t lo hi) level index) (found level index (place-position h) (s .few) (s .placed))
+      ∙ query-position (s .node) (s .gathered) query len (s .lens) (s .aligned) (s .lies) level index (place-position h) (s .few) (sym (s .leveled .0)) refl
+
+  -- A place from 31 on is a slot,
+  pub place-slot : 31 ≤ b → (level ≡ 5) × (b - 31 ≡ (query - key) / 2 ^ sizeAt (slotSize depth) 5) × (b - 31 < 32)
+  place-slot h = go (eq-or-lt-of-le (s .leveled .1))
+    where
+      go : (level ≡ 5) ⊎ (level < 5) → (level ≡ 5) × (b - 31 ≡ (query - key) / 2 ^ sizeAt (slotSize depth) 5) × (b - 31 < 32)
+      go (inl five) =
+          let placed = rw five at (s .placed) in
+          let few = rw five at (s .few) in
+          (five, omega arith, omega arith)
+      go (inr lt) = absurd (omega (arith, s .placed, in-word level ((query - key) / 2 ^ sizeAt (slotSize depth) level) (omega arith) (s .few)))
+
+  -- with the prefix in it,
+  pub slot-nested : 31 ≤ b → Nested (wide - len) query (slotSize depth) (placeAt (slotSize depth) key 5 (b - 31))
+  slot-nested h =
+      let z = place-slot h in
+      query-nested (s .node) (s .gathered) query len (s .lens) (s .aligned) (s .lies) (b - 31) (sym (s .leveled .0) ∙ z .0) (sym (z .1))
+
+  -- and the prefix is covered by a record above the slot, or else by the slot's records.
+  pub slot-answer : (over : Bool) → 31 ≤ b → ((l j : ℕ) → l ≤ 4 → j < 2 ^ l → (b - 1) / 2 ≡ position l j → over ≡ recordOver first end l j)
+      → (over || throughout (held wide (runAt t first end b)) (wide - len) query) ≡ throughout (held wide (run t lo hi)) (wide - len) query
+  slot-answer over h found =
+      let z = place-slot h in
+      let e : 31 + (b - 31) ≡ b = omega arith in
+      let up : (b - 1) / 2 ≡ position 4 ((b - 31) / 2) = omega arith in
+      ap₂ (λ (o : Bool) (k : ℕ). o || throughout (held wide (runAt t first end k)) (wide - len) query)
+      (found 4 ((b - 31) / 2) (omega arith) (omega (arith, z .2)) up) (sym e)
+      ∙ slot-query (s .node) (s .gathered) (b - 31) (wide - len) query (z .2) (slot-nested h)
+
+  -- Its records, if it has some, are those of a node in which the prefix lies.
+  pub slot-node : 31 ≤ b → getD first b 0 < getD end b 0
+      → Node t (getD first b 0) (getD end b 0) (depth + 5) (placeAt (slotSize depth) key 5 (b - 31))
+  slot-node h has =
+      let e : 31 + (b - 31) ≡ b = omega arith in
+      subst (λ (k : ℕ). getD first k 0 < getD end k 0 → Node t (getD first k 0) (getD end k 0) (depth + 5) (placeAt (slotSize depth) key 5 (b - 31))) e
+      (child-node (s .node) (s .gathered) (b - 31) (place-slot h .2)) has
+
+  pub slot-lies : 31 ≤ b → (depth + 5 ≤ len)
+      × ((placeAt (slotSize depth) key 5 (b - 31) ≤ query) × (query < placeAt (slotSize depth) key 5 (b - 31) + 2 ^ (wide - (depth + 5))))
+  slot-lies h =
+      let i = slot-nested h in
+      let deep = s .node .deep in
+      let size : wide - (depth + 5) ≡ slotSize depth = omega arith in (
+        level-slot len depth (sym (s .leveled .0) ∙ place-slot h .0),
+        (i .from, rw size (omega (arith, i .upto, pow-pos (wide - len)))),
+      )

@@ -1,7 +1,7 @@
 -- `cover::query::bit_covered`, which calls itself on the slots, meets its contract. The loop's invariant: of the slots before c the word has the
 -- covered ones, and no others. Assumes nothing.
 use Prim.Native.Nat.{ℕ, _+_, _-_, _≤_, _<_}
-use mathlib.Core.Path.{_≡_, refl, sym, ap, _∙_}
+use mathlib.Core.Path.{_≡_, refl, ap, _∙_}
 use native.Mathlib.Omega.{arith}
 use lib.Dec.{ltb}
 use lib.ListN.{getD-replicate}
@@ -42,80 +42,65 @@ bit-covered-Inv-loop table lo hi depth key b first end present covered₀ c₀ c
 abbrev bit-covered-μ-loop : bit-covered-lts.MeasureT-loop
 bit-covered-μ-loop table lo hi depth key b first end present covered₀ c₀ covered c = 32 - c
 
+-- What is asked and what is learnt at each call.
 abbrev bit-covered-claims : ℕ → bit-covered-lts.Claims
 bit-covered-claims t =
     (gather-reads.Asked, gather-reads.Learnt, slot-key-reads.Asked, slot-key-reads.Learnt, bit-covered-below t, bit-covered.Post, with-slot-reads.Asked, with-slot-reads.Learnt, fold-coverage-reads.Asked, fold-coverage-reads.Learnt, has-bit-reads.Asked, has-bit-reads.Learnt)
 
--- src/query.rt:37:9
 bit-covered-gather-requires : (t : ℕ) → bit-covered-lts.Need-gather-requires (bit-covered-claims t) (bit-covered-at t) bit-covered.Post bit-covered-Inv-loop bit-covered-μ-loop
 bit-covered-gather-requires t c κs =
     (c .before .before .before .pre .1 .0, ((refl, refl), λ b lt. (getD-replicate 63 b 0 0 lt, getD-replicate 63 b 0 0 lt)))
 
--- src/query.rt:40:5
 bit-covered-loop-holds : (t : ℕ) → bit-covered-lts.Need-loop-holds (bit-covered-claims t) (bit-covered-at t) bit-covered.Post bit-covered-Inv-loop bit-covered-μ-loop
 bit-covered-loop-holds t c =
     let a = c .before .before .before .before .args in
     (omega arith, slots-none (slotSize (a .depth)) (a .key) (run (a .table .now) (a .lo) (a .hi)) (λ i. ltb i 0) (λ i lt. le-ltb i 0 (omega arith)))
 
--- src/query.rt:41:26
 bit-covered-add-from : (t : ℕ) → bit-covered-lts.Need-add-from (bit-covered-claims t) (bit-covered-at t) bit-covered.Post bit-covered-Inv-loop bit-covered-μ-loop
 bit-covered-add-from t c = omega arith
 
--- src/query.rt:41:20
 bit-covered-mul-from : (t : ℕ) → bit-covered-lts.Need-mul-from (bit-covered-claims t) (bit-covered-at t) bit-covered.Post bit-covered-Inv-loop bit-covered-μ-loop
 bit-covered-mul-from t c = omega arith
 
--- src/query.rt:41:20
 bit-covered-array-read-from : (t : ℕ) → bit-covered-lts.Need-array-read-from (bit-covered-claims t) (bit-covered-at t) bit-covered.Post bit-covered-Inv-loop bit-covered-μ-loop
 bit-covered-array-read-from t c = omega arith
 
--- src/query.rt:42:22
 bit-covered-add-to : (t : ℕ) → bit-covered-lts.Need-add-to (bit-covered-claims t) (bit-covered-at t) bit-covered.Post bit-covered-Inv-loop bit-covered-μ-loop
 bit-covered-add-to t c = omega arith
 
--- src/query.rt:42:18
 bit-covered-mul-to : (t : ℕ) → bit-covered-lts.Need-mul-to (bit-covered-claims t) (bit-covered-at t) bit-covered.Post bit-covered-Inv-loop bit-covered-μ-loop
 bit-covered-mul-to t c = omega arith
 
--- src/query.rt:42:18
 bit-covered-array-read-to : (t : ℕ) → bit-covered-lts.Need-array-read-to (bit-covered-claims t) (bit-covered-at t) bit-covered.Post bit-covered-Inv-loop bit-covered-μ-loop
 bit-covered-array-read-to t c = omega arith
 
--- src/query.rt:44:9
 bit-covered-add-c : (t : ℕ) → bit-covered-lts.Need-add-c (bit-covered-claims t) (bit-covered-at t) bit-covered.Post bit-covered-Inv-loop bit-covered-μ-loop
 bit-covered-add-c t c = omega arith
 
--- src/query.rt:46:54
 bit-covered-add-bit-covered : (t : ℕ) → bit-covered-lts.Need-add-bit-covered (bit-covered-claims t) (bit-covered-at t) bit-covered.Post bit-covered-Inv-loop bit-covered-μ-loop
 bit-covered-add-bit-covered t c = omega arith
 
--- src/query.rt:46:65
 bit-covered-slot-key-requires : (t : ℕ) → bit-covered-lts.Need-slot-key-requires (bit-covered-claims t) (bit-covered-at t) bit-covered.Post bit-covered-Inv-loop bit-covered-μ-loop
 bit-covered-slot-key-requires t c κs =
     let n = c .before .before .before .before .before .before .before .pre .1 .0 in
     let lt = c .before .loop-test .taken in
     (n .deep, (lt, n .small))
 
--- src/query.rt:46:17
 bit-covered-bit-covered-requires : (t : ℕ) → bit-covered-lts.Need-bit-covered-requires (bit-covered-claims t) (bit-covered-at t) bit-covered.Post bit-covered-Inv-loop bit-covered-μ-loop
 bit-covered-bit-covered-requires t c κs =
     let pre = c .before .before .before .before .before .before .before .before .pre in
     let child = child-node (pre .1 .0) (c .before .before .before .before .gather .ensures) (c .before .before .before .loop .c) (c .before .before .loop-test .taken) (c .before .if1 .taken) in
     (omega (arith, pre .0, child .deep), (rw (c .slot-key .ensures) child, omega arith))
 
--- src/query.rt:47:42
 bit-covered-cast-with-slot : (t : ℕ) → bit-covered-lts.Need-cast-with-slot (bit-covered-claims t) (bit-covered-at t) bit-covered.Post bit-covered-Inv-loop bit-covered-μ-loop
 bit-covered-cast-with-slot t c = omega arith
 
--- src/query.rt:47:13
 bit-covered-with-slot-requires : (t : ℕ) → bit-covered-lts.Need-with-slot-requires (bit-covered-claims t) (bit-covered-at t) bit-covered.Post bit-covered-Inv-loop bit-covered-μ-loop
 bit-covered-with-slot-requires t c κs = search needs
 
--- src/query.rt:40:5
 bit-covered-loop-less : (t : ℕ) → bit-covered-lts.Need-loop-less (bit-covered-claims t) (bit-covered-at t) bit-covered.Post bit-covered-Inv-loop bit-covered-μ-loop
 bit-covered-loop-less t c = omega arith
 
--- src/query.rt:40:5
 bit-covered-loop-again : (t : ℕ) → bit-covered-lts.Need-loop-again (bit-covered-claims t) (bit-covered-at t) bit-covered.Post bit-covered-Inv-loop bit-covered-μ-loop
 bit-covered-loop-again t c =
     let n = c .before .before .before .before .before .before .before .before .before .before .pre .1 .0 in
@@ -129,11 +114,9 @@ bit-covered-loop-again t c =
           (found ∙ child-covered n g (s .c) lt has) (c .with-slot .ensures),
     )
 
--- src/query.rt:40:5
 bit-covered-loop-less-2 : (t : ℕ) → bit-covered-lts.Need-loop-less-2 (bit-covered-claims t) (bit-covered-at t) bit-covered.Post bit-covered-Inv-loop bit-covered-μ-loop
 bit-covered-loop-less-2 t c = omega arith
 
--- src/query.rt:40:5
 bit-covered-loop-again-2 : (t : ℕ) → bit-covered-lts.Need-loop-again-2 (bit-covered-claims t) (bit-covered-at t) bit-covered.Post bit-covered-Inv-loop bit-covered-μ-loop
 bit-covered-loop-again-2 t c =
     let n = c .before .before .before .before .before .before .before .pre .1 .0 in
@@ -142,19 +125,15 @@ bit-covered-loop-again-2 t c =
     let lt = c .before .loop-test .taken in
     (omega arith, slots-skip (s .inv .1) (s .c) (λ i. ltb i (s .c + 1)) (passes-up (s .c)) (empty-covered n g (s .c) lt (c .if1 .left)))
 
--- src/query.rt:50:13
 bit-covered-fold-coverage-requires : (t : ℕ) → bit-covered-lts.Need-fold-coverage-requires (bit-covered-claims t) (bit-covered-at t) bit-covered.Post bit-covered-Inv-loop bit-covered-μ-loop
 bit-covered-fold-coverage-requires t c κs = search needs
 
--- src/query.rt:50:46
 bit-covered-cast-has-bit : (t : ℕ) → bit-covered-lts.Need-cast-has-bit (bit-covered-claims t) (bit-covered-at t) bit-covered.Post bit-covered-Inv-loop bit-covered-μ-loop
 bit-covered-cast-has-bit t c = omega arith
 
--- src/query.rt:50:5
 bit-covered-has-bit-requires : (t : ℕ) → bit-covered-lts.Need-has-bit-requires (bit-covered-claims t) (bit-covered-at t) bit-covered.Post bit-covered-Inv-loop bit-covered-μ-loop
 bit-covered-has-bit-requires t c κs = search needs
 
--- src/query.rt:30:1
 bit-covered-returns : (t : ℕ) → bit-covered-lts.Need-returns (bit-covered-claims t) (bit-covered-at t) bit-covered.Post bit-covered-Inv-loop bit-covered-μ-loop
 bit-covered-returns t c l j le lt e =
     let n = c .before .before .before .before .before .before .before .before .pre .1 .0 in

@@ -1,13 +1,11 @@
 -- `cover::query::record_over` meets its contract. The loop's invariant: there was no record on the way up to k. Assumes nothing.
 use Prim.Native.Nat.{ℕ, _^_, _≤_, _<_}
-use mathlib.Core.Path.{_≡_, sym, _∙_}
+use mathlib.Core.Path.{_≡_, sym}
 use native.Mathlib.Omega.{arith}
 use Rattle.words.specs.Positions.{position}
 use Rattle.cover.proofs.CoverLaws.{Climbed, climb-start, climb-found, climb-next, climb-top}
 use Rattle.cover.proofs.query.record_over.Statement.{statement}
 use Rattle.cover.proofs.query.record_over.Tie as tie
-use Rattle.cover.proofs.query.record_over.Reads as reads
-use Rattle.cover.proofs.query.record_over.Lts as lts
 
 abbrev Inv-loop : tie.InvT-loop
 Inv-loop first end b k₀ k = (k < 31) × ((l j : ℕ) → l ≤ 4 → j < 2 ^ l → b ≡ position l j → Climbed first end l j k)
@@ -15,56 +13,44 @@ Inv-loop first end b k₀ k = (k < 31) × ((l j : ℕ) → l ≤ 4 → j < 2 ^ l
 abbrev μ-loop : tie.MeasureT-loop
 μ-loop first end b k₀ k = k
 
--- src/query.rt:59:5
 loop-holds : tie.Need-loop-holds Inv-loop μ-loop
 loop-holds c = (omega arith, λ l j le lt e. climb-start _ _ l j _ le lt e)
 
--- src/query.rt:60:12
 mul-if1 : tie.Need-mul-if1 Inv-loop μ-loop
 mul-if1 c = omega arith
 
--- src/query.rt:60:12
 element-copy-out-if1 : tie.Need-element-copy-out-if1 Inv-loop μ-loop
 element-copy-out-if1 c = omega arith
 
--- src/query.rt:60:23
 mul-if1-2 : tie.Need-mul-if1-2 Inv-loop μ-loop
 mul-if1-2 c = omega arith
 
--- src/query.rt:60:23
 element-copy-out-if1-2 : tie.Need-element-copy-out-if1-2 Inv-loop μ-loop
 element-copy-out-if1-2 c = omega arith
 
--- src/query.rt:61:13
 returns : tie.Need-returns Inv-loop μ-loop
 returns c l j le lt e =
     let s = c .before .before .before .before .loop in
     sym (climb-found (s .inv .1 l j le lt e) (c .if1 .taken))
 
--- src/query.rt:63:14
 sub-k : tie.Need-sub-k Inv-loop μ-loop
 sub-k c = omega arith
 
--- src/query.rt:59:5
 loop-less : tie.Need-loop-less Inv-loop μ-loop
 loop-less c = omega arith
 
--- src/query.rt:59:5
 loop-again : tie.Need-loop-again Inv-loop μ-loop
 loop-again c =
     let s = c .before .before .before .before .loop in
     let pos = c .before .before .before .loop-test .taken in
     (omega arith, λ l j le lt e. climb-next (s .inv .1 l j le lt e) pos (c .if1 .left))
 
--- src/query.rt:65:5
 element-copy-out-result : tie.Need-element-copy-out-result Inv-loop μ-loop
 element-copy-out-result c = omega arith
 
--- src/query.rt:65:16
 element-copy-out-result-2 : tie.Need-element-copy-out-result-2 Inv-loop μ-loop
 element-copy-out-result-2 c = omega arith
 
--- src/query.rt:54:1
 returns-2 : tie.Need-returns-2 Inv-loop μ-loop
 returns-2 c l j le lt e =
     let s = c .before .before .before .loop in

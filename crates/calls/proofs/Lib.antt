@@ -1,1 +1,2 @@
 -- The laws of the calls.
+pub mod Settled

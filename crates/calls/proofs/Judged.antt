@@ -13,10 +13,10 @@ abbrev pub Broken : List Rule → ℕ → ℕ → Type 0
 Broken [] n i = ⊥
 Broken (r ∷ rs) n i = ((r .kept ≡ false) × (r .number ≡ n) × (r .index ≡ i)) ⊎ Broken rs n i
 
--- Each rule comes, in document 01's order, before those behind it that are not kept.
+-- Of two rules that are not kept, the one in front comes first in document 01's order.
 abbrev pub InOrder : List Rule → Type 0
 InOrder [] = Unit {0}
-InOrder (r ∷ rs) = ((n i : ℕ) → Broken rs n i → Earlier (r .number) (r .index) n i) × InOrder rs
+InOrder (r ∷ rs) = (r .kept ≡ false → (n i : ℕ) → Broken rs n i → Earlier (r .number) (r .index) n i) × InOrder rs
 
 -- Of two, only one is before the other.
 earlier-one : (p q i j m n : ℕ) → (p < q) ⊎ ((p ≡ q) × ((i < j) ⊎ ((i ≡ j) × (m < n)))) → (q < p) ⊎ ((q ≡ p) × ((j < i) ⊎ ((j ≡ i) × (n < m)))) → ⊥
@@ -69,7 +69,7 @@ module _ {A : Type 0} (a : A) where
             inl (p, en, ei),
             λ m j l b.
                 ⊎-elim (λ h. earlier-not n i n i (here m j l (sym (h .1) ∙ en) (sym (h .2) ∙ ei)) (here m j l (sym (h .1) ∙ en) (sym (h .2) ∙ ei)))
-                (λ h. earlier-not m j n i l (rw (en, ei) at (later m j h))) b,
+                (λ h. earlier-not m j n i l (rw (en, ei) at (later p m j h))) b,
           )
         where
           here : (m j : ℕ) → Earlier m j n i → m ≡ n → j ≡ i → Earlier n i n i
@@ -84,7 +84,7 @@ module _ {A : Type 0} (a : A) where
       go true p (inl h) more = let y : _≡_ {A = ℕ} 0 1 = cc (h .0) in absurd (omega arith)
       go true p (inr h) more = rw p (more (h, λ m j l b. f .1 m j l (inr b)))
       go false p (inl h) more = rw (p, h .1, h .2)
-      go false p (inr h) more = absurd (f .1 (r .number) (r .index) (later n i h) (inl (p, refl, refl)))
+      go false p (inr h) more = absurd (f .1 (r .number) (r .index) (later p n i h) (inl (p, refl, refl)))
 
 -- ---- The same by what the rules are about: `Holds` are the conditions that the rules test.
 module _ {Holds : ℕ → ℕ → Type 0} (rs : List Rule) (tests : (n i : ℕ) → Broken rs n i ↔ Holds n i) {A : Type 0} (a : A) where

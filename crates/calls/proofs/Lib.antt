@@ -1,3 +1,4 @@
 -- The laws of the calls.
 pub mod Settled
 pub mod Judged
+pub mod Tested

@@ -2,3 +2,4 @@
 pub mod Settled
 pub mod Judged
 pub mod Tested
+pub mod Refusals

@@ -9,9 +9,11 @@ use native.Mathlib.Omega.{arith}
 use lib.IntN.{ℤ, pos}
 use lib.ListN.{length, replicate}
 use Rattle.theory.specs.Routes.{Route}
-use Rattle.table.specs.Rules.{Reply, gives, refuses, judge}
-use Rattle.table.specs.Wire.{records, routes, routesFrom}
+use Rattle.table.specs.Rules.{Rule, Reply, gives, refuses, judge}
+use Rattle.table.specs.Wire.{records, routes, routesFrom, tableRules}
 use Rattle.table.specs.Nodes.{nodes, brought}
+use Rattle.table.specs.Facts.{Accepted, Refused as BadTable}
+use Rattle.table.proofs.Accepted.{not-refused, accepted, refused-exactly}
 use Rattle.calls.specs.Rewriting.{Written, resultOf, takesSet, rewriteRules, rewriteReply, writtenOf, outputOf, rewrittenSays, countOf, changeOf, Rewrites}
 use Rattle.calls.specs.Covering.{coverRules, coveredBy, coversSays, coverReply, Queried}
 use Rattle.calls.specs.Conditions.{TableCondition, not-whole, too-many, of-record, RewriteCondition, no-mode, large-default, of-table, short-work, short-output, CoverCondition, Earlier, First, None}
@@ -20,8 +22,24 @@ use Rattle.calls.specs.declared.Rewritten.the-variants.{Records, Refused
 use Rattle.calls.specs.declared.Covers.{Covers}
 use Rattle.calls.specs.declared.Covers.the-variants.{Covered, Uncovered, Refused as NotAnswered}
 use Rattle.calls.proofs.Settled.{rewritten-same, covers-same}
-use Rattle.calls.proofs.Judged.{gives-exactly, refuses-exactly}
-use Rattle.calls.proofs.Tested.{rewrite-tests, rewrite-in-order, cover-tests, cover-in-order}
+use Rattle.calls.proofs.Judged.{earlier-not, gives-exactly, refuses-exactly}
+use Rattle.calls.proofs.Tested.{table-tests, table-in-order, rewrite-tests, rewrite-in-order, cover-tests, cover-in-order}
+
+-- ---- A table's conditions are what the table crate's facts say.
+module _ (s : Bool) (t : List ℕ) where
+  -- A table is accepted exactly when none of them holds.
+  pub accepted-exactly : Accepted s t ↔ None (TableCondition s t)
+  accepted-exactly = (
+    λ k. gives-exactly (tableRules s t) (table-tests s t) (records t) .0 (not-refused s t (records t) k) .0,
+    λ none. accepted s t (records t) (gives-exactly (tableRules s t) (table-tests s t) (records t) .1 (none, refl)),
+  )
+
+  -- It is refused exactly by the first that holds.
+  pub refused-first : (n i : ℕ) → BadTable s t n i ↔ First (TableCondition s t) n i
+  refused-first n i =
+      let exactly = refuses-exactly (tableRules s t) (table-tests s t) (records t) (table-in-order s t) n i in
+      let fact = refused-exactly s t (records t) in
+      (λ f. exactly .0 (fact .1 f), λ f. fact .0 (exactly .1 f))
 
 -- ---- What is said of a reply.
 says-refuses : (before : ℕ) (q : Reply (List Route)) {n i : ℕ} → writtenOf before q ≡ refuses n i → q ≡ refuses n i
@@ -79,3 +97,53 @@ module _ (t : List ℕ) (mode default : ℕ) (o : List ℕ) (words : ℕ) where
     refusal-changes-nothing number index e =
         let f = says-refuses (records t) reply (sym (ok .inner .answer) ∙ ap rewrittenSays e) in
         (ok .inner .output ∙ ap (outputOf o) f, ap countOf e, ap changeOf e, ok .zero)
+
+-- ---- The cover query.
+module _ (t : List ℕ) (address len words : ℕ) (r : Covers) (w′ : List ℕ) (ok : Queried t address len words r w′) where
+  abbrev query : List Rule
+  query = coverRules t len words
+
+  -- It is refused with a number and an index exactly when their condition holds and none before it in document 01's order does.
+  pub covers-refused : (number index : ℕ) → r ≡ NotAnswered number index ↔ First (CoverCondition t len words) number index
+  covers-refused number index =
+      let exactly = refuses-exactly query (cover-tests t len words) (coveredBy t address len) (cover-in-order t len words) number index in (
+        λ e. exactly .0 (sym (ok .answer) ∙ ap coversSays e),
+        λ f. covers-same r (NotAnswered number index) (ok .answer ∙ exactly .1 f),
+      )
+
+  -- It is answered exactly when no condition holds.
+  pub covers-answered : (b : Bool) → coversSays r ≡ gives b ↔ (None (CoverCondition t len words) × (coveredBy t address len ≡ b))
+  covers-answered b =
+      let exactly = gives-exactly query (cover-tests t len words) (coveredBy t address len) in
+      (λ e. exactly .0 (sym (ok .answer) ∙ e), λ f. ok .answer ∙ exactly .1 f)
+
+-- ---- The least room.
+
+-- The empty table has none of a table's conditions.
+empty-table : (s : Bool) (n i : ℕ) → TableCondition s [] n i → ⊥
+empty-table s n i (not-whole f) = f refl
+empty-table s n i (too-many h) = omega arith
+empty-table s n i (of-record h c) = omega arith
+
+empty-nodes : nodes 32 (routes []) ≡ 1
+unfolding nodes brought routes routesFrom
+empty-nodes = refl
+
+-- An empty table in modes 1 to 4 is refused by number 10 exactly when the room is below 160 words.
+module _ (mode default : ℕ) (o : List ℕ) (words : ℕ) (r : Rewritten) (o′ w′ : List ℕ) (ok : Rewrites [] mode default o words r o′ w′) where
+  pub empty-room : 1 ≤ mode → mode ≤ 4 → r ≡ Refused 10 0 ↔ words < 160
+  empty-room low high = (λ e. tenth 10 0 (rewrite-refused [] mode default o words r o′ w′ ok 10 0 .0 e .0) refl, λ h. rewrite-refused [] mode default o words r o′ w′ ok 10 0 .1 (short-work (rw empty-nodes h), earlier))
+    where
+      tenth : (n i : ℕ) → RewriteCondition [] mode default (length o) words n i → n ≡ 10 → words < 160
+      tenth n i (no-mode f) e = absurd (omega arith)
+      tenth n i (large-default p q) e = absurd (omega arith)
+      tenth n i (of-table c) e = absurd (empty-table (takesSet mode) n i c)
+      tenth n i (short-work h) e = rw empty-nodes at h
+      tenth n i (short-output h) e = absurd (omega arith)
+
+      earlier : (m j : ℕ) → Earlier m j 10 0 → RewriteCondition [] mode default (length o) words m j → ⊥
+      earlier m j l (no-mode f) = f (low, omega arith)
+      earlier m j l (large-default p q) = omega arith
+      earlier m j l (of-table c) = empty-table (takesSet mode) m j c
+      earlier m j l (short-work h) = earlier-not 10 0 10 0 l l
+      earlier m j l (short-output h) = earlier-not 11 0 10 0 l (inl (omega arith))

@@ -114,6 +114,10 @@ module _ (s : Bool) (t : List ℕ) where
   table-breaks n i (too-many h) = inr (inl (lt-leb (records t) 1024 h, refl, refl))
   table-breaks n i (of-record h c) = inr (inr (scan-breaks 0 (records t) n i (omega arith) (omega arith) c))
 
+  -- They test the conditions of a table.
+  pub table-tests : (n i : ℕ) → Broken (tableRules s t) n i ↔ TableCondition s t n i
+  table-tests n i = (table-broken n i, table-breaks n i)
+
   -- ---- Their order.
   record-place : (i n : ℕ) → RecordCondition s t i n → place n ≡ 5
   record-place i n (too-long f) = refl
@@ -121,7 +125,8 @@ module _ (s : Bool) (t : List ℕ) where
   record-place i n (bad-tail f) = refl
   record-place i n (not-after f) = refl
 
-  table-place : (n i : ℕ) → TableCondition s t n i → (3 ≤ place n) × (place n ≤ 5)
+  -- A table's conditions are 3 to 8.
+  pub table-place : (n i : ℕ) → TableCondition s t n i → (3 ≤ place n) × (place n ≤ 5)
   table-place n i (not-whole f) = (omega arith, omega arith)
   table-place n i (too-many h) = (omega arith, omega arith)
   table-place n i (of-record h c) = let e = record-place i n c in (omega arith, omega arith)
@@ -151,7 +156,8 @@ module _ (s : Bool) (t : List ℕ) where
           let e = f .1 in
           inr (record-place i m (f .0) ∙ sym (record-place b n (g .2)), inl (omega (arith, g .0)))
 
-  table-in-order : InOrder (tableRules s t)
+  -- They stand in document 01's order.
+  pub table-in-order : InOrder (tableRules s t)
   unfolding tableRules
   table-in-order = (λ p. three, (λ p. records-behind 4 (omega arith), scan-in-order 0 (records t)))
     where

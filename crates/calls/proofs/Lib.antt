@@ -3,3 +3,4 @@ pub mod Settled
 pub mod Judged
 pub mod Tested
 pub mod Refusals
+pub mod Results

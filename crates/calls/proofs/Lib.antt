@@ -4,3 +4,4 @@ pub mod Judged
 pub mod Tested
 pub mod Refusals
 pub mod Results
+pub mod Demand3

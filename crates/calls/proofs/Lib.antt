@@ -5,3 +5,4 @@ pub mod Tested
 pub mod Refusals
 pub mod Results
 pub mod Demand3
+pub mod Marked

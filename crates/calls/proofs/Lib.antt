@@ -6,3 +6,4 @@ pub mod Refusals
 pub mod Results
 pub mod Demand3
 pub mod Marked
+pub mod Wrong

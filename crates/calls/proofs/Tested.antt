@@ -168,6 +168,43 @@ module _ (s : Bool) (t : List ℕ) where
       three n j (inl b) = at (Earlier 3 0) (b .1) (b .2) (inl (omega arith))
       three n j (inr b) = records-behind 3 (omega arith) n j b
 
+-- ---- Two rules behind a table's, as both calls have them.
+module _ (s : Bool) (t : List ℕ) (m n : ℕ) (p q : Bool) where
+  abbrev two : List Rule
+  two = rule m 0 p ∷ rule n 0 q ∷ []
+
+  two-broken : (Holds : ℕ → ℕ → Type 0) → ((k j : ℕ) → TableCondition s t k j → Holds k j) → (p ≡ false → Holds m 0) → (q ≡ false → Holds n 0)
+      → (k j : ℕ) → Broken (tableRules s t ++ two) k j → Holds k j
+  two-broken Holds table first second k j b = ⊎-elim (λ c. table k j (table-broken s t k j c)) last (broken-append (tableRules s t) two k j b)
+    where
+      last : Broken two k j → Holds k j
+      last (inl c) = at Holds (c .1) (c .2) (first (c .0))
+      last (inr (inl c)) = at Holds (c .1) (c .2) (second (c .0))
+      last (inr (inr c)) = absurd c
+
+  table-first : {k j : ℕ} → TableCondition s t k j → Broken (tableRules s t ++ two) k j
+  table-first {k} {j} c = broken-left (tableRules s t) two k j (table-breaks s t k j c)
+
+  first-breaks : p ≡ false → Broken (tableRules s t ++ two) m 0
+  first-breaks e = broken-right (tableRules s t) two m 0 (inl (e, refl, refl))
+
+  second-breaks : q ≡ false → Broken (tableRules s t ++ two) n 0
+  second-breaks e = broken-right (tableRules s t) two n 0 (inr (inl (e, refl, refl)))
+
+  -- They stand in order if their numbers do, and no rule has a number below 3.
+  module _ (low : 5 < place m) (high : place m < place n) where
+    two-in-order : InOrder (tableRules s t ++ two)
+    two-in-order =
+        in-order-append (tableRules s t) two (table-in-order s t) (λ e. ahead m 0 (rule n 0 q ∷ []) (inl high, tt), (λ e k j b. absurd b, tt)) across
+      where
+        across : (k i l j : ℕ) → Broken (tableRules s t) k i → Broken two l j → Earlier k i l j
+        across k i l j b =
+            let h = table-place s t k i (table-broken s t k i b) in
+            ahead k i two (inl (omega (arith, h .1)), (inl (omega (arith, h .1)), tt)) l j
+
+    two-places : (k j : ℕ) → Broken (tableRules s t ++ two) k j → 3 ≤ place k
+    two-places = two-broken (λ k j. 3 ≤ place k) (λ k j c. table-place s t k j c .0) (λ e. omega arith) (λ e. omega arith)
+
 -- ---- Rules 1 and 2.
 mode-refuted : (mode : ℕ) → (leb 1 mode && leb mode 5) ≡ false → (1 ≤ mode) × (mode ≤ 5) → ⊥
 mode-refuted mode e h = let z : _≡_ {A = ℕ} 0 1 = cc (le-leb 1 mode (h .0), le-leb mode 5 (h .1)) in omega arith
@@ -190,108 +227,79 @@ default-refuted mode default e = go (eqb mode 5) refl e
 default-failed : (mode default : ℕ) → mode ≡ 5 → 63 < default → (not (eqb mode 5) || leb default 63) ≡ false
 default-failed mode default e h = rw (eq-eqb mode 5 e, lt-leb default 63 h)
 
+-- Before rules of numbers from 3 on they stand in order.
+front-in-order : (a b : Bool) (rs : List Rule) → InOrder rs → ((n j : ℕ) → Broken rs n j → 3 ≤ place n) → InOrder (rule 1 0 a ∷ rule 2 0 b ∷ rs)
+front-in-order a b rs order places = (λ e. one, (λ e n j c. inl (omega (arith, places n j c)), order))
+  where
+    one : (n j : ℕ) → Broken (rule 2 0 b ∷ rs) n j → Earlier 1 0 n j
+    one n j (inl c) = at (Earlier 1 0) (c .1) (c .2) (inl (omega arith))
+    one n j (inr c) = inl (omega (arith, places n j c))
+
 -- ---- The rules of a rewrite.
 module _ (t : List ℕ) (mode default room words : ℕ) where
-  abbrev Refusing : ℕ → ℕ → Type 0
-  Refusing = RewriteCondition t mode default room words
+  abbrev work : Bool
+  work = leb (160 * nodes 32 (routes t)) words
 
-  -- The rules behind the table's.
-  abbrev lastRules : List Rule
-  lastRules = rule 10 0 (leb (160 * nodes 32 (routes t)) words) ∷ rule 11 0 (leb (8 * length (resultOf t mode default)) room) ∷ []
+  abbrev output : Bool
+  output = leb (8 * length (resultOf t mode default)) room
 
-  last-broken : (n i : ℕ) → Broken lastRules n i → Refusing n i
-  last-broken n i (inl b) = at Refusing (b .1) (b .2) (short-work (leb-false (160 * nodes 32 (routes t)) words (b .0)))
-  last-broken n i (inr (inl b)) = at Refusing (b .1) (b .2) (short-output (leb-false (8 * length (resultOf t mode default)) room (b .0)))
-  last-broken n i (inr (inr b)) = absurd b
-
-  rewrite-broken : (n i : ℕ) → Broken (rewriteRules t mode default room words) n i → Refusing n i
+  -- They stand in document 01's order.
+  pub rewrite-in-order : InOrder (rewriteRules t mode default room words)
   unfolding rewriteRules
-  rewrite-broken n i (inl b) = at Refusing (b .1) (b .2) (no-mode (mode-refuted mode (b .0)))
+  rewrite-in-order =
+      front-in-order _ _ (tableRules (takesSet mode) t ++ (rule 10 0 work ∷ rule 11 0 output ∷ []))
+      (two-in-order (takesSet mode) t 10 11 work output (omega arith) (omega arith))
+      (two-places (takesSet mode) t 10 11 work output (omega arith) (omega arith))
+
+  rewrite-broken : (n i : ℕ) → Broken (rewriteRules t mode default room words) n i → RewriteCondition t mode default room words n i
+  unfolding rewriteRules
+  rewrite-broken n i (inl b) = at (RewriteCondition t mode default room words) (b .1) (b .2) (no-mode (mode-refuted mode (b .0)))
   rewrite-broken n i (inr (inl b)) =
       let f = default-refuted mode default (b .0) in
-      at Refusing (b .1) (b .2) (large-default (f .0) (f .1))
+      at (RewriteCondition t mode default room words) (b .1) (b .2) (large-default (f .0) (f .1))
   rewrite-broken n i (inr (inr b)) =
-      ⊎-elim (λ c. of-table (table-broken (takesSet mode) t n i c)) (last-broken n i)
-      (broken-append (tableRules (takesSet mode) t) lastRules n i b)
+      two-broken (takesSet mode) t 10 11 work output (RewriteCondition t mode default room words) (λ k j c. of-table c)
+      (λ e. short-work (leb-false (160 * nodes 32 (routes t)) words e))
+      (λ e. short-output (leb-false (8 * length (resultOf t mode default)) room e)) n i b
 
-  rewrite-breaks : (n i : ℕ) → Refusing n i → Broken (rewriteRules t mode default room words) n i
+  rewrite-breaks : (n i : ℕ) → RewriteCondition t mode default room words n i → Broken (rewriteRules t mode default room words) n i
   unfolding rewriteRules
   rewrite-breaks n i (no-mode f) = inl (mode-failed mode f, refl, refl)
   rewrite-breaks n i (large-default e h) = inr (inl (default-failed mode default e h, refl, refl))
-  rewrite-breaks n i (of-table c) = inr (inr (broken-left (tableRules (takesSet mode) t) lastRules n i (table-breaks (takesSet mode) t n i c)))
-  rewrite-breaks n i (short-work h) =
-      inr (inr (broken-right (tableRules (takesSet mode) t) lastRules 10 0 (inl (lt-leb (160 * nodes 32 (routes t)) words h, refl, refl))))
+  rewrite-breaks n i (of-table c) = inr (inr (table-first (takesSet mode) t 10 11 work output c))
+  rewrite-breaks n i (short-work h) = inr (inr (first-breaks (takesSet mode) t 10 11 work output (lt-leb (160 * nodes 32 (routes t)) words h)))
   rewrite-breaks n i (short-output h) =
-      inr (inr (broken-right (tableRules (takesSet mode) t) lastRules 11 0 (inr (inl (lt-leb (8 * length (resultOf t mode default)) room h, refl, refl)))))
+      inr (inr (second-breaks (takesSet mode) t 10 11 work output (lt-leb (8 * length (resultOf t mode default)) room h)))
 
   -- They test the conditions of a rewrite.
   pub rewrite-tests : (n i : ℕ) → Broken (rewriteRules t mode default room words) n i ↔ RewriteCondition t mode default room words n i
   rewrite-tests n i = (rewrite-broken n i, rewrite-breaks n i)
 
-  -- They stand in document 01's order.
-  pub rewrite-in-order : InOrder (rewriteRules t mode default room words)
-  unfolding rewriteRules
-  rewrite-in-order = (λ p. one, (λ p. behind 2 (omega arith), in-order-append rules lastRules (table-in-order (takesSet mode) t) last-in-order across))
-    where
-      rules : List Rule
-      rules = tableRules (takesSet mode) t
-
-      across : (m i n j : ℕ) → Broken rules m i → Broken lastRules n j → Earlier m i n j
-      across m i n j b =
-          let h = table-place (takesSet mode) t m i (table-broken (takesSet mode) t m i b) in
-          ahead m i lastRules (inl (omega (arith, h .1)), (inl (omega (arith, h .1)), tt)) n j
-
-      last-in-order : InOrder lastRules
-      last-in-order = (λ p. ahead 10 0 (rule 11 0 (leb (8 * length (resultOf t mode default)) room) ∷ []) (inl (omega arith), tt), (λ p n i b. absurd b, tt))
-
-      behind : (m : ℕ) → place m < 3 → (n j : ℕ) → Broken (rules ++ lastRules) n j → Earlier m 0 n j
-      behind m h n j b =
-          ⊎-elim
-          (λ c. let g = table-place (takesSet mode) t n j (table-broken (takesSet mode) t n j c) in inl (omega (arith, g .0)))
-          (ahead m 0 lastRules (inl (omega arith), (inl (omega arith), tt)) n j) (broken-append rules lastRules n j b)
-
-      one : (n j : ℕ) → Broken (rule 2 0 (not (eqb mode 5) || leb default 63) ∷ rules ++ lastRules) n j → Earlier 1 0 n j
-      one n j (inl b) = at (Earlier 1 0) (b .1) (b .2) (inl (omega arith))
-      one n j (inr b) = behind 1 (omega arith) n j b
-
 -- ---- The rules of the cover query.
 module _ (t : List ℕ) (len words : ℕ) where
-  abbrev Unanswered : ℕ → ℕ → Type 0
-  Unanswered = CoverCondition t len words
+  abbrev short : Bool
+  short = leb len 32
 
-  -- The rules behind the set's.
-  abbrev queryRules : List Rule
-  queryRules = rule 9 0 (leb len 32) ∷ rule 10 0 (leb (160 * nodes 32 (routes t)) words) ∷ []
-
-  query-broken : (n i : ℕ) → Broken queryRules n i → Unanswered n i
-  query-broken n i (inl b) = at Unanswered (b .1) (b .2) (long-query (leb-false len 32 (b .0)))
-  query-broken n i (inr (inl b)) = at Unanswered (b .1) (b .2) (short-room (leb-false (160 * nodes 32 (routes t)) words (b .0)))
-  query-broken n i (inr (inr b)) = absurd b
-
-  cover-broken : (n i : ℕ) → Broken (coverRules t len words) n i → Unanswered n i
-  unfolding coverRules
-  cover-broken n i b = ⊎-elim (λ c. of-set (table-broken true t n i c)) (query-broken n i) (broken-append (tableRules true t) queryRules n i b)
-
-  cover-breaks : (n i : ℕ) → Unanswered n i → Broken (coverRules t len words) n i
-  unfolding coverRules
-  cover-breaks n i (of-set c) = broken-left (tableRules true t) queryRules n i (table-breaks true t n i c)
-  cover-breaks n i (long-query h) = broken-right (tableRules true t) queryRules 9 0 (inl (lt-leb len 32 h, refl, refl))
-  cover-breaks n i (short-room h) =
-      broken-right (tableRules true t) queryRules 10 0 (inr (inl (lt-leb (160 * nodes 32 (routes t)) words h, refl, refl)))
-
-  -- They test the conditions of the cover query.
-  pub cover-tests : (n i : ℕ) → Broken (coverRules t len words) n i ↔ CoverCondition t len words n i
-  cover-tests n i = (cover-broken n i, cover-breaks n i)
+  abbrev wide : Bool
+  wide = leb (160 * nodes 32 (routes t)) words
 
   -- They stand in document 01's order.
   pub cover-in-order : InOrder (coverRules t len words)
   unfolding coverRules
-  cover-in-order = in-order-append (tableRules true t) queryRules (table-in-order true t) query-in-order across
-    where
-      across : (m i n j : ℕ) → Broken (tableRules true t) m i → Broken queryRules n j → Earlier m i n j
-      across m i n j b =
-          let h = table-place true t m i (table-broken true t m i b) in
-          ahead m i queryRules (inl (omega (arith, h .1)), (inl (omega (arith, h .1)), tt)) n j
+  cover-in-order = two-in-order true t 9 10 short wide (omega arith) (omega arith)
 
-      query-in-order : InOrder queryRules
-      query-in-order = (λ p. ahead 9 0 (rule 10 0 (leb (160 * nodes 32 (routes t)) words) ∷ []) (inl (omega arith), tt), (λ p n i b. absurd b, tt))
+  cover-broken : (n i : ℕ) → Broken (coverRules t len words) n i → CoverCondition t len words n i
+  unfolding coverRules
+  cover-broken =
+      two-broken true t 9 10 short wide (CoverCondition t len words) (λ k j c. of-set c) (λ e. long-query (leb-false len 32 e))
+      (λ e. short-room (leb-false (160 * nodes 32 (routes t)) words e))
+
+  cover-breaks : (n i : ℕ) → CoverCondition t len words n i → Broken (coverRules t len words) n i
+  unfolding coverRules
+  cover-breaks n i (of-set c) = table-first true t 9 10 short wide c
+  cover-breaks n i (long-query h) = first-breaks true t 9 10 short wide (lt-leb len 32 h)
+  cover-breaks n i (short-room h) = second-breaks true t 9 10 short wide (lt-leb (160 * nodes 32 (routes t)) words h)
+
+  -- They test the conditions of the cover query.
+  pub cover-tests : (n i : ℕ) → Broken (coverRules t len words) n i ↔ CoverCondition t len words n i
+  cover-tests n i = (cover-broken n i, cover-breaks n i)

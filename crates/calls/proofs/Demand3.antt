@@ -3,7 +3,7 @@
 use mathlib.Core.Path.{_≡_, refl, sym, ap, ap₂, _∙_, subst}
 use mathlib.Core.Bool.{Bool, true, false}
 use mathlib.Core.List.{List, [], _∷_, _++_}
-use mathlib.Core.Logic.{_⊎_, inl, inr, _↔_}
+use mathlib.Core.Logic.{_⊎_, inl, inr, _↔_, Iff·trans}
 use Prim.Native.Nat.{ℕ, zero, suc, _+_, _*_, _^_, _≤_, _<_}
 use native.Mathlib.Decide.{decLe}
 use native.Mathlib.Omega.{arith}
@@ -48,27 +48,21 @@ module _ (t : List ℕ) (bytes : Bytes t) (o : List ℕ) (words count : ℕ) (ch
       → take (8 * count) o′ ≡ take (8 * number) p′ ↔ Alike 32 (answer 32 (routes t)) (answer 32 (routes s))
   unfolding resultOf
   same-bytes-drop d e a b =
-      let same = same-results 4 d e a b in
-      let alike = drop-alike smallest smallest-chooses 32 (routes t) (routes s) in
-      (λ q. alike .0 (same .0 q), λ h. same .1 (alike .1 h))
+      Iff·trans (same-results 4 d e a b) (drop-alike smallest smallest-chooses 32 (routes t) (routes s))
 
   -- Mode 5, at one default: exactly when they do once unrouted addresses have the default.
   pub same-bytes-fill : (d : ℕ) → Rewrites t 5 d o words (Records count change) o′ w′ → Rewrites s 5 d p space (Records number other) p′ v′
       → take (8 * count) o′ ≡ take (8 * number) p′ ↔ Alike 32 (filled d (answer 32 (routes t))) (filled d (answer 32 (routes s)))
   unfolding resultOf
   same-bytes-fill d a b =
-      let same = same-results 5 d d a b in
-      let alike = fill-alike smallest smallest-chooses 32 d (routes t) (routes s) in
-      (λ q. alike .0 (same .0 q), λ h. same .1 (alike .1 h))
+      Iff·trans (same-results 5 d d a b) (fill-alike smallest smallest-chooses 32 d (routes t) (routes s))
 
   -- Mode 1: exactly when they hold the same addresses.
   pub same-bytes-set : (d e : ℕ) → Rewrites t 1 d o words (Records count change) o′ w′ → Rewrites s 1 e p space (Records number other) p′ v′
       → take (8 * count) o′ ≡ take (8 * number) p′ ↔ ((x : ℕ) → x < 2 ^ 32 → held 32 (routes t) x ≡ held 32 (routes s) x)
   unfolding resultOf
   same-bytes-set d e a b =
-      let same = same-results 1 d e a b in
-      let alike = set-alike smallest smallest-chooses 32 (routes t) (routes s) in
-      (λ q. alike .0 (same .0 q), λ h. same .1 (alike .1 h))
+      Iff·trans (same-results 1 d e a b) (set-alike smallest smallest-chooses 32 (routes t) (routes s))
 
 -- ---- The hops that a mode may write are in range for it.
 hop-of : (s : Bool) {t : List Route} → All (λ r. r .hop ≤ topHop s) t → {h : ℕ} → HopIn t h → h ≤ topHop s

@@ -2,13 +2,12 @@
 -- mode 1 when they hold the same addresses; and what is written, rewritten again in its mode, is given back. The tables' elements are bytes.
 use mathlib.Core.Path.{_≡_, refl, sym, ap, ap₂, _∙_, subst}
 use mathlib.Core.Bool.{Bool, true, false}
-use mathlib.Core.List.{List, [], _∷_, _++_}
-use mathlib.Core.Logic.{_⊎_, inl, inr, _↔_, Iff·trans}
+use mathlib.Core.List.{List}
+use mathlib.Core.Logic.{inl, inr, _↔_, Iff·trans}
 use Prim.Native.Nat.{ℕ, zero, suc, _+_, _*_, _^_, _≤_, _<_}
-use native.Mathlib.Decide.{decLe}
 use native.Mathlib.Omega.{arith}
 use lib.IntN.{ℤ, pos, _-ℤ_, +ℤ-invr}
-use lib.ListN.{length, take, drop}
+use lib.ListN.{length, take}
 use Rattle.theory.specs.Routes.{Route, All, Table, held, answer, filled, Alike}
 use Rattle.theory.specs.Results.{smallest, result}
 use Rattle.theory.specs.Demands.{HopIn, HopFrom}
@@ -21,12 +20,12 @@ use Rattle.table.specs.Nodes.{nodes}
 use Rattle.table.proofs.Accepted.{accepted}
 use Rattle.table.proofs.Tables.{table-accepted}
 use Rattle.table.proofs.Written.{records-bytes, routes-bytes, bytes-small}
-use Rattle.calls.specs.Rewriting.{modeOf, resultOf, takesSet, Rewrites}
-use Rattle.calls.specs.Conditions.{RewriteCondition, no-mode, large-default, of-table, short-work, short-output, None}
 use Rattle.calls.specs.declared.Rewritten.{Rewritten}
 use Rattle.calls.specs.declared.Rewritten.the-variants.{Records}
-use Rattle.calls.proofs.Refusals.{accepted-exactly}
-use Rattle.calls.proofs.Results.{rewrite-records, rewrite-written, rewrite-lawful, rewrite-table, rewrite-result}
+use Rattle.calls.specs.Conditions.{RewriteCondition, Answerable, None}
+use Rattle.calls.specs.Rewriting.{modeOf, resultOf, takesSet, Rewrites}
+use Rattle.calls.proofs.Refusals.{answerable-exactly}
+use Rattle.calls.proofs.Results.{rewrite-records, rewrite-written, rewrite-lawful, rewrite-table}
 
 -- ---- Two tables t and s, rewritten without refusal in outputs and rooms of their own.
 module _ (t : List ℕ) (bytes : Bytes t) (o : List ℕ) (words count : ℕ) (change : ℤ) (o′ w′ : List ℕ)
@@ -82,29 +81,16 @@ hop-kept (suc (suc (suc (suc (suc (suc n)))))) d m f hops h from = absurd (omega
 -- ---- A table t, rewritten without refusal.
 module _ (t : List ℕ) (bytes : Bytes t) (mode default : ℕ) (o : List ℕ) (words count : ℕ) (change : ℤ) (o′ w′ : List ℕ)
     (ok : Rewrites t mode default o words (Records count change) o′ w′) where
-  none : None (RewriteCondition t mode default (length o) words)
-  none = rewrite-records t mode default o words (Records count change) o′ w′ ok count change refl .0
+  answerable : Answerable t mode default (length o) words
+  answerable =
+      answerable-exactly t mode default (length o) words .0
+      (rewrite-records t mode default o words (Records count change) o′ w′ ok count change refl .0)
 
   counted : count ≡ length (resultOf t mode default)
   counted = rewrite-records t mode default o words (Records count change) o′ w′ ok count change refl .1
 
   written : take (8 * count) o′ ≡ bytesOf (resultOf t mode default)
   written = rewrite-written t mode default o words (Records count change) o′ w′ ok count change refl
-
-  known : (1 ≤ mode) × (mode ≤ 5)
-  known = go (decLe 1 mode) (decLe mode 5)
-    where
-      go : Dec (1 ≤ mode) → Dec (mode ≤ 5) → (1 ≤ mode) × (mode ≤ 5)
-      go (yes a) (yes b) = (a, b)
-      go (yes a) (no b) = absurd (none 1 0 (no-mode (λ h. b (h .1))))
-      go (no a) b = absurd (none 1 0 (no-mode (λ h. a (h .0))))
-
-  defaulted : mode ≡ 5 → default ≤ 63
-  defaulted e = go (decLe default 63)
-    where
-      go : Dec (default ≤ 63) → default ≤ 63
-      go (yes a) = a
-      go (no a) = absurd (none 2 0 (large-default e (omega arith)))
 
   -- The table and the result, as routes.
   lawful : Lawful (takesSet mode) (routes t)
@@ -117,7 +103,7 @@ module _ (t : List ℕ) (bytes : Bytes t) (mode default : ℕ) (o : List ℕ) (w
   unfolding resultOf
   hops =
       all-map
-      (λ r. hop-kept mode default known defaulted (lawful .hops) (r .hop))
+      (λ r. hop-kept mode default (answerable .known-mode) (answerable .small-default) (lawful .hops) (r .hop))
       (result-hops smallest smallest-chooses 32 (modeOf mode default) (routes t))
 
   -- The written records are bytes.
@@ -170,8 +156,12 @@ module _ (t : List ℕ) (bytes : Bytes t) (mode default : ℕ) (o : List ℕ) (w
   -- And they are not refused where they are at most 1,024, the room is enough for their nodes and the output for them.
   pub again-answered : count ≤ 1024 → (p : List ℕ) (space : ℕ) → 8 * count ≤ length p → 160 * nodes 32 (routes (take (8 * count) o′)) ≤ space
       → None (RewriteCondition (take (8 * count) o′) mode default (length p) space)
-  again-answered few p space fits room n i (no-mode f) = f known
-  again-answered few p space fits room n i (large-default e h) = let k = defaulted e in omega arith
-  again-answered few p space fits room n i (of-table c) = accepted-exactly (takesSet mode) (take (8 * count) o′) .0 (output-accepted few) n i c
-  again-answered few p space fits room n i (short-work h) = omega arith
-  again-answered few p space fits room n i (short-output h) = let e = counted in omega (arith, rw again at h)
+  again-answered few p space fits room =
+      answerable-exactly (take (8 * count) o′) mode default (length p) space .1
+      (record {
+        known-mode = answerable .known-mode;
+        small-default = answerable .small-default;
+        accepted = output-accepted few;
+        enough-work = room;
+        enough-output = let e = counted in rw again (omega arith);
+      })

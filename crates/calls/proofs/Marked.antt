@@ -1,9 +1,8 @@
 -- The worked routes of document 01 that are marked, as calls: one theorem over the theory's table of cases, for every output of at least 8,200 bytes and
 -- every room of at least 16,384 words. Assumes nothing.
-use mathlib.Core.Path.{_≡_, refl, sym, ap, ap₂, _∙_}
-use mathlib.Core.Bool.{Bool, true, false}
+use mathlib.Core.Path.{_≡_, refl, ap, ap₂, _∙_}
 use mathlib.Core.List.{List, [], _∷_, _++_}
-use Prim.Native.Nat.{ℕ, _*_, _≤_, _<_}
+use Prim.Native.Nat.{ℕ, _*_, _≤_}
 use native.Mathlib.Omega.{arith}
 use lib.Dec.{T, leb, leb→le}
 use lib.IntN.{ℤ, pos, negsuc, _-ℤ_}
@@ -12,15 +11,15 @@ use Rattle.theory.specs.Routes.{Route}
 use Rattle.theory.specs.Results.{Mode, aggregateSet, aggregateConsistentSet, aggregateConsistentMap, aggregateMapDrop, aggregateMapFill, smallest, result}
 use Rattle.theory.proofs.Cases.{route, Case, cases, Answered, worked}
 use Rattle.table.specs.Rules.{gives, judge}
-use Rattle.table.specs.Wire.{records, routeAt, routesFrom, routes, bytesOf, recordRules, rulesFrom, tableRules}
+use Rattle.table.specs.Wire.{routeAt, routesFrom, routes, bytesOf, recordRules, rulesFrom, tableRules}
 use Rattle.table.specs.Nodes.{nodes, brought, fresh}
 use Rattle.table.proofs.Accepted.{accepted}
 use Rattle.table.proofs.Written.{records-bytes}
-use Rattle.calls.specs.Rewriting.{modeOf, resultOf, takesSet, Rewrites}
-use Rattle.calls.specs.Conditions.{RewriteCondition, no-mode, large-default, of-table, short-work, short-output, None}
 use Rattle.calls.specs.declared.Rewritten.{Rewritten}
 use Rattle.calls.specs.declared.Rewritten.the-variants.{Records}
-use Rattle.calls.proofs.Refusals.{accepted-exactly}
+use Rattle.calls.specs.Conditions.{RewriteCondition, None}
+use Rattle.calls.specs.Rewriting.{modeOf, resultOf, takesSet, Rewrites}
+use Rattle.calls.proofs.Refusals.{answerable-exactly}
 use Rattle.calls.proofs.Results.{rewrite-result}
 
 -- A mode's number, and its default (0 where it is not read).
@@ -121,11 +120,15 @@ case-answered c change k e o words r o′ w′ long wide ok =
     size = ap (λ (rs : List Route). length rs) made
 
     none : None (RewriteCondition t mode default (length o) words)
-    none n i (no-mode f) = f (number-known (c .mode))
-    none n i (large-default q h) = let d = leb→le (defaultOf (c .mode)) 63 (k .0) in omega arith
-    none n i (of-table d) = accepted-exactly (takesSet mode) t .0 (accepted (takesSet mode) t 0 (k .1)) n i d
-    none n i (short-work h) = omega (arith, leb→le (160 * nodes 32 (c .table)) 16384 (k .3), rw (k .2) at h)
-    none n i (short-output h) = omega (arith, leb→le (8 * length (c .expected)) 8200 (k .4), size)
+    none =
+        answerable-exactly t mode default (length o) words .1
+        (record {
+          known-mode = number-known (c .mode);
+          small-default = λ q. leb→le (defaultOf (c .mode)) 63 (k .0);
+          accepted = accepted (takesSet mode) t 0 (k .1);
+          enough-work = rw (k .2) (omega (arith, leb→le (160 * nodes 32 (c .table)) 16384 (k .3)));
+          enough-output = omega (arith, leb→le (8 * length (c .expected)) 8200 (k .4), size);
+        })
 
 ready : Each Ready cases changes
 unfolding cases changes route judge tableRules rulesFrom recordRules routeAt routesFrom routes bytesOf nodes brought fresh

@@ -1,29 +1,30 @@
 -- Demand 1: bad input is refused with the first number of document 01's order whose condition holds, exactly then, and a refusal changes nothing.
 -- Assumes nothing.
 use mathlib.Core.Path.{_≡_, refl, sym, ap, _∙_}
-use mathlib.Core.Bool.{Bool, true, false, cond}
-use mathlib.Core.List.{List, [], _∷_}
-use mathlib.Core.Logic.{_⊎_, inl, inr, _↔_}
-use Prim.Native.Nat.{ℕ, zero, suc, _*_, _≤_, _<_}
+use mathlib.Core.Bool.{Bool}
+use mathlib.Core.List.{List, []}
+use mathlib.Core.Logic.{inl, _↔_}
+use Prim.Native.Nat.{ℕ, zero, _*_, _≤_, _<_}
+use native.Mathlib.Decide.{decLe}
 use native.Mathlib.Omega.{arith}
 use lib.IntN.{ℤ, pos}
 use lib.ListN.{length, replicate}
 use Rattle.theory.specs.Routes.{Route}
-use Rattle.table.specs.Rules.{Rule, Reply, gives, refuses, judge}
+use Rattle.table.specs.Rules.{Rule, Reply, gives, refuses}
 use Rattle.table.specs.Wire.{records, routes, routesFrom, tableRules}
 use Rattle.table.specs.Nodes.{nodes, brought}
 use Rattle.table.specs.Facts.{Accepted, Refused as BadTable}
 use Rattle.table.proofs.Accepted.{not-refused, accepted, refused-exactly}
-use Rattle.calls.specs.Rewriting.{Written, resultOf, takesSet, rewriteRules, rewriteReply, writtenOf, outputOf, rewrittenSays, countOf, changeOf, Rewrites}
-use Rattle.calls.specs.Covering.{coverRules, coveredBy, coversSays, coverReply, Queried}
-use Rattle.calls.specs.Conditions.{TableCondition, not-whole, too-many, of-record, RewriteCondition, no-mode, large-default, of-table, short-work, short-output, CoverCondition, Earlier, First, None}
 use Rattle.calls.specs.declared.Rewritten.{Rewritten}
 use Rattle.calls.specs.declared.Rewritten.the-variants.{Records, Refused}
 use Rattle.calls.specs.declared.Covers.{Covers}
-use Rattle.calls.specs.declared.Covers.the-variants.{Covered, Uncovered, Refused as NotAnswered}
-use Rattle.calls.proofs.Settled.{rewritten-same, covers-same}
+use Rattle.calls.specs.declared.Covers.the-variants.{Refused as NotAnswered}
+use Rattle.calls.specs.Conditions.{TableCondition, not-whole, too-many, of-record, RewriteCondition, no-mode, large-default, of-table, short-work, short-output, CoverCondition, Answerable, Earlier, First, None}
+use Rattle.calls.specs.Covering.{coverRules, coveredBy, coversSays, Queried}
+use Rattle.calls.specs.Rewriting.{resultOf, takesSet, rewriteRules, Written, rewriteReply, writtenOf, outputOf, rewrittenSays, countOf, changeOf, Rewrites}
 use Rattle.calls.proofs.Judged.{earlier-not, gives-exactly, refuses-exactly}
-use Rattle.calls.proofs.Tested.{table-tests, table-in-order, rewrite-tests, rewrite-in-order, cover-tests, cover-in-order}
+use Rattle.calls.proofs.Settled.{rewritten-same, covers-same}
+use Rattle.calls.proofs.Tested.{table-tests, table-in-order, rewrite-in-order, rewrite-tests, cover-in-order, cover-tests}
 
 -- ---- A table's conditions are what the table crate's facts say.
 module _ (s : Bool) (t : List ℕ) where
@@ -40,6 +41,33 @@ module _ (s : Bool) (t : List ℕ) where
       let exactly = refuses-exactly (tableRules s t) (table-tests s t) (records t) (table-in-order s t) n i in
       let fact = refused-exactly s t (records t) in
       (λ f. exactly .0 (fact .1 f), λ f. fact .0 (exactly .1 f))
+
+-- ---- A rewrite has none of its conditions exactly when it is answerable.
+module _ (t : List ℕ) (mode default room words : ℕ) where
+  -- What can be decided holds if its contrary would be a condition.
+  holds : {P : Type 0} → Dec P → ((P → ⊥) → ⊥) → P
+  holds (yes p) n = p
+  holds (no p) n = absurd (n p)
+
+  none→answerable : None (RewriteCondition t mode default room words) → Answerable t mode default room words
+  none→answerable none =
+      record {
+        known-mode = (holds (decLe 1 mode) (λ f. none 1 0 (no-mode (λ h. f (h .0)))), holds (decLe mode 5) (λ f. none 1 0 (no-mode (λ h. f (h .1)))));
+        small-default = λ e. holds (decLe default 63) (λ f. none 2 0 (large-default e (omega arith)));
+        accepted = accepted-exactly (takesSet mode) t .1 (λ n i c. none n i (of-table c));
+        enough-work = holds (decLe (160 * nodes 32 (routes t)) words) (λ f. none 10 0 (short-work (omega arith)));
+        enough-output = holds (decLe (8 * length (resultOf t mode default)) room) (λ f. none 11 0 (short-output (omega arith)));
+      }
+
+  answerable→none : Answerable t mode default room words → None (RewriteCondition t mode default room words)
+  answerable→none a n i (no-mode f) = f (a .known-mode)
+  answerable→none a n i (large-default e h) = let d = a .small-default e in omega arith
+  answerable→none a n i (of-table c) = accepted-exactly (takesSet mode) t .0 (a .accepted) n i c
+  answerable→none a n i (short-work h) = omega (arith, a .enough-work)
+  answerable→none a n i (short-output h) = omega (arith, a .enough-output)
+
+  pub answerable-exactly : None (RewriteCondition t mode default room words) ↔ Answerable t mode default room words
+  answerable-exactly = (none→answerable, answerable→none)
 
 -- ---- What is said of a reply.
 says-refuses : (before : ℕ) (q : Reply (List Route)) {n i : ℕ} → writtenOf before q ≡ refuses n i → q ≡ refuses n i

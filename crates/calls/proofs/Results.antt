@@ -1,49 +1,36 @@
 -- Demand 2: a table that is not refused is answered with the records of the theory's result of its mode, and the cover query by whether every address
 -- is held. Assumes of a table, where it says so, that its elements are bytes.
 use mathlib.Core.Path.{_≡_, refl, sym, ap, _∙_, subst}
-use mathlib.Core.Bool.{Bool, true, false}
-use mathlib.Core.List.{List, [], _∷_, _++_}
+use mathlib.Core.Bool.{true}
+use mathlib.Core.List.{List, _++_}
 use mathlib.Core.Logic.{_↔_}
-use Prim.Native.Nat.{ℕ, _+_, _-_, _*_, _^_, _≤_, _<_}
-use native.Mathlib.Decide.{decLe}
+use Prim.Native.Nat.{ℕ, _+_, _-_, _*_, _^_, _<_}
 use native.Mathlib.Omega.{arith}
 use lib.IntN.{ℤ, pos, _-ℤ_}
-use lib.ListN.{length, take, drop}
+use lib.ListN.{length, take, drop, length-append, length-drop}
 use lib.Seq.{take-at}
 use Rattle.theory.specs.Routes.{Route, Table, held}
-use Rattle.theory.specs.Results.{smallest, result, In, startOf, throughout}
+use Rattle.theory.specs.Results.{smallest, result, In, startOf}
 use Rattle.theory.specs.Demands.{Keeps}
 use Rattle.theory.proofs.Chosen.{smallest-chooses}
 use Rattle.theory.proofs.Modes.{result-keeps, result-table}
 use Rattle.theory.proofs.Maximal.{throughout-each}
-use Rattle.table.specs.Rules.{gives}
+use Rattle.table.specs.Rules.{Reply, gives, refuses}
 use Rattle.table.specs.Wire.{records, routes, bytesOf, Bytes, Lawful}
-use Rattle.table.specs.Facts.{Accepted}
 use Rattle.table.proofs.Accepted.{not-refused}
 use Rattle.table.proofs.Tables.{accepted-table}
 use Rattle.table.proofs.Written.{length-bytes, routes-bytes}
-use Rattle.calls.specs.Rewriting.{modeOf, resultOf, takesSet, writtenOf, outputOf, Rewrites}
-use Rattle.calls.specs.Covering.{coveredBy, coversSays, Queried}
-use Rattle.calls.specs.Conditions.{RewriteCondition, of-table, short-output, CoverCondition, None}
 use Rattle.calls.specs.declared.Rewritten.{Rewritten}
 use Rattle.calls.specs.declared.Rewritten.the-variants.{Records}
 use Rattle.calls.specs.declared.Covers.{Covers}
 use Rattle.calls.specs.declared.Covers.the-variants.{Covered}
+use Rattle.calls.specs.Conditions.{RewriteCondition, CoverCondition, None}
+use Rattle.calls.specs.Covering.{coveredBy, coversSays, Queried}
+use Rattle.calls.specs.Rewriting.{modeOf, resultOf, takesSet, rewriteReply, writtenOf, outputOf, Rewrites}
+use Rattle.calls.proofs.Refusals.{answerable-exactly, reply-gives, rewrite-accepted, covers-answered}
 use Rattle.calls.proofs.Settled.{rewritten-same, covers-same}
-use Rattle.calls.proofs.Refusals.{accepted-exactly, reply-gives, rewrite-accepted, covers-answered}
 
 module _ (t : List ℕ) (mode default : ℕ) (o : List ℕ) (words : ℕ) where
-  -- What a table that is not refused keeps: it is accepted, and the output has room for the result.
-  pub none-accepted : None (RewriteCondition t mode default (length o) words) → Accepted (takesSet mode) t
-  none-accepted none = accepted-exactly (takesSet mode) t .1 (λ n i c. none n i (of-table c))
-
-  pub none-fits : None (RewriteCondition t mode default (length o) words) → 8 * length (resultOf t mode default) ≤ length o
-  none-fits none = go (decLe (8 * length (resultOf t mode default)) (length o))
-    where
-      go : Dec (8 * length (resultOf t mode default) ≤ length o) → 8 * length (resultOf t mode default) ≤ length o
-      go (yes h) = h
-      go (no h) = absurd (none 11 0 (short-output (omega arith)))
-
   module _ (r : Rewritten) (o′ w′ : List ℕ) (ok : Rewrites t mode default o words r o′ w′) where
     -- Where no condition holds the answer is the number of the result's records and the change, and the output has them from its start.
     pub rewrite-result : None (RewriteCondition t mode default (length o) words)
@@ -70,6 +57,18 @@ module _ (t : List ℕ) (mode default : ℕ) (o : List ℕ) (words : ℕ) where
         let same : Records count change ≡ Records (length (resultOf t mode default)) (pos (length (resultOf t mode default)) -ℤ pos (records t)) = sym e ∙ f .0 in
         (none, cc, cc, f .1)
 
+    -- Answered or refused, the output keeps its length.
+    pub rewrite-length : length o′ ≡ length o
+    rewrite-length = ap (λ (l : List ℕ). length l) (ok .inner .output) ∙ kept (rewriteReply t mode default (length o) words) refl
+      where
+        kept : (q : Reply (List Route)) → rewriteReply t mode default (length o) words ≡ q → length (outputOf o q) ≡ length o
+        kept (refuses n i) e = refl
+        kept (gives rs) e =
+            let g = reply-gives t mode default o words .0 e in
+            let fits = answerable-exactly t mode default (length o) words .0 (g .0) .enough-output in
+            let size : length (resultOf t mode default) ≡ length rs = ap (λ (l : List Route). length l) (g .1) in
+            simp (length-append, length-drop, length-bytes) (omega arith)
+
     -- The records are written from the output's start.
     pub rewrite-written : (count : ℕ) (change : ℤ) → r ≡ Records count change → take (8 * count) o′ ≡ bytesOf (resultOf t mode default)
     rewrite-written count change e =
@@ -83,8 +82,8 @@ module _ (t : List ℕ) (mode default : ℕ) (o : List ℕ) (words : ℕ) where
       -- The table of bytes is one of routes, with hops in range.
       pub rewrite-lawful : Lawful (takesSet mode) (routes t)
       rewrite-lawful =
-          let none = rewrite-records count change answered .0 in
-          accepted-table (records t) (records t) (takesSet mode) t bytes (not-refused (takesSet mode) t (records t) (none-accepted none)) .0
+          let k = answerable-exactly t mode default (length o) words .0 (rewrite-records count change answered .0) .accepted in
+          accepted-table (records t) (records t) (takesSet mode) t bytes (not-refused (takesSet mode) t (records t) k) .0
 
       -- So is the result.
       pub rewrite-table : Table 32 (resultOf t mode default)

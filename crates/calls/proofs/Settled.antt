@@ -3,12 +3,12 @@ use mathlib.Core.Path.{_≡_, refl, sym, ap, ap₂, _∙_}
 use mathlib.Core.List.{List}
 use Prim.Native.Nat.{ℕ}
 use native.Mathlib.Omega.{arith}
-use Rattle.calls.specs.Rewriting.{Written, rewrittenSays, RewritesIn, Rewrites}
-use Rattle.calls.specs.Covering.{coversSays, Queried}
 use Rattle.calls.specs.declared.Rewritten.{Rewritten}
 use Rattle.calls.specs.declared.Rewritten.the-variants.{Records, Refused}
 use Rattle.calls.specs.declared.Covers.{Covers}
 use Rattle.calls.specs.declared.Covers.the-variants.{Covered, Uncovered, Refused as NotAnswered}
+use Rattle.calls.specs.Covering.{coversSays, Queried}
+use Rattle.calls.specs.Rewriting.{Written, rewrittenSays, RewritesIn, Rewrites}
 
 -- Answers of a rewrite that say the same are the same.
 pub rewritten-same : (a b : Rewritten) → rewrittenSays a ≡ rewrittenSays b → a ≡ b

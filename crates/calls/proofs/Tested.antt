@@ -1,5 +1,5 @@
 -- The rules of a rewrite and of the cover query test document 01's conditions, and stand in its order. Assumes nothing.
-use mathlib.Core.Path.{_≡_, refl, sym, ap, _∙_, subst}
+use mathlib.Core.Path.{_≡_, refl, sym, _∙_, subst}
 use mathlib.Core.Bool.{Bool, true, false, not, _||_, _&&_}
 use mathlib.Core.List.{List, [], _∷_, _++_}
 use mathlib.Core.Logic.{_⊎_, inl, inr, ⊎-elim, _↔_}
@@ -12,9 +12,9 @@ use Rattle.table.specs.Rules.{Rule, rule}
 use Rattle.table.specs.Wire.{records, routeAt, routes, hostClear, tailKept, inOrder, recordRules, rulesFrom, tableRules}
 use Rattle.table.specs.Nodes.{nodes}
 use Rattle.table.proofs.Accepted.{Shows, yes, no, length-shown, host-shown, tail-shown, order-shown}
-use Rattle.calls.specs.Rewriting.{resultOf, takesSet, rewriteRules}
-use Rattle.calls.specs.Covering.{coverRules}
 use Rattle.calls.specs.Conditions.{RecordCondition, too-long, host-bits, bad-tail, not-after, TableCondition, not-whole, too-many, of-record, RewriteCondition, no-mode, large-default, of-table, short-work, short-output, CoverCondition, of-set, long-query, short-room, place, Earlier}
+use Rattle.calls.specs.Covering.{coverRules}
+use Rattle.calls.specs.Rewriting.{resultOf, takesSet, rewriteRules}
 use Rattle.calls.proofs.Judged.{Broken, InOrder}
 
 -- A condition at equal numbers.

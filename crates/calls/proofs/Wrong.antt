@@ -1,30 +1,28 @@
 -- The wrong rewrites that document 01 names, each against the statement: refusing everything, one table for all, copying the input, copying the deeper
 -- nodes, an invented change; and an invented total of addresses held. Assumes nothing.
 use mathlib.Core.Path.{_≡_, refl, sym, ap, ap₂, _∙_}
-use mathlib.Core.Bool.{false}
 use mathlib.Core.List.{List, [], _∷_, _++_}
-use Prim.Native.Nat.{ℕ, _*_, _^_, _≤_, _<_}
+use Prim.Native.Nat.{ℕ, _*_, _≤_}
 use native.Mathlib.Omega.{arith}
 use lib.IntN.{ℤ, pos, negsuc, _-ℤ_}
 use lib.ListN.{length, getD, take, drop}
 use lib.Seq.{take-at}
 use Rattle.theory.specs.Routes.{Route, Member, head, nil, cons, answer, Alike}
-use Rattle.theory.specs.Results.{aggregateSet, aggregateMapDrop, smallest, result}
+use Rattle.theory.specs.Results.{smallest, result}
 use Rattle.theory.proofs.Lists.{all-member}
 use Rattle.theory.proofs.Chosen.{smallest-chooses}
 use Rattle.theory.proofs.Preserve.{answers}
-use Rattle.theory.proofs.Cases.{route, Case, cases, worked}
-use Rattle.table.specs.Rules.{gives}
+use Rattle.theory.proofs.Cases.{route, cases, worked}
 use Rattle.table.specs.Wire.{records, routeAt, routesFrom, routes, bytesOf}
 use Rattle.table.specs.Calls.{addressSum, heldSays, heldReply}
 use Rattle.table.specs.declared.answers.AddressesHeld.the-variants.{Sum}
 use Rattle.table.proofs.Written.{length-bytes}
 use Rattle.table.proofs.Calls.{held-sum-exactly}
-use Rattle.calls.specs.Rewriting.{countOf, Rewrites}
 use Rattle.calls.specs.declared.Rewritten.{Rewritten}
 use Rattle.calls.specs.declared.Rewritten.the-variants.{Records, Refused}
-use Rattle.calls.proofs.Results.{rewrite-records}
+use Rattle.calls.specs.Rewriting.{countOf, Rewrites}
 use Rattle.calls.proofs.Marked.{changes, marked}
+use Rattle.calls.proofs.Results.{rewrite-records}
 
 -- ---- The tables of cases 2, 5, 10 and 11, as bytes.
 

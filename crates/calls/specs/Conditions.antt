@@ -7,7 +7,7 @@ use mathlib.Core.List.{List}
 use mathlib.Core.Logic.{_⊎_}
 use lib.Dec.{leb}
 use lib.ListN.{length}
-use Rattle.table.specs.Facts.{LengthKept, HostKept, TailKept, OrderKept}
+use Rattle.table.specs.Facts.{LengthKept, HostKept, TailKept, OrderKept, Accepted}
 use Rattle.table.specs.Nodes.{nodes}
 use Rattle.table.specs.Wire.{records, routes}
 use Rattle.calls.specs.Rewriting.{resultOf, takesSet}
@@ -41,6 +41,14 @@ pub data CoverCondition (t : List ℕ) (len words : ℕ) : ℕ → ℕ → Type 
   of-set : {n i : ℕ} → TableCondition true t n i → CoverCondition t len words n i
   long-query : 32 < len → CoverCondition t len words 9 0
   short-room : words < 160 * nodes 32 (routes t) → CoverCondition t len words 10 0
+
+-- What it is for a rewrite to have none of its conditions, said of the table, the mode, the default and the rooms.
+pub record Answerable (t : List ℕ) (mode default room words : ℕ) : Type 0 where
+  pub known-mode : (1 ≤ mode) × (mode ≤ 5)
+  pub small-default : mode ≡ 5 → default ≤ 63
+  pub accepted : Accepted (takesSet mode) t
+  pub enough-work : 160 * nodes 32 (routes t) ≤ words
+  pub enough-output : 8 * length (resultOf t mode default) ≤ room
 
 -- ---- Their order.
 

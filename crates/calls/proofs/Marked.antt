@@ -2,13 +2,16 @@
 -- every room of at least 16,384 words. Assumes nothing.
 use mathlib.Core.Path.{_≡_, refl, ap, ap₂, _∙_}
 use mathlib.Core.List.{List, [], _∷_, _++_}
-use Prim.Native.Nat.{ℕ, _*_, _≤_}
+use Prim.Native.Nat.{ℕ, zero, suc, _*_, _≤_}
 use native.Mathlib.Omega.{arith}
 use lib.Dec.{T, leb, leb→le}
 use lib.IntN.{ℤ, pos, negsuc, _-ℤ_}
 use lib.ListN.{length, drop}
-use Rattle.theory.specs.Routes.{Route}
+use Rattle.theory.specs.Routes.{Route, nil}
 use Rattle.theory.specs.Results.{Mode, aggregateSet, aggregateConsistentSet, aggregateConsistentMap, aggregateMapDrop, aggregateMapFill, smallest, result}
+use Rattle.theory.proofs.Chosen.{smallest-chooses}
+use Rattle.theory.proofs.Quick.{ortcOf, setsOf}
+use Rattle.theory.proofs.Computed.{set-computed, drop-computed}
 use Rattle.theory.proofs.Cases.{route, Case, cases, Answered, worked}
 use Rattle.table.specs.Rules.{gives, judge}
 use Rattle.table.specs.Wire.{routeAt, routesFrom, routes, bytesOf, recordRules, rulesFrom, tableRules}
@@ -19,7 +22,7 @@ use Rattle.calls.specs.declared.Rewritten.{Rewritten}
 use Rattle.calls.specs.declared.Rewritten.the-variants.{Records}
 use Rattle.calls.specs.Conditions.{RewriteCondition, None}
 use Rattle.calls.specs.Rewriting.{modeOf, resultOf, takesSet, Rewrites}
-use Rattle.calls.proofs.Refusals.{answerable-exactly}
+use Rattle.calls.proofs.Refusals.{accepted-exactly, answerable-exactly, empty-table, empty-nodes}
 use Rattle.calls.proofs.Results.{rewrite-result}
 
 -- A mode's number, and its default (0 where it is not read).
@@ -143,3 +146,34 @@ each-answered (c ∷ cs) (d ∷ ds) k a = (case-answered c d (k .0) (a .0), each
 -- The theorem over the table of cases.
 pub marked : Each CaseAnswered cases changes
 marked = each-answered cases changes ready worked
+
+-- ---- The empty table in modes 1 to 4: 160 words and no output suffice.
+empty-result : (mode default : ℕ) → 1 ≤ mode → mode ≤ 4 → resultOf [] mode default ≡ []
+unfolding resultOf result routes routesFrom ortcOf setsOf
+empty-result zero d low high = absurd (omega arith)
+empty-result (suc zero) d low high = set-computed smallest smallest-chooses 32 nil
+empty-result (suc (suc zero)) d low high = refl
+empty-result (suc (suc (suc zero))) d low high = refl
+empty-result (suc (suc (suc (suc zero)))) d low high = drop-computed smallest smallest-chooses 32 nil
+empty-result (suc (suc (suc (suc (suc n))))) d low high = absurd (omega arith)
+
+-- It is answered with no record and change 0.
+pub empty-answered : (mode default : ℕ) (o : List ℕ) (words : ℕ) (r : Rewritten) (o′ w′ : List ℕ) → 1 ≤ mode → mode ≤ 4 → 160 ≤ words
+    → Rewrites [] mode default o words r o′ w′ → (r ≡ Records 0 (pos 0)) × (o′ ≡ o)
+unfolding resultOf bytesOf
+empty-answered mode default o words r o′ w′ low high enough ok =
+    let f = rewrite-result [] mode default o words r o′ w′ ok none in (
+      f .0 ∙ ap (λ (rs : List Route). Records (length rs) (pos (length rs) -ℤ pos 0)) (empty-result mode default low high),
+      f .1 ∙ ap (λ (rs : List Route). bytesOf rs ++ drop (8 * length rs) o) (empty-result mode default low high),
+    )
+  where
+    none : None (RewriteCondition [] mode default (length o) words)
+    none =
+        answerable-exactly [] mode default (length o) words .1
+        (record {
+          known-mode = (low, omega arith);
+          small-default = λ e. absurd (omega arith);
+          accepted = accepted-exactly (takesSet mode) [] .1 (empty-table (takesSet mode));
+          enough-work = rw empty-nodes enough;
+          enough-output = rw (empty-result mode default low high) (omega arith);
+        })

@@ -148,17 +148,18 @@ module _ (t : List ℕ) (address len words : ℕ) (r : Covers) (w′ : List ℕ)
 -- ---- The least room.
 
 -- The empty table has none of a table's conditions.
-empty-table : (s : Bool) (n i : ℕ) → TableCondition s [] n i → ⊥
+pub empty-table : (s : Bool) (n i : ℕ) → TableCondition s [] n i → ⊥
 empty-table s n i (not-whole f) = f refl
 empty-table s n i (too-many h) = omega arith
 empty-table s n i (of-record h c) = omega arith
 
-empty-nodes : nodes 32 (routes []) ≡ 1
+-- It has one node, the root.
+pub empty-nodes : nodes 32 (routes []) ≡ 1
 unfolding nodes brought routes routesFrom
 empty-nodes = refl
 
--- An empty table in modes 1 to 4 is refused by number 10 exactly when the room is below 160 words.
 module _ (mode default : ℕ) (o : List ℕ) (words : ℕ) (r : Rewritten) (o′ w′ : List ℕ) (ok : Rewrites [] mode default o words r o′ w′) where
+  -- An empty table in modes 1 to 4 is refused by number 10 exactly when the room is below 160 words.
   pub empty-room : 1 ≤ mode → mode ≤ 4 → r ≡ Refused 10 0 ↔ words < 160
   empty-room low high = (λ e. tenth 10 0 (rewrite-refused [] mode default o words r o′ w′ ok 10 0 .0 e .0) refl, λ h. rewrite-refused [] mode default o words r o′ w′ ok 10 0 .1 (short-work (rw empty-nodes h), earlier))
     where

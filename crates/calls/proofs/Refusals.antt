@@ -42,13 +42,13 @@ module _ (s : Bool) (t : List ℕ) where
       let fact = refused-exactly s t (records t) in
       (λ f. exactly .0 (fact .1 f), λ f. fact .0 (exactly .1 f))
 
--- ---- A rewrite has none of its conditions exactly when it is answerable.
-module _ (t : List ℕ) (mode default room words : ℕ) where
-  -- What can be decided holds if its contrary would be a condition.
-  holds : {P : Type 0} → Dec P → ((P → ⊥) → ⊥) → P
-  holds (yes p) n = p
-  holds (no p) n = absurd (n p)
+-- What can be decided holds if its contrary is impossible.
+holds : {P : Type 0} → Dec P → ((P → ⊥) → ⊥) → P
+holds (yes p) n = p
+holds (no p) n = absurd (n p)
 
+-- ---- What it is to have none of a rewrite's conditions.
+module _ (t : List ℕ) (mode default room words : ℕ) where
   none→answerable : None (RewriteCondition t mode default room words) → Answerable t mode default room words
   none→answerable none =
       record {
@@ -66,6 +66,7 @@ module _ (t : List ℕ) (mode default room words : ℕ) where
   answerable→none a n i (short-work h) = omega (arith, a .enough-work)
   answerable→none a n i (short-output h) = omega (arith, a .enough-output)
 
+  -- None holds exactly when the rewrite is answerable.
   pub answerable-exactly : None (RewriteCondition t mode default room words) ↔ Answerable t mode default room words
   answerable-exactly = (none→answerable, answerable→none)
 

@@ -1,14 +1,20 @@
--- The statements settle the answer and all that was lent: no second answer, output or room satisfies one. Assumes nothing.
+-- The statements settle the answer and all that was lent: no second answer, output or room satisfies one, and for every input some do. Assumes nothing.
 use mathlib.Core.Path.{_≡_, refl, sym, ap, ap₂, _∙_}
 use mathlib.Core.List.{List}
 use Prim.Native.Nat.{ℕ}
 use native.Mathlib.Omega.{arith}
+use lib.IntN.{pos, _-ℤ_}
+use lib.ListN.{length, replicate}
+use mathlib.Core.Bool.{Bool, true, false}
+use Rattle.theory.specs.Routes.{Route}
+use Rattle.table.specs.Rules.{Reply, gives, refuses}
+use Rattle.table.specs.Wire.{records}
 use Rattle.calls.specs.declared.Rewritten.{Rewritten}
 use Rattle.calls.specs.declared.Rewritten.the-variants.{Records, Refused}
 use Rattle.calls.specs.declared.Covers.{Covers}
 use Rattle.calls.specs.declared.Covers.the-variants.{Covered, Uncovered, Refused as NotAnswered}
-use Rattle.calls.specs.Covering.{coversSays, Queried}
-use Rattle.calls.specs.Rewriting.{Written, rewrittenSays, RewritesIn, Rewrites}
+use Rattle.calls.specs.Covering.{coversSays, coverReply, Queried}
+use Rattle.calls.specs.Rewriting.{Written, rewriteReply, writtenOf, outputOf, rewrittenSays, RewritesIn, Rewrites}
 
 -- Answers of a rewrite that say the same are the same.
 pub rewritten-same : (a b : Rewritten) → rewrittenSays a ≡ rewrittenSays b → a ≡ b
@@ -47,3 +53,27 @@ rewrite-settled t mode default o words r r₁ o′ o₁ w′ w₁ a b =
 pub covers-settled : (t : List ℕ) (address len words : ℕ) (r r₁ : Covers) (w′ w₁ : List ℕ)
     → Queried t address len words r w′ → Queried t address len words r₁ w₁ → (r ≡ r₁) × (w′ ≡ w₁)
 covers-settled t address len words r r₁ w′ w₁ a b = (covers-same r r₁ (a .answer ∙ sym (b .answer)), a .zero ∙ sym (b .zero))
+
+-- ---- For every input some answer satisfies the statement, so that none asks the impossible.
+rewritten-of : (before : ℕ) (q : Reply (List Route)) → (r : Rewritten) × (rewrittenSays r ≡ writtenOf before q)
+rewritten-of before (gives rs) = (Records (length rs) (pos (length rs) -ℤ pos before), refl)
+rewritten-of before (refuses number index) = (Refused number index, refl)
+
+-- Of a rewrite.
+pub rewrite-met : (t : List ℕ) (mode default : ℕ) (o : List ℕ) (words : ℕ)
+    → (r : Rewritten) × ((o′ : List ℕ) × ((w′ : List ℕ) × Rewrites t mode default o words r o′ w′))
+rewrite-met t mode default o words =
+    let reply = rewriteReply t mode default (length o) words in
+    let a = rewritten-of (records t) reply in
+    (a .0, (outputOf o reply, (replicate words 0, record { inner = record { answer = a .1; output = refl }; zero = refl })))
+
+covers-of : (q : Reply Bool) → (r : Covers) × (coversSays r ≡ q)
+covers-of (gives true) = (Covered, refl)
+covers-of (gives false) = (Uncovered, refl)
+covers-of (refuses number index) = (NotAnswered number index, refl)
+
+-- Of the cover query.
+pub covers-met : (t : List ℕ) (address len words : ℕ) → (r : Covers) × ((w′ : List ℕ) × Queried t address len words r w′)
+covers-met t address len words =
+    let a = covers-of (coverReply t address len words) in
+    (a .0, (replicate words 0, record { answer = a .1; zero = refl }))

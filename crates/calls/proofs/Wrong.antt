@@ -120,6 +120,13 @@ change-invented t mode default o words count change o′ w′ other ok =
     let f = rewrite-records t mode default o words (Records count change) o′ w′ ok count change refl in
     other (f .2 ∙ ap (λ (n : ℕ). pos n -ℤ pos (records t)) (sym (f .1)))
 
--- ---- An invented total: the addresses held are the sum over the records, whatever else is answered is wrong.
+-- ---- An invented total of addresses held.
+
+-- Any but the sum over the records is wrong.
 pub total-invented : (t : List ℕ) (n : ℕ) → (addressSum 32 (routes t) ≡ n → ⊥) → heldSays (Sum n) ≡ heldReply t → ⊥
 total-invented t n other e = other (held-sum-exactly t (Sum n) e n .0 refl .1)
+
+-- So for case 11's table, twice 2 ^ 23.
+pub total-apart : (n : ℕ) → heldSays (Sum n) ≡ heldReply apart → n ≡ 16777216
+unfolding addressSum routes routesFrom routeAt
+total-apart n e = sym (held-sum-exactly apart (Sum n) e n .0 refl .1)

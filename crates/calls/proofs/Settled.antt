@@ -1,12 +1,10 @@
 -- The statements settle the answer and all that was lent: no second answer, output or room satisfies one, and for every input some do. Assumes nothing.
 use mathlib.Core.Path.{_≡_, refl, sym, ap, ap₂, _∙_}
+use mathlib.Core.Bool.{Bool, true, false}
 use mathlib.Core.List.{List}
 use Prim.Native.Nat.{ℕ}
 use native.Mathlib.Omega.{arith}
-use lib.IntN.{pos, _-ℤ_}
 use lib.ListN.{length, replicate}
-use mathlib.Core.Bool.{Bool, true, false}
-use Rattle.theory.specs.Routes.{Route}
 use Rattle.table.specs.Rules.{Reply, gives, refuses}
 use Rattle.table.specs.Wire.{records}
 use Rattle.calls.specs.declared.Rewritten.{Rewritten}
@@ -55,16 +53,16 @@ pub covers-settled : (t : List ℕ) (address len words : ℕ) (r r₁ : Covers) 
 covers-settled t address len words r r₁ w′ w₁ a b = (covers-same r r₁ (a .answer ∙ sym (b .answer)), a .zero ∙ sym (b .zero))
 
 -- ---- For every input some answer satisfies the statement, so that none asks the impossible.
-rewritten-of : (before : ℕ) (q : Reply (List Route)) → (r : Rewritten) × (rewrittenSays r ≡ writtenOf before q)
-rewritten-of before (gives rs) = (Records (length rs) (pos (length rs) -ℤ pos before), refl)
-rewritten-of before (refuses number index) = (Refused number index, refl)
+rewritten-of : (q : Reply Written) → (r : Rewritten) × (rewrittenSays r ≡ q)
+rewritten-of (gives w) = (Records (w .count) (w .change), refl)
+rewritten-of (refuses number index) = (Refused number index, refl)
 
 -- Of a rewrite.
 pub rewrite-met : (t : List ℕ) (mode default : ℕ) (o : List ℕ) (words : ℕ)
     → (r : Rewritten) × ((o′ : List ℕ) × ((w′ : List ℕ) × Rewrites t mode default o words r o′ w′))
 rewrite-met t mode default o words =
     let reply = rewriteReply t mode default (length o) words in
-    let a = rewritten-of (records t) reply in
+    let a = rewritten-of (writtenOf (records t) reply) in
     (a .0, (outputOf o reply, (replicate words 0, record { inner = record { answer = a .1; output = refl }; zero = refl })))
 
 covers-of : (q : Reply Bool) → (r : Covers) × (coversSays r ≡ q)

@@ -13,7 +13,7 @@ use Rattle.theory.proofs.Quick.{setsOf, ortcOf}
 use Rattle.theory.proofs.Computed.{set-computed, drop-computed, fill-computed}
 
 -- The prefix a.b.c.d/len by hop h.
-pub route : ℕ → ℕ → ℕ → ℕ → ℕ → ℕ → Route
+unfoldable pub route : ℕ → ℕ → ℕ → ℕ → ℕ → ℕ → Route
 route a b c d len h = record { addr = ((a * 256 + b) * 256 + c) * 256 + d; len = len; hop = h }
 
 -- A worked case: what a mode makes of a table.
@@ -23,7 +23,7 @@ pub record Case : Type 0 where
   pub expected : List Route
 
 -- The marked cases, in document 01's order: 1 to 5, 7, 9 to 15, with case 4 in both modes that it names.
-pub cases : List Case
+unfoldable pub cases : List Case
 unfolding route
 cases =
     record { mode = aggregateSet; table = []; expected = [] }

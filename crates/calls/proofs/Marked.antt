@@ -1,0 +1,179 @@
+-- The worked routes of document 01 that are marked, as calls: one theorem over the theory's table of cases, for every output of at least 8,200 bytes and
+-- every room of at least 16,384 words. Assumes nothing.
+use mathlib.Core.Path.{_≡_, refl, ap, ap₂, _∙_}
+use mathlib.Core.List.{List, [], _∷_, _++_}
+use Prim.Native.Nat.{ℕ, zero, suc, _*_, _≤_}
+use native.Mathlib.Omega.{arith}
+use lib.Dec.{T, leb, leb→le}
+use lib.IntN.{ℤ, pos, negsuc, _-ℤ_}
+use lib.ListN.{length, drop}
+use Rattle.theory.specs.Routes.{Route, nil}
+use Rattle.theory.specs.Results.{Mode, aggregateSet, aggregateConsistentSet, aggregateConsistentMap, aggregateMapDrop, aggregateMapFill, smallest, result}
+use Rattle.theory.proofs.Chosen.{smallest-chooses}
+use Rattle.theory.proofs.Quick.{ortcOf, setsOf}
+use Rattle.theory.proofs.Computed.{set-computed, drop-computed}
+use Rattle.theory.proofs.Cases.{route, Case, cases, Answered, worked}
+use Rattle.table.specs.Rules.{gives, judge}
+use Rattle.table.specs.Wire.{routeAt, routesFrom, routes, bytesOf, recordRules, rulesFrom, tableRules}
+use Rattle.table.specs.Nodes.{nodes, brought, fresh}
+use Rattle.table.proofs.Accepted.{accepted}
+use Rattle.table.proofs.Written.{records-bytes}
+use Rattle.calls.specs.declared.Rewritten.{Rewritten}
+use Rattle.calls.specs.declared.Rewritten.the-variants.{Records}
+use Rattle.calls.specs.Conditions.{RewriteCondition, None}
+use Rattle.calls.specs.Rewriting.{modeOf, resultOf, takesSet, Rewrites}
+use Rattle.calls.proofs.Refusals.{accepted-exactly, answerable-exactly, empty-table, empty-nodes}
+use Rattle.calls.proofs.Results.{rewrite-result}
+
+-- A mode's number, and its default (0 where it is not read).
+abbrev pub numberOf : Mode → ℕ
+numberOf aggregateSet = 1
+numberOf aggregateConsistentSet = 2
+numberOf aggregateConsistentMap = 3
+numberOf aggregateMapDrop = 4
+numberOf (aggregateMapFill d) = 5
+
+abbrev pub defaultOf : Mode → ℕ
+defaultOf aggregateSet = 0
+defaultOf aggregateConsistentSet = 0
+defaultOf aggregateConsistentMap = 0
+defaultOf aggregateMapDrop = 0
+defaultOf (aggregateMapFill d) = d
+
+mode-back : (m : Mode) → modeOf (numberOf m) (defaultOf m) ≡ m
+mode-back aggregateSet = refl
+mode-back aggregateConsistentSet = refl
+mode-back aggregateConsistentMap = refl
+mode-back aggregateMapDrop = refl
+mode-back (aggregateMapFill d) = refl
+
+number-known : (m : Mode) → (1 ≤ numberOf m) × (numberOf m ≤ 5)
+number-known aggregateSet = omega arith
+number-known aggregateConsistentSet = omega arith
+number-known aggregateConsistentMap = omega arith
+number-known aggregateMapDrop = omega arith
+number-known (aggregateMapFill d) = omega arith
+
+-- The changes that document 01 names, case by case.
+unfoldable pub changes : List ℤ
+changes =
+    pos 0
+    ∷ negsuc 0
+    ∷ pos 0
+    ∷ negsuc 0
+    ∷ negsuc 0
+    ∷ negsuc 0
+    ∷ pos 0
+    ∷ pos 0
+    ∷ negsuc 1
+    ∷ pos 0
+    ∷ pos 0
+    ∷ pos 1
+    ∷ pos 0
+    ∷ pos 1
+    ∷ []
+
+-- A case's call: whatever satisfies the statement is the expected records with the expected change, the rest of the output as it was.
+abbrev pub CaseAnswered : Case → ℤ → Type 0
+CaseAnswered c change =
+    (o : List ℕ) (words : ℕ) (r : Rewritten) (o′ w′ : List ℕ) → 8200 ≤ length o → 16384 ≤ words
+    → Rewrites (bytesOf (c .table)) (numberOf (c .mode)) (defaultOf (c .mode)) o words r o′ w′
+    → (r ≡ Records (length (c .expected)) change) × (o′ ≡ bytesOf (c .expected) ++ drop (8 * length (c .expected)) o)
+
+-- P holds of each case with its change, and there are as many.
+abbrev pub Each : (Case → ℤ → Type 0) → List Case → List ℤ → Type 0
+Each P [] [] = Unit {0}
+Each P [] (d ∷ ds) = ⊥
+Each P (c ∷ cs) [] = ⊥
+Each P (c ∷ cs) (d ∷ ds) = P c d × Each P cs ds
+
+-- ---- What is computed of a case.
+
+-- Its default is in range, its bytes are accepted and read back as its routes, its nodes have room, its records fit, and the change is so.
+abbrev Ready : Case → ℤ → Type 0
+Ready c change =
+    T (leb (defaultOf (c .mode)) 63)
+    × (judge {A = ℕ} (tableRules (takesSet (numberOf (c .mode))) (bytesOf (c .table))) 0 ≡ gives 0)
+    × (routes (bytesOf (c .table)) ≡ c .table)
+    × T (leb (160 * nodes 32 (c .table)) 16384)
+    × T (leb (8 * length (c .expected)) 8200)
+    × (pos (length (c .expected)) -ℤ pos (length (c .table)) ≡ change)
+
+case-answered : (c : Case) (change : ℤ) → Ready c change → result smallest 32 (c .mode) (c .table) ≡ c .expected → CaseAnswered c change
+unfolding resultOf
+case-answered c change k e o words r o′ w′ long wide ok =
+    let f = rewrite-result t mode default o words r o′ w′ ok none in (
+      f .0 ∙ ap₂ Records size (ap₂ (λ (a b : ℕ). pos a -ℤ pos b) size (records-bytes (c .table)) ∙ k .5),
+      f .1 ∙ ap (λ (rs : List Route). bytesOf rs ++ drop (8 * length rs) o) made,
+    )
+  where
+    mode : ℕ
+    mode = numberOf (c .mode)
+
+    default : ℕ
+    default = defaultOf (c .mode)
+
+    t : List ℕ
+    t = bytesOf (c .table)
+
+    made : result smallest 32 (modeOf mode default) (routes t) ≡ c .expected
+    made = ap₂ (result smallest 32) (mode-back (c .mode)) (k .2) ∙ e
+
+    size : length (result smallest 32 (modeOf mode default) (routes t)) ≡ length (c .expected)
+    size = ap (λ (rs : List Route). length rs) made
+
+    none : None (RewriteCondition t mode default (length o) words)
+    none =
+        answerable-exactly t mode default (length o) words .1
+        (record {
+          known-mode = number-known (c .mode);
+          small-default = λ q. leb→le (defaultOf (c .mode)) 63 (k .0);
+          accepted = accepted (takesSet mode) t 0 (k .1);
+          enough-work = rw (k .2) (omega (arith, leb→le (160 * nodes 32 (c .table)) 16384 (k .3)));
+          enough-output = omega (arith, leb→le (8 * length (c .expected)) 8200 (k .4), size);
+        })
+
+ready : Each Ready cases changes
+unfolding cases changes route judge tableRules rulesFrom recordRules routeAt routesFrom routes bytesOf nodes brought fresh
+ready = ((tt, refl, refl, tt, tt, refl), ((tt, refl, refl, tt, tt, refl), ((tt, refl, refl, tt, tt, refl), ((tt, refl, refl, tt, tt, refl), ((tt, refl, refl, tt, tt, refl), ((tt, refl, refl, tt, tt, refl), ((tt, refl, refl, tt, tt, refl), ((tt, refl, refl, tt, tt, refl), ((tt, refl, refl, tt, tt, refl), ((tt, refl, refl, tt, tt, refl), ((tt, refl, refl, tt, tt, refl), ((tt, refl, refl, tt, tt, refl), ((tt, refl, refl, tt, tt, refl), ((tt, refl, refl, tt, tt, refl), tt))))))))))))))
+
+each-answered : (cs : List Case) (ds : List ℤ) → Each Ready cs ds → Answered cs → Each CaseAnswered cs ds
+each-answered [] [] k a = tt
+each-answered [] (d ∷ ds) k a = absurd k
+each-answered (c ∷ cs) [] k a = absurd k
+each-answered (c ∷ cs) (d ∷ ds) k a = (case-answered c d (k .0) (a .0), each-answered cs ds (k .1) (a .1))
+
+-- The theorem over the table of cases.
+pub marked : Each CaseAnswered cases changes
+marked = each-answered cases changes ready worked
+
+-- ---- The empty table in modes 1 to 4: 160 words and no output suffice.
+empty-result : (mode default : ℕ) → 1 ≤ mode → mode ≤ 4 → resultOf [] mode default ≡ []
+unfolding resultOf result routes routesFrom ortcOf setsOf
+empty-result zero d low high = absurd (omega arith)
+empty-result (suc zero) d low high = set-computed smallest smallest-chooses 32 nil
+empty-result (suc (suc zero)) d low high = refl
+empty-result (suc (suc (suc zero))) d low high = refl
+empty-result (suc (suc (suc (suc zero)))) d low high = drop-computed smallest smallest-chooses 32 nil
+empty-result (suc (suc (suc (suc (suc n))))) d low high = absurd (omega arith)
+
+-- It is answered with no record and change 0.
+pub empty-answered : (mode default : ℕ) (o : List ℕ) (words : ℕ) (r : Rewritten) (o′ w′ : List ℕ) → 1 ≤ mode → mode ≤ 4 → 160 ≤ words
+    → Rewrites [] mode default o words r o′ w′ → (r ≡ Records 0 (pos 0)) × (o′ ≡ o)
+unfolding resultOf bytesOf
+empty-answered mode default o words r o′ w′ low high enough ok =
+    let f = rewrite-result [] mode default o words r o′ w′ ok none in (
+      f .0 ∙ ap (λ (rs : List Route). Records (length rs) (pos (length rs) -ℤ pos 0)) (empty-result mode default low high),
+      f .1 ∙ ap (λ (rs : List Route). bytesOf rs ++ drop (8 * length rs) o) (empty-result mode default low high),
+    )
+  where
+    none : None (RewriteCondition [] mode default (length o) words)
+    none =
+        answerable-exactly [] mode default (length o) words .1
+        (record {
+          known-mode = (low, omega arith);
+          small-default = λ e. absurd (omega arith);
+          accepted = accepted-exactly (takesSet mode) [] .1 (empty-table (takesSet mode));
+          enough-work = rw empty-nodes enough;
+          enough-output = rw (empty-result mode default low high) (omega arith);
+        })

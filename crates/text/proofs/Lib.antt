@@ -1,0 +1,5 @@
+-- The laws of the text of answers. The theorems to look for: Numbers.decimal-is, reads-back and no-leading-zero; Puts.put-then; Examples.
+pub mod Numbers
+pub mod Signs
+pub mod Puts
+pub mod Examples

@@ -1,0 +1,31 @@
+-- `text::put_addresses` meets its contract. Assumes nothing.
+use native.Mathlib.Omega.{arith}
+use borrow.Author.Needs.{needs}
+use Rattle.text.specs.Text.{addressesLine}
+use Rattle.text.proofs.Puts.{put-then}
+use Rattle.text.proofs.put_addresses.Statement.{statement}
+use Rattle.text.proofs.put_addresses.Tie as tie
+
+slice-aggregate-put-bytes : tie.Need-slice-aggregate-put-bytes
+slice-aggregate-put-bytes c = search needs
+
+put-bytes-requires : tie.Need-put-bytes-requires
+put-bytes-requires c κs = search needs
+
+put-part-requires : tie.Need-put-part-requires
+put-part-requires c κs = search needs
+
+same-length : tie.Need-same-length
+same-length c = search needs
+
+returns : tie.Need-returns
+unfolding addressesLine
+returns c =
+    let word = c .before .before .before .before .before .before .put-bytes .ensures in
+    let number = c .before .before .put-part .ensures in
+    (put-then word (number .0), omega (arith, word .ends, number .1))
+
+pub put-addresses-spec : {M : Type 1} → statement M
+put-addresses-spec =
+    tie.close
+    (tie.spec slice-aggregate-put-bytes put-bytes-requires put-part-requires same-length returns)

@@ -1,0 +1,64 @@
+-- `text::put_signed` meets its contract. Assumes nothing.
+use mathlib.Core.Path.{ap, _∙_}
+use native.Mathlib.Omega.{arith}
+use lib.IntN.{natAbs}
+use mir.Syntax.{w64}
+use mir.ValLaws.{toZ-ofZ}
+use borrow.Author.Needs.{needs}
+use mathlib.Core.Bool.{true, false}
+use Rattle.text.proofs.Signs.{tested, negative, natural}
+use Rattle.text.proofs.Puts.{put-as, put-then}
+use Rattle.text.proofs.put_signed.Statement.{statement}
+use Rattle.text.proofs.put_signed.Tie as tie
+
+put-byte-requires : tie.Need-put-byte-requires
+put-byte-requires c κs = search needs
+
+distance-requires : tie.Need-distance-requires
+distance-requires c κs = search needs
+
+put-decimal-requires : tie.Need-put-decimal-requires
+put-decimal-requires c κs = search needs
+
+distance-requires-2 : tie.Need-distance-requires-2
+distance-requires-2 c κs = search needs
+
+put-decimal-requires-2 : tie.Need-put-decimal-requires-2
+put-decimal-requires-2 c κs = search needs
+
+same-length : tie.Need-same-length
+same-length c = search needs
+
+returns : tie.Need-returns
+returns c =
+    let s = c .before .before .before .before .before .before .before .before .before .before .before in
+    let sign = c .before .before .before .before .before .before .before .put-byte .ensures in
+    let number = c .before .before .put-decimal .ensures in (
+      put-as (negative (s .args .n) _ (tested (s .args .n) (s .fits .n) true (c .before .before .before .before .before .before .before .before .before .if1 .taken)) (c .before .before .before .before .distance .ensures ∙ ap natAbs (toZ-ofZ w64 (s .args .n) (s .fits .n)))) (put-then sign (number .0)),
+      omega (arith, sign .ends, number .1),
+    )
+
+same-length-2 : tie.Need-same-length-2
+same-length-2 c = search needs
+
+returns-2 : tie.Need-returns-2
+returns-2 c =
+    let s = c .before .before .before .before .before .before .before in
+    let number = c .before .before .put-decimal2 .ensures in (
+      put-as (natural (s .args .n) _ (tested (s .args .n) (s .fits .n) false (c .before .before .before .before .before .if1 .left)) (c .before .before .before .before .distance2 .ensures ∙ ap natAbs (toZ-ofZ w64 (s .args .n) (s .fits .n)))) (number .0),
+      omega (arith, number .1),
+    )
+
+pub put-signed-spec : {M : Type 1} → statement M
+put-signed-spec =
+    tie.close
+    (tie.spec
+    put-byte-requires
+    distance-requires
+    put-decimal-requires
+    distance-requires-2
+    put-decimal-requires-2
+    same-length
+    returns
+    same-length-2
+    returns-2)

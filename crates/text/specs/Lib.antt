@@ -1,0 +1,2 @@
+-- What the text of answers is.
+pub mod Text

@@ -1,0 +1,2 @@
+-- The laws of modes 2 and 3.
+pub mod KeptSlots

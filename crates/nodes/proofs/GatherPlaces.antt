@@ -66,6 +66,15 @@ module _ (len depth : ℕ) where
 
 -- ---- Indices by address.
 
+-- Table order is by address first, and at one address by length.
+rising : (r s : Route) → Before r s → r .addr ≤ s .addr
+rising r s (inl lt) = omega arith
+rising r s (inr z) = omega arith
+
+lengthening : (r s : Route) → Before r s → r .addr ≡ s .addr → r .len < s .len
+lengthening r s (inl lt) e = absurd (omega arith)
+lengthening r s (inr z) e = z .1
+
 -- The blocks of 2 ^ s addresses are numbered by division.
 index-in : (s j y : ℕ) → (y / 2 ^ s ≡ j) ↔ In s (j * 2 ^ s) y
 index-in s j y = (
@@ -81,9 +90,13 @@ index-lt depth l x deep le lt =
 
 -- ---- The place of a route.
 
--- A route's place in the heap of the node at this depth and key.
+-- The index of a route among the positions of level l of the node at this depth and key.
+abbrev pub indexOf : ℕ → ℕ → ℕ → Route → ℕ
+indexOf depth key l r = (r .addr - key) / 2 ^ sizeAt (slotSize depth) l
+
+-- A route's place in the heap of the node.
 unfoldable pub heapOf : ℕ → ℕ → Route → ℕ
-heapOf depth key r = position (levelOf (r .len) depth) ((r .addr - key) / 2 ^ sizeAt (slotSize depth) (levelOf (r .len) depth))
+heapOf depth key r = position (levelOf (r .len) depth) (indexOf depth key (levelOf (r .len) depth) r)
 
 -- As the code finds it, by the route's length, level and address.
 pub heap-is : (depth key : ℕ) (r : Route) (len level addr b : ℕ) → len ≡ r .len → level ≡ levelOf len depth → addr ≡ r .addr
@@ -91,90 +104,93 @@ pub heap-is : (depth key : ℕ) (r : Route) (len level addr b : ℕ) → len ≡
 unfolding heapOf
 heap-is depth key r len level addr b p q e f = rw (f, q, p, e)
 
-module _ (depth key : ℕ) (deep : depth ≤ 30) (aligned : Aligned (wide - depth) key) where
-  module _ (r : Route) (i : Within wide (wide - depth) key r) where
-    below : r .addr - key < 2 ^ (wide - depth)
-    below = omega (arith, i .low, i .high, pow-pos (wide - r .len))
+-- Above the slots a route is filed at the position where it stands; a slot has the routes that lie in it.
+pub filed-position : (m key l j : ℕ) (r : Route) → l < 5 → filed m key l j r ≡ isAt wide (sizeAt m l) (placeAt m key l j) r
+filed-position m key l j r lt = rw (lt-ltb l 5 lt)
 
-    -- Its place by level and index.
-    pub heap-level : (l j : ℕ) → j < 2 ^ l → heapOf depth key r ≡ position l j
-        → (levelOf (r .len) depth ≡ l) × ((r .addr - key) / 2 ^ sizeAt (slotSize depth) l ≡ j)
+filed-slot : (m key l j : ℕ) (r : Route) → l ≡ 5 → filed m key l j r ≡ isIn wide (sizeAt m l) (placeAt m key l j) r
+filed-slot m key l j r e = rw (le-ltb l 5 (omega arith))
+
+module _ (depth key : ℕ) (deep : depth ≤ 30) (aligned : Aligned (wide - depth) key) where
+  -- The positions of a level start where their size lets them.
+  start-aligned : (l j : ℕ) → Aligned (sizeAt (slotSize depth) l) (placeAt (slotSize depth) key l j)
+  start-aligned l j =
+      let d : wide - depth ≡ slotSize depth + 5 = omega arith in
+      place-aligned (slotSize depth) key l j (rw d at aligned)
+
+  module _ (r : Route) (i : Within wide (wide - depth) key r) where
+    -- A route's index is one of its level's.
+    own-index : indexOf depth key (levelOf (r .len) depth) r < 2 ^ levelOf (r .len) depth
+    own-index =
+        index-lt depth (levelOf (r .len) depth) (r .addr - key) deep (level-le (r .len) depth)
+        (omega (arith, i .low, i .high, pow-pos (wide - r .len)))
+
+    -- Its place says its level and its index, and the other way.
+    pub heap-level : (l j : ℕ) → j < 2 ^ l → heapOf depth key r ≡ position l j → (levelOf (r .len) depth ≡ l) × (indexOf depth key l r ≡ j)
     unfolding heapOf
     heap-level l j lt e =
-        let z = same-position (levelOf (r .len) depth) _ l j (index-lt depth (levelOf (r .len) depth) (r .addr - key) deep (level-le (r .len) depth) below) lt e in
-        (z .0, ap (λ (k : ℕ). (r .addr - key) / 2 ^ sizeAt (slotSize depth) k) (sym (z .0)) ∙ z .1)
+        let z = same-position (levelOf (r .len) depth) (indexOf depth key (levelOf (r .len) depth) r) l j own-index lt e in
+        (z .0, ap (λ (k : ℕ). indexOf depth key k r) (sym (z .0)) ∙ z .1)
 
-    pub level-heap : (l j : ℕ) → levelOf (r .len) depth ≡ l → (r .addr - key) / 2 ^ sizeAt (slotSize depth) l ≡ j → heapOf depth key r ≡ position l j
+    pub level-heap : (l j : ℕ) → levelOf (r .len) depth ≡ l → indexOf depth key l r ≡ j → heapOf depth key r ≡ position l j
     unfolding heapOf
     level-heap l j e q = rw (e, q)
 
     -- It is one of the 63.
     pub heap-lt : heapOf depth key r < 63
     unfolding heapOf
-    heap-lt =
-        in-heap (levelOf (r .len) depth) _ (level-le (r .len) depth)
-        (index-lt depth (levelOf (r .len) depth) (r .addr - key) deep (level-le (r .len) depth) below)
+    heap-lt = in-heap (levelOf (r .len) depth) (indexOf depth key (levelOf (r .len) depth) r) (level-le (r .len) depth) own-index
 
-    -- At a level the address of a route lies in the position of its index.
-    place-in : (l j : ℕ) → ((r .addr - key) / 2 ^ sizeAt (slotSize depth) l ≡ j) ↔ In (sizeAt (slotSize depth) l) (placeAt (slotSize depth) key l j) (r .addr)
+    -- The address lies in the position of its index.
+    place-in : (l j : ℕ) → (indexOf depth key l r ≡ j) ↔ In (sizeAt (slotSize depth) l) (placeAt (slotSize depth) key l j) (r .addr)
     place-in l j = (
       λ e. omega (arith, i .low, index-in (sizeAt (slotSize depth) l) j (r .addr - key) .0 e),
       λ z. index-in (sizeAt (slotSize depth) l) j (r .addr - key) .1 (omega (arith, i .low)),
     )
 
-    -- Above the slots it stands at that position.
-    place-at : (l j : ℕ) → l < 5 → levelOf (r .len) depth ≡ l → (r .addr - key) / 2 ^ sizeAt (slotSize depth) l ≡ j
+    -- Above the slots the route stands at that position.
+    place-at : (l j : ℕ) → l < 5 → levelOf (r .len) depth ≡ l → indexOf depth key l r ≡ j
         → (r .len ≡ depth + l) × (r .addr ≡ placeAt (slotSize depth) key l j)
     place-at l j lt e q =
         let n : r .len ≡ depth + l = level-len (r .len) depth l (omega (arith, i .deep)) lt e in
         let s : wide - r .len ≡ sizeAt (slotSize depth) l = omega arith in
-        let d : wide - depth ≡ slotSize depth + 5 = omega arith in (
-          n,
-          same-start (sizeAt (slotSize depth) l) (placeAt (slotSize depth) key l j) (r .addr)
-              (place-aligned (slotSize depth) key l j (rw d at aligned)) (rw s at (i .aligned)) (place-in l j .0 q),
-        )
+        (n, same-start _ _ (r .addr) (start-aligned l j) (rw s at (i .aligned)) (place-in l j .0 q))
 
-    -- So it is filed there, and nowhere else.
+    -- So it is filed by its level and its index,
+    filed-level : (l j : ℕ) → (l ≡ 5) ⊎ (l < 5) → (filed (slotSize depth) key l j r ≡ true) ↔ ((levelOf (r .len) depth ≡ l) × (indexOf depth key l r ≡ j))
+    filed-level l j (inl five) = (
+      λ f.
+          let z = is-in wide (sizeAt (slotSize depth) l) (placeAt (slotSize depth) key l j) r .0 (sym (filed-slot (slotSize depth) key l j r five) ∙ f) in
+          (slot-level (r .len) depth (omega arith) ∙ sym five, place-in l j .1 (z .1)),
+      λ z.
+          let s : depth + 5 ≤ r .len = level-slot (r .len) depth (z .0 ∙ five) in
+          filed-slot (slotSize depth) key l j r five
+          ∙ is-in wide (sizeAt (slotSize depth) l) (placeAt (slotSize depth) key l j) r .1 (omega arith, place-in l j .0 (z .1)),
+    )
+    filed-level l j (inr lt) = (
+      λ f.
+          let z = is-at wide (sizeAt (slotSize depth) l) (placeAt (slotSize depth) key l j) r .0 (sym (filed-position (slotSize depth) key l j r lt) ∙ f) in
+          (len-level (r .len) depth l lt (omega arith), place-in l j .1 (omega (arith, z, pow-pos (sizeAt (slotSize depth) l)))),
+      λ z.
+          let a = place-at l j lt (z .0) (z .1) in
+          filed-position (slotSize depth) key l j r lt
+          ∙ is-at wide (sizeAt (slotSize depth) l) (placeAt (slotSize depth) key l j) r .1 (omega arith, a .1),
+    )
+
+    -- at its place and nowhere else.
     pub filed-heap : (l j : ℕ) → l ≤ 5 → j < 2 ^ l → filed (slotSize depth) key l j r ≡ eqb (heapOf depth key r) (position l j)
     filed-heap l j le lt =
         if-eq (λ (t : Bool). filed (slotSize depth) key l j r ≡ t) (heapOf depth key r) (position l j)
-        (λ e. let z = heap-level l j lt e in there (z .0) (z .1)) (λ ne. nowhere (filed (slotSize depth) key l j r) refl ne)
+        (λ e. filed-level l j (eq-or-lt-of-le le) .1 (heap-level l j lt e)) (λ ne. nowhere (filed (slotSize depth) key l j r) refl ne)
       where
-        there : levelOf (r .len) depth ≡ l → (r .addr - key) / 2 ^ sizeAt (slotSize depth) l ≡ j → filed (slotSize depth) key l j r ≡ true
-        there e q =
-            if-lt (λ (t : Bool). cond t (isAt wide (sizeAt (slotSize depth) l) (placeAt (slotSize depth) key l j) r) (isIn wide (sizeAt (slotSize depth) l) (placeAt (slotSize depth) key l j) r) ≡ true) l 5
-            (λ a. let z = place-at l j a e q in is-at wide (sizeAt (slotSize depth) l) (placeAt (slotSize depth) key l j) r .1 (omega arith, z .1))
-            (λ a. let n : l ≡ 5 = omega arith in
-            let s : depth + 5 ≤ r .len = level-slot (r .len) depth (e ∙ n) in
-            is-in wide (sizeAt (slotSize depth) l) (placeAt (slotSize depth) key l j) r .1 (omega arith, place-in l j .0 q))
-
-        back : filed (slotSize depth) key l j r ≡ true → heapOf depth key r ≡ position l j
-        back =
-            if-lt (λ (t : Bool). cond t (isAt wide (sizeAt (slotSize depth) l) (placeAt (slotSize depth) key l j) r) (isIn wide (sizeAt (slotSize depth) l) (placeAt (slotSize depth) key l j) r) ≡ true → heapOf depth key r ≡ position l j) l 5
-            (λ a f. let z = is-at wide (sizeAt (slotSize depth) l) (placeAt (slotSize depth) key l j) r .0 f in
-            level-heap l j (len-level (r .len) depth l a (omega arith)) (place-in l j .1 (omega (arith, z, pow-pos (sizeAt (slotSize depth) l)))))
-            (λ a f. let z = is-in wide (sizeAt (slotSize depth) l) (placeAt (slotSize depth) key l j) r .0 f in
-            let n : l ≡ 5 = omega arith in
-            level-heap l j (slot-level (r .len) depth (omega arith) ∙ sym n) (place-in l j .1 (z .1)))
-
         nowhere : (b : Bool) → filed (slotSize depth) key l j r ≡ b → (heapOf depth key r ≡ position l j → ⊥) → b ≡ false
-        nowhere true f ne = absurd (ne (back f))
+        nowhere true f ne = let z = filed-level l j (eq-or-lt-of-le le) .0 f in absurd (ne (level-heap l j (z .0) (z .1)))
         nowhere false f ne = refl
 
-  -- A route that stands between two of one place, in table order, is of that place.
   module _ (r s u : Route) (ri : Within wide (wide - depth) key r) (si : Within wide (wide - depth) key s) (ui : Within wide (wide - depth) key u)
       (p : Before r s) (q : Before s u) where
-    -- Table order is by address first.
-    rising : (v x : Route) → Before v x → v .addr ≤ x .addr
-    rising v x (inl lt) = omega arith
-    rising v x (inr z) = omega arith
-
-    longer : (v x : Route) → Before v x → v .addr ≡ x .addr → v .len < x .len
-    longer v x (inl lt) f = absurd (omega arith)
-    longer v x (inr z) f = z .1
-
-    between : (l j : ℕ) → (l ≡ 5) ⊎ (l < 5) → levelOf (r .len) depth ≡ l → (r .addr - key) / 2 ^ sizeAt (slotSize depth) l ≡ j
-        → levelOf (u .len) depth ≡ l → (u .addr - key) / 2 ^ sizeAt (slotSize depth) l ≡ j → heapOf depth key s ≡ position l j
+    between : (l j : ℕ) → (l ≡ 5) ⊎ (l < 5) → levelOf (r .len) depth ≡ l → indexOf depth key l r ≡ j
+        → levelOf (u .len) depth ≡ l → indexOf depth key l u ≡ j → heapOf depth key s ≡ position l j
     between l j (inl five) e f g h =
         level-heap s si l j (slot-level (s .len) depth (long (decLt (s .len) (depth + 5))) ∙ sym five) (place-in s si l j .1 middle)
       where
@@ -188,22 +204,21 @@ module _ (depth key : ℕ) (deep : depth ≤ 30) (aligned : Aligned (wide - dept
         long : Dec (s .len < depth + 5) → depth + 5 ≤ s .len
         long (no ge) = omega arith
         long (yes lt) =
-            let d : wide - depth ≡ slotSize depth + 5 = omega arith in
             let le : sizeAt (slotSize depth) l ≤ wide - s .len = omega arith in
             let z : s .addr ≡ placeAt (slotSize depth) key l j =
-            same-start (sizeAt (slotSize depth) l) (placeAt (slotSize depth) key l j) (s .addr) (place-aligned (slotSize depth) key l j (rw d at aligned))
-            (aligned-down (sizeAt (slotSize depth) l) (wide - s .len) (s .addr) le (si .aligned)) middle in
+            same-start _ _ (s .addr) (start-aligned l j) (aligned-down (sizeAt (slotSize depth) l) (wide - s .len) (s .addr) le (si .aligned)) middle in
             let y : r .addr ≡ s .addr = omega (arith, start, rising r s p) in
-            absurd (omega (arith, longer r s p y, level-slot (r .len) depth (e ∙ five)))
+            absurd (omega (arith, lengthening r s p y, level-slot (r .len) depth (e ∙ five)))
     between l j (inr lt) e f g h =
         let a = place-at r ri l j lt e f in
         let b = place-at u ui l j lt g h in
-        let y : r .addr ≡ s .addr = omega (arith, a, b, rising r s p, rising s u q) in
-        let z : s .addr ≡ u .addr = omega (arith, a, b, rising r s p, rising s u q) in
-        absurd (omega (arith, a, b, longer r s p y, longer s u q z))
+        let y : r .addr ≡ s .addr = omega (arith, rising r s p, rising s u q) in
+        let z : s .addr ≡ u .addr = omega (arith, rising r s p, rising s u q) in
+        absurd (omega (arith, lengthening r s p y, lengthening s u q z))
 
+    -- A route that stands between two of one place, in table order, is of that place.
     pub heap-between : heapOf depth key u ≡ heapOf depth key r → heapOf depth key s ≡ heapOf depth key r
     unfolding heapOf
     heap-between e =
-        let z = heap-level u ui (levelOf (r .len) depth) _ (index-lt depth (levelOf (r .len) depth) (r .addr - key) deep (level-le (r .len) depth) (below r ri)) e in
-        between (levelOf (r .len) depth) _ (eq-or-lt-of-le (level-le (r .len) depth)) refl refl (z .0) (z .1)
+        let z = heap-level u ui (levelOf (r .len) depth) (indexOf depth key (levelOf (r .len) depth) r) (own-index r ri) e in
+        between (levelOf (r .len) depth) (indexOf depth key (levelOf (r .len) depth) r) (eq-or-lt-of-le (level-le (r .len) depth)) refl refl (z .0) (z .1)

@@ -29,7 +29,8 @@ unfolding routesFrom
 member-span t lo zero i le lt = absurd (omega arith)
 member-span t lo (suc k) i le lt = go (eq-or-lt-of-le le) (member-span t (suc lo) k i)
   where
-    go : (lo ≡ i) ⊎ (lo < i) → (suc lo ≤ i → i < suc lo + k → Member (wideAt t i) (span t (suc lo) k)) → Member (wideAt t i) (wideAt t lo ∷ span t (suc lo) k)
+    go : (lo ≡ i) ⊎ (lo < i) → (suc lo ≤ i → i < suc lo + k → Member (wideAt t i) (span t (suc lo) k))
+        → Member (wideAt t i) (wideAt t lo ∷ span t (suc lo) k)
     go (inl e) ih = subst (λ (n : ℕ). Member (wideAt t n) (wideAt t lo ∷ span t (suc lo) k)) e head
     go (inr h) ih = later (ih h (omega arith))
 
@@ -109,11 +110,11 @@ module _ (t : List ℕ) (p : Route → Bool) where
 
   -- A test that the records i..j pass, and no others.
   pub part-run : (lo i j hi : ℕ) → lo ≤ i → i ≤ j → j ≤ hi → ((k : ℕ) → i ≤ k → k < j → p (wideAt t k) ≡ true)
-      → ((k : ℕ) → lo ≤ k → k < hi → (k < i) ⊎ (j ≤ k) → p (wideAt t k) ≡ false) → part p (run t lo hi) ≡ run t i j
+      → ((k : ℕ) → lo ≤ k → k < hi → ((i ≤ k) × (k < j) → ⊥) → p (wideAt t k) ≡ false) → part p (run t lo hi) ≡ run t i j
   part-run lo i j hi a b c pass fail =
       ap (part p) (run-split t lo i hi a (omega arith) ∙ ap (λ (u : List Route). run t lo i ++ u) (run-split t i j hi b c))
       ∙ part-append p (run t lo i) (run t i j ++ run t j hi)
-      ∙ ap₂ _++_ (part-run-none lo i (λ k l h. fail k l (omega arith) (inl h))) (part-append p (run t i j) (run t j hi))
+      ∙ ap₂ _++_ (part-run-none lo i (λ k l h. fail k l (omega arith) (λ z. omega arith))) (part-append p (run t i j) (run t j hi))
       ∙ ap₂ _++_ (part-whole p (run t i j) (λ r m. all-member (all-run {P = λ s. p s ≡ true} t i j pass) m))
-      (part-run-none j hi (λ k l h. fail k (omega arith) h (inr l)))
+      (part-run-none j hi (λ k l h. fail k (omega arith) h (λ z. omega arith)))
       ∙ append-nil (run t i j)

@@ -137,33 +137,40 @@ module _ {t : List ℕ} {lo hi depth key : ℕ} (node : Node t lo hi depth key) 
           record {
             firsts = length-set first b low ∙ g .firsts;
             ends = length-set end b (i + 1) ∙ g .ends;
-            each = λ c h. if-eq (λ _. Placed t lo (i + 1) depth key c (getD (set first b low) c 0) (getD (set end b (i + 1)) c 0)) c b (λ e. rw e own) (λ ne. other c h ne);
-            marks = λ c h. marked c h ∙ if-eq (λ (s : Bool). (s || bit present c) ≡ ltb (getD (set first b low) c 0) (getD (set end b (i + 1)) c 0)) c b (λ e. rw e mark) (λ ne. rest c h ne);
+            each = λ c h. if-eq (λ (s : Bool). Placed t lo (i + 1) depth key c (starts c) (stops c)) c b (λ e. rw e own) (other c h);
+            marks = λ c h. marked c h ∙ if-eq (λ (s : Bool). (s || bit present c) ≡ ltb (starts c) (stops c)) c b (λ e. rw e mark) (rest c h);
             no-more = same ∙ g .no-more;
           }
         where
           low : ℕ
           low = firstOf (getD first b 0) (getD end b 0) i
 
+          -- Where the records of a place start and stop now.
+          starts : ℕ → ℕ
+          starts c = getD (set first b low) c 0
+
+          stops : ℕ → ℕ
+          stops c = getD (set end b (i + 1)) c 0
+
           small : b < 63
           small = rw is (node-heap i le lt)
 
-          first-here : getD (set first b low) b 0 ≡ low
+          first-here : starts b ≡ low
           first-here = getD-set-same first b low 0 (rw (g .firsts) small)
 
-          end-here : getD (set end b (i + 1)) b 0 ≡ i + 1
+          end-here : stops b ≡ i + 1
           end-here = getD-set-same end b (i + 1) 0 (rw (g .ends) small)
 
-          own : Placed t lo (i + 1) depth key b (getD (set first b low) b 0) (getD (set end b (i + 1)) b 0)
+          own : Placed t lo (i + 1) depth key b (starts b) (stops b)
           own = rw (first-here, end-here) (placed-own (g .each b small))
 
-          mark : true ≡ ltb (getD (set first b low) b 0) (getD (set end b (i + 1)) b 0)
+          mark : true ≡ ltb (starts b) (stops b)
           mark = rw (first-here, end-here) (sym (lt-ltb low (i + 1) (first-small (getD first b 0) (getD end b 0) i (g .each b small .bound))))
 
-          other : (c : ℕ) → c < 63 → (c ≡ b → ⊥) → Placed t lo (i + 1) depth key c (getD (set first b low) c 0) (getD (set end b (i + 1)) c 0)
+          other : (c : ℕ) → c < 63 → (c ≡ b → ⊥) → Placed t lo (i + 1) depth key c (starts c) (stops c)
           other c h ne = rw (getD-set-other first b c low 0 ne, getD-set-other end b c (i + 1) 0 ne) (placed-other ne (g .each c h))
 
-          rest : (c : ℕ) → c < 31 → (c ≡ b → ⊥) → bit present c ≡ ltb (getD (set first b low) c 0) (getD (set end b (i + 1)) c 0)
+          rest : (c : ℕ) → c < 31 → (c ≡ b → ⊥) → bit present c ≡ ltb (starts c) (stops c)
           rest c h ne = rw (getD-set-other first b c low 0 ne, getD-set-other end b c (i + 1) 0 ne) (g .marks c h)
 
   -- After the last record all is found.
@@ -176,27 +183,20 @@ module _ {t : List ℕ} {lo hi depth key : ℕ} (node : Node t lo hi depth key) 
     found : (l j : ℕ) → l ≤ 5 → j < 2 ^ l → runAt t first end (position l j) ≡ part (filed (slotSize depth) key l j) (run t lo hi)
     found l j le lt = go (getD first (position l j) 0) (getD end (position l j) 0) (g .each (position l j) (in-heap l j le lt)) (decLt _ _)
       where
-        away : (f e : ℕ) → Placed t lo hi depth key (position l j) f e → (k : ℕ) → lo ≤ k → k < hi → (k < f) ⊎ (e ≤ k)
+        away : (f e : ℕ) → Placed t lo hi depth key (position l j) f e → (k : ℕ) → lo ≤ k → k < hi → ((f ≤ k) × (k < e) → ⊥)
             → filed (slotSize depth) key l j (wideAt t k) ≡ false
-        away f e p k a h (inl q) = filed-here l j le lt k a h ∙ ne-eqb _ _ (λ z. omega (arith, p .holds k a h .0 z))
-        away f e p k a h (inr q) = filed-here l j le lt k a h ∙ ne-eqb _ _ (λ z. omega (arith, p .holds k a h .0 z))
+        away f e p k a h out = filed-here l j le lt k a h ∙ ne-eqb _ _ (λ z. out (p .holds k a h .0 z))
 
         go : (f e : ℕ) → Placed t lo hi depth key (position l j) f e → Dec (f < e) → run t f e ≡ part (filed (slotSize depth) key l j) (run t lo hi)
-        go f e p (yes some) =
-            sym (part-run t (filed (slotSize depth) key l j) lo f e hi (p .from some) (p .order) (p .bound)
-            (λ k a h. filed-here l j le lt k (omega (arith, p .from some)) (omega (arith, p .bound))
-            ∙ eq-eqb _ _ (p .holds k (omega (arith, p .from some)) (omega (arith, p .bound)) .1 (a, h)))
+        go f e p (yes has) =
+            let from = p .from has in
+            let bound = p .bound in
+            sym (part-run t (filed (slotSize depth) key l j) lo f e hi from (p .order) bound
+            (λ k a h. filed-here l j le lt k (omega arith) (omega arith) ∙ eq-eqb _ _ (p .holds k (omega arith) (omega arith) .1 (a, h)))
             (away f e p))
         go f e p (no none) =
             run-none t f e (omega arith)
-            ∙ sym (part-run-none t (filed (slotSize depth) key l j) lo hi (λ k a h. away f e p k a h (apart f e k (omega arith))))
-          where
-            apart : (f e k : ℕ) → e ≤ f → (k < f) ⊎ (e ≤ k)
-            apart f e k q = pick (decLt k f)
-              where
-                pick : Dec (k < f) → (k < f) ⊎ (e ≤ k)
-                pick (yes a) = inl a
-                pick (no a) = inr (omega arith)
+            ∙ sym (part-run-none t (filed (slotSize depth) key l j) lo hi (λ k a h. away f e p k a h (λ z. omega arith)))
 
     pub gathering-done : Gathered t lo hi depth key first end present
     gathering-done =

@@ -10,3 +10,5 @@ pub mod RoomBlocks
 pub mod RoomSizes
 pub mod RoomWalk
 pub mod RoomNodes
+pub mod GatherLaws
+pub mod MemberLaws

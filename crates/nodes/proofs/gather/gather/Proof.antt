@@ -4,6 +4,7 @@ use mathlib.Core.Path.{_≡_}
 use native.Mathlib.Omega.{arith}
 use lib.Pow.{pow-pos}
 use borrow.Author.Needs.{needs}
+use Rattle.theory.specs.Routes.{Route}
 use Rattle.theory.proofs.Preserve.{Within}
 use Rattle.nodes.specs.Node.{wide, wideAt}
 use Rattle.nodes.proofs.GatherPlaces.{heapOf, heap-is}
@@ -52,17 +53,25 @@ heap-index-requires c κs =
     let high = w .high in
     ((n .deep, c .before .level-of .ensures .1), (omega (arith, e, low), omega (arith, e, high, p)))
 
+-- The record that a turn takes in.
+abbrev taken : tie.After-heap-index Inv-loop μ-loop → Route
+taken c = wideAt (c .before .before .before .before .before .before .before .args .table .now) (c .before .before .before .before .before .loop .i)
+
 -- The place that the code finds is the record's.
 is-heap : (c : tie.After-heap-index Inv-loop μ-loop)
-    → c .heap-index .result ≡ heapOf (c .before .before .before .before .before .before .before .args .depth) (c .before .before .before .before .before .before .before .args .key) (wideAt (c .before .before .before .before .before .before .before .args .table .now) (c .before .before .before .before .before .loop .i))
+    → c .heap-index .result ≡ heapOf (c .before .before .before .before .before .before .before .args .depth) (c .before .before .before .before .before .before .before .args .key) (taken c)
 is-heap c =
     let a = c .before .before .before .before .before .before .before .args in
-    heap-is (a .depth) (a .key) (wideAt (a .table .now) (c .before .before .before .before .before .loop .i)) (c .before .before .before .size-at .result) (c .before .before .level-of .result) (c .before .wide-at .result) (c .heap-index .result)
-    (c .before .before .before .size-at .ensures .0) (c .before .before .level-of .ensures .0) (c .before .wide-at .ensures .0) (c .heap-index .ensures .0)
+    let size = c .before .before .before .size-at in
+    let level = c .before .before .level-of in
+    let addr = c .before .wide-at in
+    heap-is (a .depth) (a .key) (taken c) (size .result) (level .result) (addr .result) (c .heap-index .result)
+    (size .ensures .0) (level .ensures .0) (addr .ensures .0) (c .heap-index .ensures .0)
 
 is-small : (c : tie.After-heap-index Inv-loop μ-loop) → c .heap-index .result < 63
 is-small c =
-    rw (is-heap c) (node-heap (c .before .before .before .before .before .before .before .pre .0) (c .before .before .before .before .before .loop .i) (c .before .before .before .before .before .loop .inv .0) (c .before .before .before .before .loop-test .taken))
+    let l = c .before .before .before .before .before .loop in
+    rw (is-heap c) (node-heap (c .before .before .before .before .before .before .before .pre .0) (l .i) (l .inv .0) (c .before .before .before .before .loop-test .taken))
 
 mul-first-of : tie.Need-mul-first-of Inv-loop μ-loop
 mul-first-of c = omega (arith, is-small c)
@@ -107,11 +116,12 @@ loop-again : tie.Need-loop-again Inv-loop μ-loop
 loop-again c =
     let l = c .before .before .before .before .before .before .before .before .before .loop in
     let h = c .before .before .before .before .before .before .before .before .loop-test .taken in
+    let place = c .before .before .before .before in
     let low = l .inv .0 in (
       omega arith,
       omega arith,
       rw (c .before .first-of .ensures)
-          (gathering-next (c .before .before .before .before .before .before .before .before .before .before .before .pre .0) (l .i) (l .inv .0) h (c .before .before .before .before .heap-index .result) (is-heap (c .before .before .before .before)) (l .inv .2)
+          (gathering-next (c .before .before .before .before .before .before .before .before .before .before .before .pre .0) (l .i) low h (place .heap-index .result) (is-heap place) (l .inv .2)
           (c .marked .result) (c .marked .ensures .0) (c .marked .ensures .1)),
     )
 

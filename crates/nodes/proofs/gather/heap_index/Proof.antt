@@ -1,15 +1,26 @@
 -- `nodes::gather::heap_index` meets its contract. Assumes nothing.
-use Prim.Native.Nat.{ℕ, _-_, _/_, _^_, _≤_, _<_}
+use Prim.Native.Nat.{ℕ, _+_, _-_, _*_, _/_, _%_, _^_, _≤_, _<_}
 use mathlib.Core.Path.{_≡_, ap}
 use native.Mathlib.Omega.{arith}
-use lib.Pow.{pow-pos, pow-mono}
+use lib.Pow.{pow-pos}
 use borrow.Author.Needs.{needs}
 use Rattle.table.proofs.Laws.{one-shl}
+use Rattle.words.specs.Positions.{position}
 use Rattle.positions.specs.Runs.{sizeAt}
-use Rattle.nodes.specs.Node.{slotSize}
-use Rattle.nodes.proofs.GatherPlaces.{index-lt}
+use Rattle.nodes.specs.Node.{wide, slotSize}
+use Rattle.nodes.proofs.GatherPlaces.{in-heap, index-lt}
 use Rattle.nodes.proofs.gather.heap_index.Statement.{statement}
 use Rattle.nodes.proofs.gather.heap_index.Tie as tie
+
+-- The number that the code computes for the address key + x is that of its place.
+number : (depth l x : ℕ) → depth ≤ 30 → l ≤ 5 → x < 2 ^ (wide - depth)
+    → (1 * 2 ^ l % 2 ^ 64 - 1 + x / 2 ^ (35 - depth - l) ≡ position l (x / 2 ^ sizeAt (slotSize depth) l))
+    × (x / 2 ^ sizeAt (slotSize depth) l < 2 ^ l)
+number depth l x deep le lt =
+    let size : 35 - depth - l ≡ sizeAt (slotSize depth) l = omega arith in
+    let e = ap (λ (k : ℕ). x / 2 ^ k) size in
+    let one = one-shl l (omega arith) in
+    (omega arith, index-lt depth l x deep le lt)
 
 sub-below : tie.Need-sub-below
 sub-below c = search needs
@@ -29,26 +40,16 @@ sub-result-2 c = search needs
 shr-result : tie.Need-shr-result
 shr-result c = search needs
 
--- The size of the level's positions as the code has it; the index is below 2 ^ 5.
-size-is : (depth l : ℕ) → depth ≤ 30 → l ≤ 5 → 35 - depth - l ≡ sizeAt (slotSize depth) l
-size-is depth l d h = omega arith
-
 add-result : tie.Need-add-result
 add-result c =
     let a = c .args in
-    let q : (a .addr - a .key) / 2 ^ sizeAt (slotSize (a .depth)) (a .level) < 2 ^ a .level = index-lt (a .depth) (a .level) (a .addr - a .key) (omega arith) (omega arith) (omega arith) in
-    let top : 2 ^ a .level ≤ 2 ^ 5 = pow-mono {i = a .level} {j = 5} (omega arith) in
-    let s = ap (λ (k : ℕ). (a .addr - a .key) / 2 ^ k) (size-is (a .depth) (a .level) (omega arith) (omega arith)) in
-    let o = one-shl (a .level) (omega arith) in
-    omega arith
+    let n = number (a .depth) (a .level) (a .addr - a .key) (omega arith) (omega arith) (omega arith) in
+    omega (arith, in-heap (a .level) _ (c .pre .0 .1) (n .1))
 
 returns : tie.Need-returns
 returns c =
     let a = c .args in
-    let q : (a .addr - a .key) / 2 ^ sizeAt (slotSize (a .depth)) (a .level) < 2 ^ a .level = index-lt (a .depth) (a .level) (a .addr - a .key) (omega arith) (omega arith) (omega arith) in
-    let s = ap (λ (k : ℕ). (a .addr - a .key) / 2 ^ k) (size-is (a .depth) (a .level) (omega arith) (omega arith)) in
-    let o = one-shl (a .level) (omega arith) in
-    (omega arith, q)
+    number (a .depth) (a .level) (a .addr - a .key) (omega arith) (omega arith) (omega arith)
 
 pub heap-index-spec : {M : Type 1} → statement M
 heap-index-spec =

@@ -17,7 +17,8 @@ use Rattle.theory.proofs.Parts.{all-part, table-part, part-agree}
 use Rattle.theory.proofs.Preserve.{Within}
 use Rattle.theory.proofs.Routed.{routed}
 use Rattle.table.specs.Rules.{gives, judge}
-use Rattle.table.specs.Wire.{records, routeAt, routes, Bytes, topHop, Lawful, tableRules}
+use Rattle.table.specs.Wire.{records, routeAt, routes, Bytes, topHop, tableRules}
+use Rattle.table.specs.Facts.{Lawful}
 use Rattle.table.proofs.Tables.{accepted-table}
 use Rattle.words.specs.Bits.{bit}
 use Rattle.words.specs.Positions.{position}

@@ -1,49 +1,27 @@
 // The two walks: collect_sets stores the candidate sets of each node, and rewrite assigns hops to them and writes the entries.
 
-use super::room::NodeReader;
+use super::assign::assign_nodes;
+use super::assign::emit;
+use super::assign::fold_sets;
 use super::room::push_sets;
-use hops::assign;
-use hops::combine;
 use hops::leaf_set;
 use hops::leaf_value;
 use nodes::emit::emit_slot;
 use nodes::emit::past;
-use nodes::emit::put;
 use nodes::gather::covering_values;
 use nodes::gather::gather;
-use nodes::gather::over_at;
 use nodes::gather::slot_key;
-use words::bits::with_bit;
 ghost use mathlib.Core.Path.{_≡_};
-ghost use mathlib.Core.Bool.{true, not, _&&_, _||_};
 ghost use mathlib.Core.List.{List};
-ghost use Prim.Native.Nat.{ℕ, _+_, _-_, _*_, _%_, _^_, _≤_, _<_};
-ghost use lib.Dec.{eqb, ltb};
-ghost use lib.ListN.{length, getD};
-ghost use Rattle.theory.specs.Routes.{Answer};
+ghost use Prim.Native.Nat.{ℕ, _+_, _-_, _*_, _^_, _≤_, _<_};
+ghost use lib.ListN.{length};
 ghost use Rattle.theory.specs.Results.{sets, ortc};
-ghost use Rattle.words.specs.Bits.{bit};
-ghost use Rattle.words.specs.Positions.{position};
-ghost use Rattle.positions.specs.Runs.{hopOf, placeAt};
+ghost use Rattle.positions.specs.Runs.{hopOf};
 ghost use Rattle.hops.specs.Sets.{ShowsSet};
 ghost use Rattle.nodes.specs.Node.{wide, run, Node};
-ghost use Rattle.nodes.specs.Gathered.{overAt};
 ghost use Rattle.nodes.specs.Output.{Wrote};
 ghost use Rattle.nodes.specs.Room.{Block, Begins, nodesDeep, nodesBelow, Laid, Stored};
-ghost use Rattle.ortc.specs.Packed.{packed};
-ghost use Rattle.ortc.specs.Answers.{answerIn, ShowsNode, setWords, assignedAt, entryOver, Stepped};
-
-// Combines the sets of a node's slots upward into those of its positions.
-fn fold_sets(slots: &mut [u64; 63])
-    ensures { λ _. ⌜ length (now (slots .exit)) ≡ length (now (slots .entry)) ⌝ }
-    ensures { λ _. ⌜ ((f : ℕ → Answer) (m a : ℕ) → length (now (slots .entry)) ≡ 63 → ((c : ℕ) → c < 32 → ShowsSet (getD (now (slots .entry)) (31 + c) 0) (sets f m (placeAt m a 5 c))) → ShowsNode f m a (now (slots .exit))) ⌝ }
-{
-    let mut b: usize = 31;
-    while 0 < b {
-        b -= 1;
-        slots[b] = combine(slots[2 * b + 1], slots[2 * b + 2]);
-    }
-}
+ghost use Rattle.ortc.specs.Answers.{answerIn, setWords};
 
 // What the first walk says of a node: its set, and where its block begins.
 pub struct Collected {
@@ -108,81 +86,6 @@ pub fn collect_sets(
     }
 }
 
-// What a position is assigned, and the reader past it.
-pub struct Step {
-    pub hop: u8,
-    pub reader: NodeReader,
-}
-
-// The next position's hop: assigned by its set, or, where none is stored, the hop above it.
-fn step_at(work: &[u32], reader: NodeReader, over: u8) -> Step
-    requires { ⌜ (eqb (reader .mask % 2) 1 ≡ true → reader .top + 2 ≤ length (now work)) ⌝ }
-    ensures { λ r. ⌜ Stepped (now (work .entry)) (reader .mask) (reader .top) over (r .hop) (r .reader .mask) (r .reader .top) ⌝ }
-{
-    if reader.stored() {
-        let p = reader.pop(work);
-        let next = p.reader;
-        return Step {
-            hop: assign(p.set, over),
-            reader: next,
-        };
-    }
-    Step {
-        hop: over,
-        reader: reader.skip(),
-    }
-}
-
-// The entries, with position b's if it is assigned a hop other than the one above.
-fn with_entry(entries: u32, b: u32, hop: u8, over: u8) -> u32
-    requires { ⌜ b < 31 ⌝ }
-    ensures { λ r. ⌜ ((i : ℕ) → i < 31 → bit r i ≡ ((eqb i b && (not (eqb hop over) && ltb hop 64)) || bit entries i)) ⌝ }
-{
-    if hop == over {
-        return entries;
-    }
-    if hop < 64 {
-        with_bit(entries, b)
-    } else {
-        entries
-    }
-}
-
-// What a node's positions are assigned, 64 for nothing; which of them have an entry; and where its own words end.
-pub struct Assigned {
-    pub hops: [u8; 31],
-    pub entries: u32,
-    pub top: usize,
-}
-
-// Assigns hops to a node's positions from the first to the last, reading its own words from `top` on; `above` is assigned above the node.
-fn assign_nodes(work: &[u32], top: usize, above: u8) -> Assigned
-    requires { ⌜ ((xs : List ℕ) × Begins (packed xs) top (now work)) ⌝ }
-    requires { ⌜ above ≤ 64 ⌝ }
-    ensures { λ r. ⌜ ((xs : List ℕ) → Begins (packed xs) top (now (work .entry)) → r .top ≡ top + length (packed xs)) ⌝ }
-    ensures { λ r. ⌜ ((f : ℕ → Answer) (m a : ℕ) (xs : List ℕ) → ShowsNode f m a xs → Begins (packed xs) top (now (work .entry)) → (l j : ℕ) → l ≤ 4 → j < 2 ^ l → (getD (r .hops) (position l j) 0 ≤ 64) × (hopOf (getD (r .hops) (position l j) 0) ≡ assignedAt f m a (hopOf above) l j)) ⌝ }
-    ensures { λ r. ⌜ ((b : ℕ) → b < 31 → bit (r .entries) b ≡ (not (eqb (getD (r .hops) b 0) (overAt (r .hops) b above)) && ltb (getD (r .hops) b 0) 64)) ⌝ }
-{
-    let mut hops = [64u8; 31];
-    let mut entries: u32 = 0;
-    let mut reader = NodeReader::new(work, top);
-    let mut b: usize = 0;
-    while b < 31 {
-        let over = over_at(&hops, b, above);
-        let s = step_at(work, reader, over);
-        hops[b] = s.hop;
-        entries = with_entry(entries, b as u32, s.hop, over);
-        let next = s.reader;
-        reader = next;
-        b += 1;
-    }
-    Assigned {
-        hops,
-        entries,
-        top: reader.top,
-    }
-}
-
 // What the second walk has done: how many records it counted, and where its reading of the room ends.
 pub struct Walked {
     pub count: usize,
@@ -243,22 +146,6 @@ pub fn rewrite(
         c += 1;
     }
     Walked { count: n, top: at }
-}
-
-// Writes one record, if it is by a hop and not by the one above, and says how many it wrote.
-fn emit(out: &mut [u8], addr: u64, len: usize, hop: u8, above: u8) -> usize
-    requires { ⌜ (addr < 2 ^ wide) × (len < 256) ⌝ }
-    ensures { λ r. ⌜ r ≤ 1 ⌝ }
-    ensures { λ r. ⌜ Wrote (entryOver addr len hop above) 0 r (now (out .entry)) (now (out .exit)) ⌝ }
-{
-    if hop == above {
-        return 0;
-    }
-    if hop < 64 {
-        put(out, addr, len, hop);
-        return 1;
-    }
-    0
 }
 
 // A slot of the second walk: its node, where it has records, or else a region where all addresses have one answer.

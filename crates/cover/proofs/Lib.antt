@@ -1,0 +1,2 @@
+-- The laws of cover.
+pub mod CoverLaws

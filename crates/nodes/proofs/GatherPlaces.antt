@@ -142,14 +142,14 @@ module _ (depth key : ℕ) (deep : depth ≤ 30) (aligned : Aligned (wide - dept
     heap-lt = in-heap (levelOf (r .len) depth) (indexOf depth key (levelOf (r .len) depth) r) (level-le (r .len) depth) own-index
 
     -- The address lies in the position of its index.
-    place-in : (l j : ℕ) → (indexOf depth key l r ≡ j) ↔ In (sizeAt (slotSize depth) l) (placeAt (slotSize depth) key l j) (r .addr)
+    pub place-in : (l j : ℕ) → (indexOf depth key l r ≡ j) ↔ In (sizeAt (slotSize depth) l) (placeAt (slotSize depth) key l j) (r .addr)
     place-in l j = (
       λ e. omega (arith, i .low, index-in (sizeAt (slotSize depth) l) j (r .addr - key) .0 e),
       λ z. index-in (sizeAt (slotSize depth) l) j (r .addr - key) .1 (omega (arith, i .low)),
     )
 
     -- Above the slots the route stands at that position.
-    place-at : (l j : ℕ) → l < 5 → levelOf (r .len) depth ≡ l → indexOf depth key l r ≡ j
+    pub place-at : (l j : ℕ) → l < 5 → levelOf (r .len) depth ≡ l → indexOf depth key l r ≡ j
         → (r .len ≡ depth + l) × (r .addr ≡ placeAt (slotSize depth) key l j)
     place-at l j lt e q =
         let n : r .len ≡ depth + l = level-len (r .len) depth l (omega (arith, i .deep)) lt e in

@@ -1,0 +1,396 @@
+-- What the members of a node cover: the positions that a word of the code says are covered, slot by slot and from the slots up, and the cover of
+-- a prefix that lies in the node.
+use Prim.Native.Nat.{ℕ, zero, suc, _+_, _-_, _*_, _/_, _^_, _≤_, _<_}
+use mathlib.Core.Path.{_≡_, refl, sym, ap, ap₂, subst, _∙_}
+use mathlib.Core.Bool.{Bool, true, false, _&&_, _||_, and-false, or-false}
+use mathlib.Core.List.{List, []}
+use mathlib.Core.Logic.{_⊎_, inl, inr}
+use native.Mathlib.Nat.{pow-suc, eq-or-lt-of-le}
+use native.Mathlib.Omega.{arith}
+use lib.Dec.{eqb, ltb, leb}
+use lib.ListN.{getD}
+use borrow.Author.Tests.{lt-ltb, le-ltb, le-leb, lt-leb}
+use Rattle.theory.specs.Results.{In, throughout}
+use Rattle.theory.specs.Routes.{Route, held, Aligned}
+use Rattle.theory.proofs.Blocks.{pow-pos}
+use Rattle.theory.proofs.Preserve.{Within}
+use Rattle.theory.proofs.Routed.{routed}
+use Rattle.words.specs.Bits.{bit}
+use Rattle.words.specs.Coverage.{WhollyCovered}
+use Rattle.words.specs.Positions.{position, member, whole}
+use Rattle.words.proofs.BitLaws.{if-lt, if-le, if-eq, bit-zero}
+use Rattle.words.proofs.PositionLaws.{in-word, Place, above}
+use Rattle.positions.specs.Runs.{inside, sizeAt, placeAt, memberOver}
+use Rattle.positions.proofs.Runs.{Nested, nested-start, throughout-under}
+use Rattle.positions.proofs.RunsNode.{size-slot, above-lt, ownAt, slot-run, level-zero, level-held, level-covered, halves-covered}
+use Rattle.nodes.specs.Node.{wide, run, slotSize, Node}
+use Rattle.nodes.specs.Gathered.{some, runAt, levelOf, Gathered}
+use Rattle.nodes.proofs.GatherLaws.{node-run, slot-records, no-child, member-is, child-node}
+use Rattle.nodes.proofs.GatherPlaces.{in-heap, same-position, level-slot, place-in, place-at}
+use Rattle.nodes.proofs.GatherRuns.{some-run}
+use Rattle.cover.specs.Coverage.{coveredIn, IsCoverage, recordOver}
+
+-- ---- Positions covered by the routes inside them.
+
+-- No routes cover no position: it has an address.
+pub none-covered : (w n a : ℕ) → throughout (held w []) n a ≡ false
+unfolding throughout
+none-covered w zero a = refl
+none-covered w (suc n) a = ap (λ (b : Bool). b && throughout (held w []) n (a + 2 ^ n)) (none-covered w n a)
+
+-- A slot's coverage, by its size.
+pub slot-covered : (m a : ℕ) (t : List Route) (c : ℕ)
+    → coveredIn m a t 5 c ≡ throughout (held wide (inside wide m (placeAt m a 5 c) t)) m (placeAt m a 5 c)
+slot-covered m a t c =
+    ap (λ (n : ℕ). throughout (held wide (inside wide n (placeAt m a 5 c) t)) n (placeAt m a 5 c)) (size-slot m)
+
+-- The top position of a node is covered when the node's routes cover all of the node.
+pub node-covered : {t : List ℕ} {lo hi depth key : ℕ} → Node t lo hi depth key
+    → coveredIn (slotSize depth) key (run t lo hi) 0 0 ≡ throughout (held wide (run t lo hi)) (wide - depth) key
+node-covered {t} {lo} {hi} {depth} {key} n =
+    let deep = n .deep in
+    let size : sizeAt (slotSize depth) 0 ≡ wide - depth = omega arith in
+    let place : placeAt (slotSize depth) key 0 0 ≡ key = omega arith in
+    ap (λ (u : List Route). throughout (held wide u) (sizeAt (slotSize depth) 0) (placeAt (slotSize depth) key 0 0))
+    (level-zero wide (slotSize depth) key (node-run n) 0 (omega arith))
+    ∙ ap₂ (throughout (held wide (run t lo hi))) size place
+
+module _ {t : List ℕ} {lo hi depth key : ℕ} {first end : List ℕ} {present : ℕ} (n : Node t lo hi depth key)
+    (g : Gathered t lo hi depth key first end present) where
+  -- A slot with records is covered when the top position of its node is,
+  pub child-covered : (c : ℕ) → c < 32 → getD first (31 + c) 0 < getD end (31 + c) 0
+      → coveredIn (slotSize (depth + 5)) (placeAt (slotSize depth) key 5 c) (runAt t first end (31 + c)) 0 0
+      ≡ coveredIn (slotSize depth) key (run t lo hi) 5 c
+  child-covered c lt has =
+      let size : wide - (depth + 5) ≡ slotSize depth = omega (arith, n .deep) in
+      node-covered (child-node n g c lt has)
+      ∙ ap₂ (λ (u : List Route) (k : ℕ). throughout (held wide u) k (placeAt (slotSize depth) key 5 c)) (slot-records g c lt) size
+      ∙ sym (slot-covered (slotSize depth) key (run t lo hi) c)
+
+  -- and one without is not.
+  pub empty-covered : (c : ℕ) → c < 32 → getD end (31 + c) 0 ≤ getD first (31 + c) 0
+      → coveredIn (slotSize depth) key (run t lo hi) 5 c ≡ false
+  empty-covered c lt le =
+      slot-covered (slotSize depth) key (run t lo hi) c
+      ∙ ap (λ (u : List Route). throughout (held wide u) (slotSize depth) (placeAt (slotSize depth) key 5 c)) (no-child g c lt le)
+      ∙ none-covered wide (slotSize depth) (placeAt (slotSize depth) key 5 c)
+
+-- ---- The word of covered slots, while slots are taken into it.
+
+-- covered has the covered slots of those that are passed, and no others.
+pub record SlotsCovered (m a : ℕ) (t : List Route) (passed : ℕ → Bool) (covered : ℕ) : Type 0 where
+  pub each : (i : ℕ) → i < 32 → bit covered i ≡ (passed i && coveredIn m a t 5 i)
+
+-- Slot c is passed too.
+abbrev pub Passes : (ℕ → Bool) → ℕ → (ℕ → Bool) → Type 0
+Passes passed c passed′ = (i : ℕ) → i < 32 → passed′ i ≡ (eqb i c || passed i)
+
+-- The slots before c and slot c are those before c + 1; slot c - 1 and those from c on are those from c - 1 on.
+pub passes-up : (c : ℕ) → Passes (λ i. ltb i c) c (λ i. ltb i (c + 1))
+passes-up c i lt =
+    if-eq (λ (b : Bool). ltb i (c + 1) ≡ (b || ltb i c)) i c (λ e. lt-ltb i (c + 1) (omega arith))
+    (λ ne. if-lt (λ (b : Bool). ltb i (c + 1) ≡ b) i c (λ l. lt-ltb i (c + 1) (omega arith)) (λ l. le-ltb i (c + 1) (omega arith)))
+
+pub passes-down : (c : ℕ) → 0 < c → Passes (λ i. leb c i) (c - 1) (λ i. leb (c - 1) i)
+passes-down c pos i lt =
+    if-eq (λ (b : Bool). leb (c - 1) i ≡ (b || leb c i)) i (c - 1) (λ e. le-leb (c - 1) i (omega arith))
+    (λ ne. if-le (λ (b : Bool). leb (c - 1) i ≡ b) c i (λ l. le-leb (c - 1) i (omega arith)) (λ l. lt-leb (c - 1) i (omega arith)))
+
+-- At first none is.
+pub slots-none : (m a : ℕ) (t : List Route) (passed : ℕ → Bool) → ((i : ℕ) → i < 32 → passed i ≡ false) → SlotsCovered m a t passed 0
+slots-none m a t passed none = record { each = λ i lt. bit-zero i ∙ sym (ap (λ (b : Bool). b && coveredIn m a t 5 i) (none i lt)) }
+
+module _ {m a : ℕ} {t : List Route} {passed : ℕ → Bool} {covered : ℕ} (slots : SlotsCovered m a t passed covered) (c : ℕ) (passed′ : ℕ → Bool)
+    (more : Passes passed c passed′) where
+  -- A slot is taken by its coverage.
+  pub slots-take : (child : Bool) (r : ℕ) → child ≡ coveredIn m a t 5 c → ((i : ℕ) → i < 32 → bit r i ≡ ((eqb i c && child) || bit covered i))
+      → SlotsCovered m a t passed′ r
+  slots-take child r e with-slot = record { each = each }
+    where
+      either : (b p : Bool) → (b || (p && b)) ≡ b
+      either true p = refl
+      either false p = and-false p
+
+      each : (i : ℕ) → i < 32 → bit r i ≡ (passed′ i && coveredIn m a t 5 i)
+      each i lt =
+          with-slot i lt
+          ∙ ap (λ (b : Bool). (eqb i c && child) || b) (slots .each i lt)
+          ∙ if-eq (λ (b : Bool). ((b && child) || (passed i && coveredIn m a t 5 i)) ≡ ((b || passed i) && coveredIn m a t 5 i)) i c
+          (λ q. rw (e, q) (either (coveredIn m a t 5 c) (passed c))) (λ q. refl)
+          ∙ sym (ap (λ (b : Bool). b && coveredIn m a t 5 i) (more i lt))
+
+  -- One that is not covered is left out.
+  pub slots-skip : coveredIn m a t 5 c ≡ false → SlotsCovered m a t passed′ covered
+  slots-skip e = record { each = each }
+    where
+      each : (i : ℕ) → i < 32 → bit covered i ≡ (passed′ i && coveredIn m a t 5 i)
+      each i lt =
+          slots .each i lt
+          ∙ if-eq (λ (b : Bool). (passed i && coveredIn m a t 5 i) ≡ ((b || passed i) && coveredIn m a t 5 i)) i c
+          (λ q. rw (q, e) (and-false (passed c))) (λ q. refl)
+          ∙ sym (ap (λ (b : Bool). b && coveredIn m a t 5 i) (more i lt))
+
+-- At last all are.
+pub slots-all : {m a : ℕ} {t : List Route} {passed : ℕ → Bool} {covered : ℕ} → SlotsCovered m a t passed covered
+    → ((i : ℕ) → i < 32 → passed i ≡ true) → (c : ℕ) → c < 32 → bit covered c ≡ coveredIn m a t 5 c
+slots-all {m} {a} {t} slots all c lt = slots .each c lt ∙ ap (λ (b : Bool). b && coveredIn m a t 5 c) (all c lt)
+
+-- ---- The way up from a position to a record at it or above it, by the numbers of the positions.
+
+-- From (l, j) up to the position numbered k there was no record: one is found from there exactly when one is found from (l, j).
+pub record Climbed (first end : List ℕ) (l j k : ℕ) : Type 0 where
+  pub place : Place k
+  pub same : recordOver first end l j ≡ recordOver first end (place .level) (place .index)
+
+-- A record at a position.
+record-here : (first end : List ℕ) (l j : ℕ) → ltb (getD first (position l j) 0) (getD end (position l j) 0) ≡ true → recordOver first end l j ≡ true
+unfolding recordOver
+record-here first end zero j e = e
+record-here first end (suc l) j e = ap (λ (b : Bool). b || recordOver first end l (j / 2)) e
+
+-- No record at it: only one above it is found.
+record-above : (first end : List ℕ) (l j : ℕ) → ltb (getD first (position (suc l) j) 0) (getD end (position (suc l) j) 0) ≡ false
+    → recordOver first end (suc l) j ≡ recordOver first end l (j / 2)
+unfolding recordOver
+record-above first end l j e = ap (λ (b : Bool). b || recordOver first end l (j / 2)) e
+
+-- The way starts at the position,
+pub climb-start : (first end : List ℕ) (l j b : ℕ) → l ≤ 4 → j < 2 ^ l → b ≡ position l j → Climbed first end l j b
+climb-start first end l j b le lt e = record { place = record { level = l; index = j; above-slots = le; in-level = lt; is = e }; same = refl }
+
+-- ends where there is a record,
+pub climb-found : {first end : List ℕ} {l j k : ℕ} → Climbed first end l j k → getD first k 0 < getD end k 0 → recordOver first end l j ≡ true
+climb-found {first} {end} c lt =
+    let p = c .place in
+    c .same ∙ record-here first end (p .level) (p .index) (rw (p .is) at (lt-ltb _ _ lt))
+
+-- goes on where there is none,
+pub climb-next : {first end : List ℕ} {l j k : ℕ} → Climbed first end l j k → 0 < k → getD end k 0 ≤ getD first k 0 → Climbed first end l j ((k - 1) / 2)
+climb-next {first} {end} {l} {j} {k} c pos le = go (c .place .level) (c .place .index) (c .place .above-slots) (c .place .in-level) (c .place .is) (c .same)
+  where
+    go : (m i : ℕ) → m ≤ 4 → i < 2 ^ m → k ≡ position m i → recordOver first end l j ≡ recordOver first end m i → Climbed first end l j ((k - 1) / 2)
+    go zero i h lt is same = absurd (omega arith)
+    go (suc m) i h lt is same =
+        record {
+          place = record { level = m; index = i / 2; above-slots = omega arith; in-level = above-lt m i lt; is = rw is (above m i) };
+          same = same ∙ record-above first end m i (rw is at (le-ltb _ _ le));
+        }
+
+-- and at the top there is only the top's.
+pub climb-top : {first end : List ℕ} {l j : ℕ} → Climbed first end l j 0 → recordOver first end l j ≡ ltb (getD first 0 0) (getD end 0 0)
+unfolding recordOver
+climb-top {first} {end} {l} {j} c =
+    let p = c .place in
+    let z = same-position 0 0 (p .level) (p .index) (omega arith) (p .in-level) (p .is) in
+    c .same ∙ ap₂ (recordOver first end) (sym (z .0)) (sym (z .1))
+
+module _ {t : List ℕ} {lo hi depth key : ℕ} {first end : List ℕ} {present : ℕ} (n : Node t lo hi depth key)
+    (g : Gathered t lo hi depth key first end present) where
+  -- ---- From the slots up.
+
+  -- With the covered slots at hand the fold of the members finds each position's coverage.
+  pub whole-covered : (covered : ℕ) → ((c : ℕ) → c < 32 → bit covered c ≡ coveredIn (slotSize depth) key (run t lo hi) 5 c)
+      → (k l j : ℕ) → k + l ≡ 5 → j < 2 ^ l → whole present covered k j ≡ coveredIn (slotSize depth) key (run t lo hi) l j
+  unfolding whole
+  whole-covered covered slots zero l j e lt =
+      let five : 5 ≡ l = omega arith in
+      subst (λ (i : ℕ). j < 2 ^ i → bit covered j ≡ coveredIn (slotSize depth) key (run t lo hi) i j) five (slots j) lt
+  whole-covered covered slots (suc k) l j e lt =
+      let at : 4 - k ≡ l = omega arith in
+      ap₂ _||_ (ap (λ (i : ℕ). member present i j) at ∙ member-is g l j (omega arith) lt)
+      (ap₂ _&&_ (whole-covered covered slots k (suc l) (2 * j) (omega arith) (omega (arith, pow-suc 2 l)))
+      (whole-covered covered slots k (suc l) (2 * j + 1) (omega arith) (omega (arith, pow-suc 2 l))))
+      ∙ sym (halves-covered wide (slotSize depth) key (node-run n) l j (omega arith))
+
+  -- So the wholly covered positions are the covered ones.
+  pub coverage-is : (covered r : ℕ) → ((c : ℕ) → c < 32 → bit covered c ≡ coveredIn (slotSize depth) key (run t lo hi) 5 c)
+      → WhollyCovered present covered r → IsCoverage (slotSize depth) key (run t lo hi) r
+  coverage-is covered r slots w =
+      record {
+        positions = λ l j le lt. w .inside l j le lt ∙ whole-covered covered slots (5 - l) l j (omega arith) lt;
+        top = w .top ∙ g .no-more;
+      }
+
+  -- ---- Records at a position and above it.
+
+  -- A position has a record exactly when it has a hop of its own.
+  pub record-at : (l j : ℕ) → l ≤ 4 → j < 2 ^ l
+      → ltb (getD first (position l j) 0) (getD end (position l j) 0) ≡ routed (ownAt wide (slotSize depth) key (run t lo hi) l j)
+  record-at l j le lt =
+      sym (some-run t (getD first (position l j) 0) (getD end (position l j) 0))
+      ∙ ap some (g .places l j (omega arith) lt)
+      ∙ sym (g .members l j le lt)
+      ∙ member-is g l j le lt
+
+  -- One stands at a position or above it exactly when the position has a hop of its own or a route stands above it.
+  pub record-over : (l j : ℕ) → l ≤ 4 → j < 2 ^ l
+      → recordOver first end l j
+      ≡ (routed (ownAt wide (slotSize depth) key (run t lo hi) l j) || memberOver wide (slotSize depth) key (run t lo hi) l j)
+  unfolding recordOver memberOver
+  record-over zero j le lt = record-at zero j le lt ∙ sym (or-false _)
+  record-over (suc l) j le lt = ap₂ _||_ (record-at (suc l) j le lt) (record-over l (j / 2) (omega arith) (above-lt l j lt))
+
+  -- So one stands above a slot exactly when a route of the node does.
+  pub record-over-slot : (c : ℕ) → c < 32 → recordOver first end 4 (c / 2) ≡ memberOver wide (slotSize depth) key (run t lo hi) 5 c
+  unfolding memberOver
+  record-over-slot c lt = record-over 4 (c / 2) (omega arith) (omega arith)
+
+  -- ---- The cover of a position, and of a prefix in a slot.
+
+  -- The node's routes cover a position when one stands above it, or those inside it cover it.
+  pub position-covered : (l j : ℕ) → l ≤ 5 → j < 2 ^ l
+      → throughout (held wide (run t lo hi)) (sizeAt (slotSize depth) l) (placeAt (slotSize depth) key l j)
+      ≡ (memberOver wide (slotSize depth) key (run t lo hi) l j || coveredIn (slotSize depth) key (run t lo hi) l j)
+  position-covered l j le lt = level-covered wide (slotSize depth) key (node-run n) l j le lt
+
+  -- By records: when one stands at it or above it, or the routes inside it cover it.
+  pub position-query : (l j : ℕ) → l ≤ 4 → j < 2 ^ l
+      → (recordOver first end l j || coveredIn (slotSize depth) key (run t lo hi) l j)
+      ≡ throughout (held wide (run t lo hi)) (sizeAt (slotSize depth) l) (placeAt (slotSize depth) key l j)
+  position-query l j le lt =
+      let inner = halves-covered wide (slotSize depth) key (node-run n) l j (omega arith) in
+      ap₂ _||_ (record-over l j le lt) inner
+      ∙ either (routed (ownAt wide (slotSize depth) key (run t lo hi) l j)) (memberOver wide (slotSize depth) key (run t lo hi) l j) _
+      ∙ ap (λ (b : Bool). memberOver wide (slotSize depth) key (run t lo hi) l j || b) (sym inner)
+      ∙ sym (position-covered l j (omega arith) lt)
+    where
+      either : (o b h : Bool) → ((o || b) || (o || h)) ≡ (b || (o || h))
+      either true true h = refl
+      either true false h = refl
+      either false b h = refl
+
+  -- An address of a slot is held by a route above the slot or by the slot's.
+  slot-held : (c x : ℕ) → c < 32 → In (slotSize depth) (placeAt (slotSize depth) key 5 c) x
+      → held wide (run t lo hi) x
+      ≡ (memberOver wide (slotSize depth) key (run t lo hi) 5 c
+      || held wide (inside wide (slotSize depth) (placeAt (slotSize depth) key 5 c) (run t lo hi)) x)
+  slot-held c x lt =
+      subst (λ (k : ℕ). In k (placeAt (slotSize depth) key 5 c) x
+      → held wide (run t lo hi) x
+      ≡ (memberOver wide (slotSize depth) key (run t lo hi) 5 c
+      || held wide (inside wide k (placeAt (slotSize depth) key 5 c) (run t lo hi)) x)) (size-slot (slotSize depth))
+      (level-held wide (slotSize depth) key (node-run n) 5 c x (omega arith) lt)
+
+  -- They cover a position inside a slot when a record stands above the slot, or the slot's records cover it.
+  pub slot-query : (c k a : ℕ) → c < 32 → Nested k a (slotSize depth) (placeAt (slotSize depth) key 5 c)
+      → (recordOver first end 4 (c / 2) || throughout (held wide (runAt t first end (31 + c))) k a) ≡ throughout (held wide (run t lo hi)) k a
+  slot-query c k a lt i =
+      ap₂ _||_ (record-over-slot c lt) (ap (λ (u : List Route). throughout (held wide u) k a) (slot-records g c lt))
+      ∙ sym (throughout-under (held wide (run t lo hi)) (held wide (inside wide (slotSize depth) (placeAt (slotSize depth) key 5 c) (run t lo hi)))
+      (memberOver wide (slotSize depth) key (run t lo hi) 5 c) k a (λ x z. slot-held c x lt (omega arith)))
+
+  -- ---- A prefix that lies in the node, by its level and its index there.
+
+  module _ (query len : ℕ) (lens : (depth ≤ len) × (len ≤ 32)) (aligned : Aligned (wide - len) query)
+      (lies : (key ≤ query) × (query < key + 2 ^ (wide - depth))) where
+    -- The prefix as a route.
+    abbrev asked : Route
+    asked = record { addr = query; len = len; hop = 0 }
+
+    asked-within : Within wide (wide - depth) key asked
+    asked-within =
+        let i : Nested (wide - len) query (wide - depth) key = nested-start (wide - len) query (wide - depth) key (omega arith) aligned (n .aligned) lies in
+        let deep = n .deep in
+        record { low = i .from; high = i .upto; deep = omega arith; short = omega arith; aligned = aligned }
+
+    -- Above the slots it is a position.
+    pub query-position : (l j : ℕ) → l ≤ 4 → j < 2 ^ l → levelOf len depth ≡ l → (query - key) / 2 ^ sizeAt (slotSize depth) l ≡ j
+        → (recordOver first end l j || coveredIn (slotSize depth) key (run t lo hi) l j) ≡ throughout (held wide (run t lo hi)) (wide - len) query
+    query-position l j le lt e q =
+        let z = place-at depth key (n .deep) (n .aligned) asked asked-within l j (omega arith) e q in
+        let deep = n .deep in
+        let size : sizeAt (slotSize depth) l ≡ wide - len = omega (arith, z .0) in
+        position-query l j le lt ∙ ap₂ (throughout (held wide (run t lo hi))) size (sym (z .1))
+
+    -- Else it lies in a slot, and is no shorter than the slot.
+    pub query-nested : (c : ℕ) → levelOf len depth ≡ 5 → (query - key) / 2 ^ sizeAt (slotSize depth) 5 ≡ c
+        → Nested (wide - len) query (slotSize depth) (placeAt (slotSize depth) key 5 c)
+    query-nested c e q =
+        let deep = n .deep in
+        let longer : depth + 5 ≤ len = level-slot len depth e in
+        let i : In (sizeAt (slotSize depth) 5) (placeAt (slotSize depth) key 5 c) query = place-in depth key (n .deep) (n .aligned) asked asked-within 5 c .0 q in
+        let size : 2 ^ sizeAt (slotSize depth) 5 ≡ 2 ^ slotSize depth = ap (λ (k : ℕ). 2 ^ k) (size-slot (slotSize depth)) in
+        nested-start (wide - len) query (slotSize depth) (placeAt (slotSize depth) key 5 c) (omega arith) aligned
+        (slot-run wide (slotSize depth) key (node-run n) c .aligned) (omega (arith, i, size))
+
+-- ---- The same at the place of the node's heap that the code finds for it.
+
+-- A prefix in a node, the node's records by place, and the prefix's place b among them, with its level.
+pub record Sought (t : List ℕ) (lo hi depth key query len : ℕ) (first end : List ℕ) (present level b : ℕ) : Type 0 where
+  pub node : Node t lo hi depth key
+  pub gathered : Gathered t lo hi depth key first end present
+  pub lens : (depth ≤ len) × (len ≤ 32)
+  pub aligned : Aligned (wide - len) query
+  pub lies : (key ≤ query) × (query < key + 2 ^ (wide - depth))
+  pub leveled : (level ≡ levelOf len depth) × (level ≤ 5)
+  pub placed : b ≡ position level ((query - key) / 2 ^ sizeAt (slotSize depth) level)
+  pub few : (query - key) / 2 ^ sizeAt (slotSize depth) level < 2 ^ level
+
+module _ {t : List ℕ} {lo hi depth key query len : ℕ} {first end : List ℕ} {present level b : ℕ}
+    (s : Sought t lo hi depth key query len first end present level b) where
+  -- It is one of the 63 places.
+  pub place-lt : b < 63
+  place-lt = rw (s .placed) (in-heap level ((query - key) / 2 ^ sizeAt (slotSize depth) level) (s .leveled .1) (s .few))
+
+  -- A place before 31 is a position,
+  pub place-position : b < 31 → level ≤ 4
+  place-position h = go (eq-or-lt-of-le (s .leveled .1))
+    where
+      go : (level ≡ 5) ⊎ (level < 5) → level ≤ 4
+      go (inl five) = absurd (omega (arith, s .placed, ap (λ (l : ℕ). 2 ^ l) five))
+      go (inr lt) = omega arith
+
+  -- and is covered by a record at it or above it, or else from inside.
+  pub position-answer : (over : Bool) → b < 31 → ((l j : ℕ) → l ≤ 4 → j < 2 ^ l → b ≡ position l j → over ≡ recordOver first end l j)
+      → (over || coveredIn (slotSize depth) key (run t lo hi) level ((query - key) / 2 ^ sizeAt (slotSize depth) level))
+      ≡ throughout (held wide (run t lo hi)) (wide - len) query
+  position-answer over h found =
+      let index = (query - key) / 2 ^ sizeAt (slotSize depth) level in
+      ap (λ (o : Bool). o || coveredIn (slotSize depth) key (run t lo hi) level index) (found level index (place-position h) (s .few) (s .placed))
+      ∙ query-position (s .node) (s .gathered) query len (s .lens) (s .aligned) (s .lies) level index (place-position h) (s .few) (sym (s .leveled .0)) refl
+
+  -- A place from 31 on is a slot,
+  pub place-slot : 31 ≤ b → (level ≡ 5) × (b - 31 ≡ (query - key) / 2 ^ sizeAt (slotSize depth) 5) × (b - 31 < 32)
+  place-slot h = go (eq-or-lt-of-le (s .leveled .1))
+    where
+      go : (level ≡ 5) ⊎ (level < 5) → (level ≡ 5) × (b - 31 ≡ (query - key) / 2 ^ sizeAt (slotSize depth) 5) × (b - 31 < 32)
+      go (inl five) =
+          let placed = rw five at (s .placed) in
+          let few = rw five at (s .few) in
+          (five, omega arith, omega arith)
+      go (inr lt) = absurd (omega (arith, s .placed, in-word level ((query - key) / 2 ^ sizeAt (slotSize depth) level) (omega arith) (s .few)))
+
+  -- with the prefix in it,
+  pub slot-nested : 31 ≤ b → Nested (wide - len) query (slotSize depth) (placeAt (slotSize depth) key 5 (b - 31))
+  slot-nested h =
+      let z = place-slot h in
+      query-nested (s .node) (s .gathered) query len (s .lens) (s .aligned) (s .lies) (b - 31) (sym (s .leveled .0) ∙ z .0) (sym (z .1))
+
+  -- and the prefix is covered by a record above the slot, or else by the slot's records.
+  pub slot-answer : (over : Bool) → 31 ≤ b → ((l j : ℕ) → l ≤ 4 → j < 2 ^ l → (b - 1) / 2 ≡ position l j → over ≡ recordOver first end l j)
+      → (over || throughout (held wide (runAt t first end b)) (wide - len) query) ≡ throughout (held wide (run t lo hi)) (wide - len) query
+  slot-answer over h found =
+      let z = place-slot h in
+      let e : 31 + (b - 31) ≡ b = omega arith in
+      let up : (b - 1) / 2 ≡ position 4 ((b - 31) / 2) = omega arith in
+      ap₂ (λ (o : Bool) (k : ℕ). o || throughout (held wide (runAt t first end k)) (wide - len) query)
+      (found 4 ((b - 31) / 2) (omega arith) (omega (arith, z .2)) up) (sym e)
+      ∙ slot-query (s .node) (s .gathered) (b - 31) (wide - len) query (z .2) (slot-nested h)
+
+  -- Its records, if it has some, are those of a node in which the prefix lies.
+  pub slot-node : 31 ≤ b → getD first b 0 < getD end b 0
+      → Node t (getD first b 0) (getD end b 0) (depth + 5) (placeAt (slotSize depth) key 5 (b - 31))
+  slot-node h has =
+      let e : 31 + (b - 31) ≡ b = omega arith in
+      subst (λ (k : ℕ). getD first k 0 < getD end k 0 → Node t (getD first k 0) (getD end k 0) (depth + 5) (placeAt (slotSize depth) key 5 (b - 31))) e
+      (child-node (s .node) (s .gathered) (b - 31) (place-slot h .2)) has
+
+  pub slot-lies : 31 ≤ b → (depth + 5 ≤ len)
+      × ((placeAt (slotSize depth) key 5 (b - 31) ≤ query) × (query < placeAt (slotSize depth) key 5 (b - 31) + 2 ^ (wide - (depth + 5))))
+  slot-lies h =
+      let i = slot-nested h in
+      let deep = s .node .deep in
+      let size : wide - (depth + 5) ≡ slotSize depth = omega arith in (
+        level-slot len depth (sym (s .leveled .0) ∙ place-slot h .0),
+        (i .from, rw size (omega (arith, i .upto, pow-pos (wide - len)))),
+      )

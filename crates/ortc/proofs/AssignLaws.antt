@@ -15,11 +15,22 @@ use borrow.Author.Tests.{eq-eqb, ne-eqb, eqb-true, eqb-false, lt-ltb, le-ltb, lt
 use Rattle.theory.specs.Routes.{Answer, none, via}
 use Rattle.theory.specs.Results.{Cand, hole, of, sets, combine, assigned, smallest, allowed, here}
 use Rattle.words.specs.Positions.{position}
-use Rattle.words.proofs.PositionLaws.{above, below-left, below-right}
+use Rattle.words.specs.Bits.{bit}
+use Rattle.words.proofs.BitLaws.{if-eq, bit-zero}
+use Rattle.words.proofs.PositionLaws.{below-left, below-right}
+use Rattle.words.proofs.PositionLaws as places
 use Rattle.positions.specs.Runs.{hopOf, sizeAt, placeAt}
+use Rattle.positions.specs.Walk.{stateOf, stateAt}
+use Rattle.positions.specs.Walks.{ortcOut, ortcNext}
 use Rattle.positions.proofs.RunsNode.{size-halves, size-slot, place-left, place-right}
 use Rattle.hops.specs.Sets.{ShowsSet}
-use Rattle.ortc.specs.Answers.{ShowsNode}
+use Rattle.hops.proofs.SetLaws.{same-word-same-set}
+use Rattle.nodes.specs.Node.{wide}
+use Rattle.nodes.specs.Gathered.{overAt}
+use Rattle.nodes.specs.Room.{Begins}
+use Rattle.ortc.specs.Packed.{stored, packed}
+use Rattle.ortc.specs.Answers.{ShowsNode, assignedAt, Stepped}
+use Rattle.ortc.proofs.PackedLaws.{left-parent, Reading, reading-start, reading-stored, reading-taken, reading-next, reading-end}
 
 -- ---- The sets of a node's positions, from those of its slots.
 
@@ -80,3 +91,190 @@ folded-next {xs₀} {xs} {b} p small v combined = record {
 pub folded-node : {xs₀ xs : List ℕ} {b : ℕ} → Folded xs₀ xs b → b ≡ 0 → (f : ℕ → Answer) (m a : ℕ) → length xs₀ ≡ 63 → ShowsSlots f m a xs₀
     → ShowsNode f m a xs
 folded-node p z f m a n s = record { count = p .sized ∙ n; places = λ l j le lt. p .each f m a n s l j le lt (omega arith) }
+
+-- ---- What the positions are assigned.
+
+-- What is assigned is assigned again under itself.
+pub assigned-again : (choose : List ℕ → ℕ) (S : Cand) (g : Answer) → assigned choose S (assigned choose S g) ≡ assigned choose S g
+assigned-again choose hole g = refl
+assigned-again choose (of s) g = go (allowed g s) refl
+  where
+    same : (t : Bool) → cond t (via (choose s)) (via (choose s)) ≡ via (choose s)
+    same true = refl
+    same false = refl
+
+    go : (t : Bool) → allowed g s ≡ t
+        → cond (allowed (cond t g (via (choose s))) s) (cond t g (via (choose s))) (via (choose s)) ≡ cond t g (via (choose s))
+    go true e = rw e
+    go false e = same (allowed (via (choose s)) s)
+
+module _ (f : ℕ → Answer) (m a : ℕ) (g : Answer) where
+  -- What is assigned above position j of level l, where g is assigned above the node.
+  abbrev pub assignedOver : ℕ → ℕ → Answer
+  assignedOver zero j = g
+  assignedOver (suc l) j = assignedAt f m a g l (j / 2)
+
+  -- A position is assigned by its candidates and what is assigned above it.
+  pub assigned-is : (l j : ℕ) → assignedAt f m a g l j ≡ assigned smallest (setAt f m a l j) (assignedOver l j)
+  unfolding assignedAt
+  assigned-is zero j = refl
+  assigned-is (suc l) j = refl
+
+  -- One with its parent's candidates is assigned what that is.
+  pub assigned-parent : (l j : ℕ) → setAt f m a (suc l) j ≡ setAt f m a l (j / 2) → assignedAt f m a g (suc l) j ≡ assignedAt f m a g l (j / 2)
+  assigned-parent l j e =
+      assigned-is (suc l) j ∙ rw (e, assigned-is l (j / 2)) (assigned-again smallest (setAt f m a l (j / 2)) (assignedOver l (j / 2)))
+
+  -- The walk of ORTC hands down what is assigned.
+  pub state-assigned : (l j : ℕ) → stateAt (ortcOut smallest wide f) (ortcNext smallest f) m a g l j ≡ assignedOver l j
+  unfolding stateOf
+  state-assigned zero j = refl
+  state-assigned (suc l) j = ap (assigned smallest (setAt f m a l (j / 2))) (state-assigned l (j / 2)) ∙ sym (assigned-is l (j / 2))
+
+  pub assigned-next : (l j : ℕ) → assignedAt f m a g l j
+      ≡ ortcNext smallest f (sizeAt m l) (placeAt m a l j) (stateAt (ortcOut smallest wide f) (ortcNext smallest f) m a g l j)
+  assigned-next l j = assigned-is l j ∙ ap (assigned smallest (setAt f m a l j)) (sym (state-assigned l j))
+
+-- A position that is not stored is assigned what stands above it.
+pub left-assigned : (f : ℕ → Answer) (m a : ℕ) (g : Answer) (xs : List ℕ) → ShowsNode f m a xs → (l j : ℕ) → l ≤ 5 → j < 2 ^ l
+    → stored xs (position l j) ≡ false → assignedOver f m a g l j ≡ assignedAt f m a g l j
+left-assigned f m a g xs n zero j le lt e = absurd (left-parent xs (position 0 j) e .0 (omega arith))
+left-assigned f m a g xs n (suc l) j le lt e =
+    let same : getD xs (position (suc l) j) 0 ≡ getD xs (position l (j / 2)) 0 =
+    left-parent xs (position (suc l) j) e .1 ∙ ap (λ (k : ℕ). getD xs k 0) (places.above l j) in
+    sym (assigned-parent f m a g l j
+    (same-word-same-set (getD xs (position (suc l) j) 0) (getD xs (position l (j / 2)) 0) (setAt f m a (suc l) j) (setAt f m a l (j / 2))
+    (n .places (suc l) j le lt) (n .places l (j / 2) (omega arith) (omega (arith, pow-suc 2 l))) .0 same))
+
+-- ---- Assigning, from the first position to the last.
+
+-- Does position b have an entry: is it assigned a hop, and another than the one above?
+abbrev pub hasEntry : List ℕ → ℕ → ℕ → Bool
+hasEntry hops above b = not (eqb (getD hops b 0) (overAt hops b above)) && ltb (getD hops b 0) 64
+
+-- The positions before b are assigned, and the reader stands before b.
+pub record Assigning (o : List ℕ) (top above : ℕ) (hops : List ℕ) (entries mask at b : ℕ) : Type 0 where
+  pub sized : length hops ≡ 31
+  pub reads : (xs : List ℕ) → Begins (packed xs) top o → Reading xs top o b mask at
+  pub low : (i : ℕ) → i < b → getD hops i 0 ≤ 64
+  pub each : (f : ℕ → Answer) (m a : ℕ) (xs : List ℕ) → ShowsNode f m a xs → Begins (packed xs) top o → (l j : ℕ) → l ≤ 4 → j < 2 ^ l
+      → position l j < b → hopOf (getD hops (position l j) 0) ≡ assignedAt f m a (hopOf above) l j
+  pub done : (i : ℕ) → i < b → bit entries i ≡ hasEntry hops above i
+  pub clear : (i : ℕ) → b ≤ i → i < 31 → bit entries i ≡ false
+
+-- Before the first position nothing is assigned.
+pub assigning-start : (o : List ℕ) (top above : ℕ) (hops : List ℕ) (mask at : ℕ) → length hops ≡ 31 → mask ≡ getD o top 0 → at ≡ top + 1
+    → Assigning o top above hops 0 mask at 0
+assigning-start o top above hops mask at n e s = record {
+  sized = n;
+  reads = λ xs h. reading-start xs top o mask at h e s;
+  low = λ i lt. absurd (omega arith);
+  each = λ f m a xs n h l j le lt q. absurd (omega arith);
+  done = λ i lt. absurd (omega arith);
+  clear = λ i le lt. bit-zero i;
+}
+
+-- What stands above a position is not changed by a position from there on.
+over-kept : (hops : List ℕ) (b above v i : ℕ) → i ≤ b → overAt (set hops b v) i above ≡ overAt hops i above
+over-kept hops b above v i le = go (eqb i 0) refl
+  where
+    go : (z : Bool) → eqb i 0 ≡ z
+        → cond z above (getD (set hops b v) ((i - 1) / 2) 0) ≡ cond z above (getD hops ((i - 1) / 2) 0)
+    go true e = refl
+    go false e =
+        let n : i ≡ 0 → ⊥ = eqb-false i 0 e in
+        let p : 0 < i = pos i n in
+        getD-set-other hops b ((i - 1) / 2) v 0 (λ q. omega arith)
+      where
+        pos : (k : ℕ) → (k ≡ 0 → ⊥) → 0 < k
+        pos zero n = absurd (n refl)
+        pos (suc k) n = omega arith
+
+module _ {o : List ℕ} {top above : ℕ} {hops : List ℕ} {entries mask at b : ℕ} (p : Assigning o top above hops entries mask at b) where
+  -- Where the position is stored there is room for its two words.
+  pub assigning-room : (xs : List ℕ) → Begins (packed xs) top o → b < 31 → eqb (mask % 2) 1 ≡ true → at + 2 ≤ length o
+  assigning-room xs h small e =
+      let r = p .reads xs h in
+      reading-taken r small (sym (reading-stored r small) ∙ e) .room
+
+  module _ {over hop mask′ at′ : ℕ} (small : b < 31) (first : above ≤ 64) (is : over ≡ overAt hops b above)
+    (s : Stepped o mask at over hop mask′ at′) where
+    over-low : over ≤ 64
+    over-low = if-eq (λ z. over ≡ cond z above (getD hops ((b - 1) / 2) 0) → over ≤ 64) b 0 (λ e q. omega arith)
+        (λ n q. let l = p .low ((b - 1) / 2) (half b n) in omega arith) is
+      where
+        half : (k : ℕ) → (k ≡ 0 → ⊥) → (k - 1) / 2 < k
+        half zero n = absurd (n refl)
+        half (suc k) n = omega arith
+
+    -- What the code has for the hop above is what is assigned there.
+    over-is : (f : ℕ → Answer) (m a : ℕ) (xs : List ℕ) → ShowsNode f m a xs → Begins (packed xs) top o → (l j : ℕ) → l ≤ 4 → j < 2 ^ l
+        → b ≡ position l j → hopOf over ≡ assignedOver f m a (hopOf above) l j
+    over-is f m a xs n h zero j le lt e =
+        let z : b ≡ 0 = omega arith in
+        let q : over ≡ above = is ∙ rw (eq-eqb b 0 z) in
+        ap hopOf q
+    over-is f m a xs n h (suc l) j le lt e =
+        let z : position l (j / 2) < b = omega (arith, pow-suc 2 l, pow-pos l) in
+        let q : (b - 1) / 2 ≡ position l (j / 2) = rw e (places.above l j) in
+        let v : over ≡ getD hops (position l (j / 2)) 0 = is ∙ rw (ne-eqb b 0 (λ y. omega arith), q) in
+        ap hopOf v ∙ p .each f m a xs n h l (j / 2) (omega arith) (omega (arith, pow-suc 2 l)) z
+
+    -- So is the position's.
+    hop-is : (f : ℕ → Answer) (m a : ℕ) (xs : List ℕ) → ShowsNode f m a xs → Begins (packed xs) top o → (l j : ℕ) → l ≤ 4 → j < 2 ^ l
+        → b ≡ position l j → hopOf hop ≡ assignedAt f m a (hopOf above) l j
+    hop-is f m a xs n h l j le lt e = go (stored xs b) refl
+      where
+        r : Reading xs top o b mask at
+        r = p .reads xs h
+
+        go : (t : Bool) → stored xs b ≡ t → hopOf hop ≡ assignedAt f m a (hopOf above) l j
+        go true t =
+            let shown : ShowsSet (getD xs b 0) (setAt f m a l j) = rw e (n .places l j (omega arith) lt) in
+            s .taken (reading-stored r small ∙ t) (setAt f m a l j) (rw (reading-taken r small t .word) shown)
+            ∙ ap (assigned smallest (setAt f m a l j)) (over-is f m a xs n h l j le lt e) ∙ sym (assigned-is f m a (hopOf above) l j)
+        go false t =
+            ap hopOf (s .kept (reading-stored r small ∙ t)) ∙ over-is f m a xs n h l j le lt e
+            ∙ left-assigned f m a (hopOf above) xs n l j (omega arith) lt (rw e at t)
+
+    -- One position more.
+    pub assigning-next : (entries′ : ℕ)
+        → ((i : ℕ) → i < 31 → bit entries′ i ≡ ((eqb i b && (not (eqb hop over) && ltb hop 64)) || bit entries i))
+        → Assigning o top above (set hops b hop) entries′ mask′ at′ (b + 1)
+    assigning-next entries′ w = record {
+      sized = length-set hops b hop ∙ p .sized;
+      reads = λ xs h. reading-next (p .reads xs h) small mask′ at′ (s .masks) (s .tops);
+      low = λ i lt. at-or-before (λ k. getD (set hops b hop) k 0 ≤ 64) (rw here-is (s .low over-low))
+          (λ k less. rw (before-is k less) (p .low k less)) i lt;
+      each = λ f m a xs n h l j le lt q. go f m a xs n h l j le lt (eq-or-lt-of-le q);
+      done = at-or-before (λ k. bit entries′ k ≡ hasEntry (set hops b hop) above k)
+          (w b small ∙ rw (eq-eqb b b refl, p .clear b (omega arith) small, here-is, over-kept hops b above hop b (omega arith), ← is) (or-false _))
+          (λ k less. w k (omega arith) ∙ rw (ne-eqb k b (λ z. omega arith), before-is k less, over-kept hops b above hop k (omega arith)) (p .done k less));
+      clear = λ i le lt. w i lt ∙ rw (ne-eqb i b (λ z. omega arith)) (p .clear i (omega arith) lt);
+    }
+      where
+        here-is : getD (set hops b hop) b 0 ≡ hop
+        here-is = getD-set-same hops b hop 0 (omega (arith, p .sized))
+
+        before-is : (k : ℕ) → k < b → getD (set hops b hop) k 0 ≡ getD hops k 0
+        before-is k less = getD-set-other hops b k hop 0 (λ e. omega arith)
+
+        or-false : (t : Bool) → (t || false) ≡ t
+        or-false true = refl
+        or-false false = refl
+
+        at-or-before : (P : ℕ → Type 0) → P b → ((k : ℕ) → k < b → P k) → (i : ℕ) → i < b + 1 → P i
+        at-or-before P now past i lt = pick (eq-or-lt-of-le lt)
+          where
+            pick : (suc i ≡ b + 1) ⊎ (suc i < b + 1) → P i
+            pick (inl e) = let q : b ≡ i = omega arith in subst P q now
+            pick (inr less) = past i (omega arith)
+
+        go : (f : ℕ → Answer) (m a : ℕ) (xs : List ℕ) → ShowsNode f m a xs → Begins (packed xs) top o → (l j : ℕ) → l ≤ 4 → j < 2 ^ l
+            → (suc (position l j) ≡ b + 1) ⊎ (suc (position l j) < b + 1)
+            → hopOf (getD (set hops b hop) (position l j) 0) ≡ assignedAt f m a (hopOf above) l j
+        go f m a xs n h l j le lt (inl e) =
+            let q : b ≡ position l j = omega arith in
+            rw (← q, here-is) (hop-is f m a xs n h l j le lt q)
+        go f m a xs n h l j le lt (inr less) =
+            rw (before-is (position l j) (omega arith)) (p .each f m a xs n h l j le lt (omega arith))

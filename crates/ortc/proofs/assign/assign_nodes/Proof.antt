@@ -4,7 +4,6 @@ use Prim.Native.Nat.{_-_, _≤_}
 use mathlib.Core.Path.{_≡_, refl, sym, _∙_}
 use native.Mathlib.Omega.{arith}
 use borrow.Author.Needs.{needs}
-use Rattle.words.specs.Positions.{position}
 use Rattle.words.proofs.PositionLaws.{in-word}
 use Rattle.nodes.proofs.RoomLaws.{Read, begins-word}
 use Rattle.ortc.specs.Packed.{maskOf, wordsOf}
@@ -21,14 +20,14 @@ abbrev μ-loop : tie.MeasureT-loop
 μ-loop work top above hops₀ entries₀ reader₀ b₀ hops entries reader b = 31 - b
 
 new-requires : tie.Need-new-requires Inv-loop μ-loop
-new-requires c κs = 
+new-requires c κs =
     let a = c .before .args in
     let h = c .before .pre .0 in
     let r : Read (maskOf (h .0) 31) (wordsOf (h .0) 31) (a .top) (a .work .now) = begins-word (h .1) in
     r .within
 
 loop-holds : tie.Need-loop-holds Inv-loop μ-loop
-loop-holds c = 
+loop-holds c =
     let a = c .before .before .args in
     (omega arith, assigning-start (a .work .now) (a .top) (a .above) _ _ _ refl (c .new .ensures .0) (c .new .ensures .1))
 
@@ -36,7 +35,7 @@ over-at-requires : tie.Need-over-at-requires Inv-loop μ-loop
 over-at-requires c κs = search needs
 
 step-at-requires : tie.Need-step-at-requires Inv-loop μ-loop
-step-at-requires c κs = 
+step-at-requires c κs =
     let h = c .before .before .before .before .before .before .pre .0 in
     assigning-room (c .before .before .before .loop .inv .1) (h .0) (h .1) (omega arith)
 
@@ -56,7 +55,7 @@ loop-less : tie.Need-loop-less Inv-loop μ-loop
 loop-less c = search needs
 
 loop-again : tie.Need-loop-again Inv-loop μ-loop
-loop-again c = 
+loop-again c =
     let a = c .before .before .before .before .before .before .before .before .before in
     let l = c .before .before .before .before .before .before .loop in (
       omega arith,
@@ -65,14 +64,12 @@ loop-again c =
     )
 
 returns : tie.Need-returns Inv-loop μ-loop
-returns c = 
+returns c =
     let p = c .before .loop .inv .1 in
     let h : c .before .loop .b ≡ 31 = omega arith in (
       λ xs e. reading-end (p .reads xs e) h,
       (
-        λ f m a xs n e l j le lt.
-            let q = in-word l j le lt in
-            (p .low (position l j) (omega arith), p .each f m a xs n e l j le lt (omega arith)),
+        λ f m a xs n e l j le lt. let q = in-word l j le lt in p .each f m a xs n e l j le lt (omega arith),
         λ b lt. p .done b (omega arith),
       ),
     )

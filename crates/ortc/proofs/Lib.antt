@@ -1,0 +1,3 @@
+-- The laws of ortc.
+pub mod PackedLaws
+pub mod AssignLaws

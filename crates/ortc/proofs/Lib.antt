@@ -1,2 +1,3 @@
 -- The laws of ortc.
 pub mod SlotLaws
+pub mod RewriteLaws

@@ -25,6 +25,7 @@ use Rattle.nodes.specs.Gathered.{runAt, Gathered, coveringAt}
 use Rattle.nodes.specs.Output.{Wrote, entryAt, slotHeads}
 use Rattle.nodes.specs.Room.{Begins, Block, nodesDeep, Stored, SlotsAhead}
 use Rattle.nodes.proofs.GatherLaws.{slot-records, no-child, covering-le, child-node}
+use Rattle.nodes.proofs.GatherRuns.{run-none}
 use Rattle.nodes.proofs.OutputLaws.{wrote-none, slots-zero, slots-more, slots-count, node-count}
 use Rattle.nodes.proofs.RoomBlocks.{BlockAt, slot-nested, run-length, slot-some, deep-step, block-deep}
 use Rattle.nodes.proofs.RoomWalk.{ahead-start, ahead-next, ahead-skip, ahead-end}
@@ -81,6 +82,13 @@ pub leaf-rewrite : (g d : Answer) (n a hop above : ℕ) → hopOf hop ≡ orElse
 leaf-rewrite g d n a hop above e =
     ortc-uniform smallest wide smallest-chooses (answerIn [] g d) (orElse g d) n a (hopOf above) (λ x i. refl)
     ∙ rw (← e) (leaf-entry n a hop above)
+
+-- The same of a run without records, at a depth.
+pub leaf-run : (t : List ℕ) (lo hi depth key covering fill hop above : ℕ) → hi ≤ lo → depth ≤ 35 → hopOf hop ≡ orElse (hopOf covering) (hopOf fill)
+    → ortc smallest wide (answerIn (run t lo hi) (hopOf covering) (hopOf fill)) (wide - depth) key (hopOf above) ≡ entryOver key depth hop above
+leaf-run t lo hi depth key covering fill hop above le deep e =
+    let size : wide - (wide - depth) ≡ depth = omega arith in
+    rw (run-none t lo hi le) (leaf-rewrite (hopOf covering) (hopOf fill) (wide - depth) key hop above e ∙ rw size)
 
 -- ---- A node in the room.
 
@@ -263,9 +271,17 @@ module _ {t : List ℕ} {lo hi depth key inherited fill above : ℕ} {work : Lis
         go (yes has) =
             let a = ahead-next block (slotSize depth) key (run t lo hi) (h ws b s) lt in
             rw (read has (a .0) (child-block (a .0) has (a .1)) (a .2)) (a .3)
-        go (no not) =
+        go (no none) =
             let le : getD end (31 + c) 0 ≤ getD first (31 + c) 0 = omega arith in
             rw (skipped le) (ahead-skip block (slotSize depth) key (run t lo hi) (h ws b s) lt (ap length (no-child (q .gathered) c lt le)))
+
+    -- After the slot there are few enough to count.
+    pub walking-few : {at n : ℕ} (e k : ℕ) {out₀ out : List ℕ}
+        → Walking t lo hi depth key inherited fill above work top first end covering hops entries c at n out₀ out → e ≤ 5
+        → k + 6 ≤ 8 * 2 ^ (wide - (depth + 5)) → (n + (e + k)) + (c + 1) ≤ (c + 1) * (8 * 2 ^ slotSize depth)
+    walking-few {n = n} e k h few some =
+        let less : k + 6 ≤ 8 * 2 ^ slotSize depth = rw slot-size at some in
+        slots-count (8 * 2 ^ slotSize depth) c n e k (h .count) (omega arith)
 
     -- One slot more: the entries that begin there, and then the slot's.
     pub walking-next : {at at′ n : ℕ} (e k : ℕ) {out₀ out out₁ out₂ : List ℕ}
@@ -280,8 +296,7 @@ module _ {t : List ℕ} {lo hi depth key inherited fill above : ℕ} {work : Lis
         → Begins ws at work → at′ ≡ at + length ws)
         → Walking t lo hi depth key inherited fill above work top first end covering hops entries (c + 1) at′ (n + e + k) out₀ out₂
     walking-next {n = n} e k h wrote same few own same′ some skipped read =
-        let K : k + 6 ≤ 8 * 2 ^ slotSize depth = rw slot-size at some in
-        let count = slots-count (8 * 2 ^ slotSize depth) c n e k (h .count) (omega arith) in
+        let count = walking-few e k h few some in
         record {
           within = omega arith;
           count = omega arith;
@@ -294,12 +309,11 @@ module _ {t : List ℕ} {lo hi depth key inherited fill above : ℕ} {work : Lis
   pub walking-end : {c at n : ℕ} {out₀ out : List ℕ}
       → Walking t lo hi depth key inherited fill above work top first end covering hops entries c at n out₀ out → c ≡ 32
       → (n + 6 ≤ 8 * 2 ^ (wide - depth))
-      × ((ws : List ℕ) → Block (setWords (answerIn (run t lo hi) (hopOf inherited) (hopOf fill))) (nodesDeep depth) key (run t lo hi) ws → Begins ws top work → at ≡ top + length ws)
-      × Wrote (ortc smallest wide (answerIn (run t lo hi) (hopOf inherited) (hopOf fill)) (wide - depth) key (hopOf above)) 0 n out₀ out
+      × (((ws : List ℕ) → Block (setWords (answerIn (run t lo hi) (hopOf inherited) (hopOf fill))) (nodesDeep depth) key (run t lo hi) ws → Begins ws top work → at ≡ top + length ws)
+      × Wrote (ortc smallest wide (answerIn (run t lo hi) (hopOf inherited) (hopOf fill)) (wide - depth) key (hopOf above)) 0 n out₀ out)
   walking-end {c} {at} {n} {out₀} {out} h z =
       let size : wide - depth ≡ slotSize depth + 5 = omega (arith, q .node .deep) in
       let count : n + 32 ≤ 8 * 2 ^ (slotSize depth + 5) = node-count (slotSize depth) n (rw z at (h .count)) in (
         rw size (omega arith),
-        λ ws b s. ahead-end _ _ _ _ (h .ahead ws b s) z,
-        rw (q .rewritten) (rw z at (h .wrote)),
+        (λ ws b s. ahead-end _ _ _ _ (h .ahead ws b s) z, rw (q .rewritten) (rw z at (h .wrote))),
       )

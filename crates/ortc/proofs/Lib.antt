@@ -1,3 +1,5 @@
 -- The laws of ortc.
+pub mod PackedLaws
+pub mod AssignLaws
 pub mod SlotLaws
 pub mod RewriteLaws

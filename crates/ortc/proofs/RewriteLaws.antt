@@ -1,21 +1,18 @@
 -- The second walk of a node: its rewrite by its slots, the rewrite of a slot without routes, and the loop over the slots, a step at a time.
-use Prim.Native.Nat.{ℕ, zero, suc, _+_, _-_, _*_, _/_, _^_, _≤_, _<_}
+use Prim.Native.Nat.{ℕ, _+_, _-_, _*_, _/_, _^_, _≤_, _<_}
 use mathlib.Core.Path.{_≡_, refl, sym, ap, _∙_}
-use mathlib.Core.Bool.{Bool, true, false, not}
 use mathlib.Core.List.{List, []}
 use native.Mathlib.Decide.{decLt}
 use native.Mathlib.Omega.{arith}
-use lib.Dec.{eqb, ltb}
 use lib.ListN.{length, getD}
-use borrow.Author.Tests.{eq-eqb, ne-eqb, eqb-true, eqb-false, ltb-true, ltb-false}
 use Rattle.theory.specs.Routes.{Route, Answer}
-use Rattle.theory.specs.Results.{leaf, here, smallest, ortc}
+use Rattle.theory.specs.Results.{smallest, ortc}
 use Rattle.theory.proofs.Agree.{ortc-agree}
 use Rattle.theory.proofs.Chosen.{smallest-chooses}
 use Rattle.theory.proofs.Quick.{ortc-uniform}
 use Rattle.words.specs.Positions.{position}
 use Rattle.positions.specs.Runs.{inside, hopOf, orElse, sizeAt, placeAt}
-use Rattle.positions.specs.Walk.{walk, stateOf, stateAt, slots}
+use Rattle.positions.specs.Walk.{walk, stateAt, slots}
 use Rattle.positions.specs.Walks.{ortcOut, ortcNext}
 use Rattle.positions.proofs.Modes.{ortc-walk}
 use Rattle.positions.proofs.Runs.{inside-all}
@@ -29,8 +26,10 @@ use Rattle.nodes.proofs.GatherRuns.{run-none}
 use Rattle.nodes.proofs.OutputLaws.{wrote-none, slots-zero, slots-more, slots-count, node-count}
 use Rattle.nodes.proofs.RoomBlocks.{BlockAt, slot-nested, run-length, slot-some, deep-step, block-deep}
 use Rattle.nodes.proofs.RoomWalk.{ahead-start, ahead-next, ahead-skip, ahead-end}
+use Rattle.words.specs.Bits.{bit}
 use Rattle.ortc.specs.Answers.{answerIn, ShowsNode, setWords, assignedAt, entryOver}
 use Rattle.ortc.specs.Packed.{packed}
+use Rattle.ortc.proofs.AssignLaws.{state-assigned, AssignedHop, hasEntry, leaf-entry, entries-are}
 use Rattle.ortc.proofs.SlotLaws.{records-agree, sets-block}
 
 -- ---- A node's rewrite, by its slots.
@@ -41,12 +40,6 @@ ownEntry f m a g l j =
     ortcOut smallest wide f (sizeAt m l) (placeAt m a l j) (stateAt (ortcOut smallest wide f) (ortcNext smallest f) m a g l j)
 
 module _ (f : ℕ → Answer) (m a : ℕ) (g : Answer) where
-  -- The state below a position is what the position is assigned.
-  state-assigned : (l j : ℕ) → stateAt (ortcOut smallest wide f) (ortcNext smallest f) m a g (suc l) j ≡ assignedAt f m a g l (j / 2)
-  unfolding stateOf assignedAt
-  state-assigned zero j = refl
-  state-assigned (suc l) j = ap (ortcNext smallest f (sizeAt m (suc l)) (placeAt m a (suc l) (j / 2))) (state-assigned l (j / 2))
-
   -- Its own entries, and at each slot the rewrite of the slot under what the position above it is assigned.
   pub rewrite-slots :
       ortc smallest wide f (m + 5) a g
@@ -58,37 +51,21 @@ module _ (f : ℕ → Answer) (m a : ℕ) (g : Answer) where
       (λ c. walk (ortcOut smallest wide f) (ortcNext smallest f) m (placeAt m a 5 c) (stateAt (ortcOut smallest wide f) (ortcNext smallest f) m a g 5 c))
       (λ c. ortc smallest wide f m (placeAt m a 5 c) (assignedAt f m a g 4 (c / 2)))
       (λ c lt.
-      rw (state-assigned 4 c)
+      rw (state-assigned f m a g 5 c)
       (sym (ortc-walk smallest wide f m (placeAt m a 5 c) (assignedAt f m a g 4 (c / 2)))))
       32 (omega arith)
 
--- ---- A position without routes.
+-- ---- A region without routes.
 
--- The entry of a position whose addresses have one answer.
-pub leaf-entry : (n a hop above : ℕ) → here smallest wide (leaf (hopOf hop)) n a (hopOf above) ≡ entryOver a (wide - n) hop above
-leaf-entry n a hop above = go (ltb hop 64) (ltb above 64) (eqb hop above) refl refl refl
-  where
-    go : (h k e : Bool) → ltb hop 64 ≡ h → ltb above 64 ≡ k → eqb hop above ≡ e
-        → here smallest wide (leaf (hopOf hop)) n a (hopOf above) ≡ entryOver a (wide - n) hop above
-    go true true true p q r = rw (p, q, r, eq-eqb above hop (sym (eqb-true hop above r)))
-    go true true false p q r = rw (p, q, r, ne-eqb above hop (λ z. eqb-false hop above r (sym z)))
-    go true false e p q r = rw (p, q, ne-eqb hop above (λ z. omega (arith, ltb-false above 64 q, ltb-true hop 64 p)))
-    go false k true p q r = rw (p, r)
-    go false k false p q r = rw (p, r)
-
--- Its rewrite, where the hop says what covers the position or else fills.
-pub leaf-rewrite : (g d : Answer) (n a hop above : ℕ) → hopOf hop ≡ orElse g d
-    → ortc smallest wide (answerIn [] g d) n a (hopOf above) ≡ entryOver a (wide - n) hop above
-leaf-rewrite g d n a hop above e =
-    ortc-uniform smallest wide smallest-chooses (answerIn [] g d) (orElse g d) n a (hopOf above) (λ x i. refl)
-    ∙ rw (← e) (leaf-entry n a hop above)
-
--- The same of a run without records, at a depth.
-pub leaf-run : (t : List ℕ) (lo hi depth key covering fill hop above : ℕ) → hi ≤ lo → depth ≤ 35 → hopOf hop ≡ orElse (hopOf covering) (hopOf fill)
+-- Its rewrite is one entry at most, by the hop that covers it or else fills.
+pub leaf-rewrite : (t : List ℕ) (lo hi depth key covering fill hop above : ℕ) → hi ≤ lo → depth ≤ 35 → hop ≤ 64 → above ≤ 64
+    → hopOf hop ≡ orElse (hopOf covering) (hopOf fill)
     → ortc smallest wide (answerIn (run t lo hi) (hopOf covering) (hopOf fill)) (wide - depth) key (hopOf above) ≡ entryOver key depth hop above
-leaf-run t lo hi depth key covering fill hop above le deep e =
-    let size : wide - (wide - depth) ≡ depth = omega arith in
-    rw (run-none t lo hi le) (leaf-rewrite (hopOf covering) (hopOf fill) (wide - depth) key hop above e ∙ rw size)
+leaf-rewrite t lo hi depth key covering fill hop above none deep hop-low above-low e =
+    rw (run-none t lo hi none)
+    (ortc-uniform smallest wide smallest-chooses (answerIn [] (hopOf covering) (hopOf fill)) (orElse (hopOf covering) (hopOf fill)) (wide - depth) key
+    (hopOf above) (λ x i. refl)
+    ∙ rw (← e) (sym (leaf-entry (wide - depth) key depth hop above (omega arith) hop-low above-low)))
 
 -- ---- A node in the room.
 
@@ -140,17 +117,15 @@ pub record Walking (t : List ℕ) (lo hi depth key inherited fill above : ℕ) (
   pub ahead : Ahead (answerIn (run t lo hi) (hopOf inherited) (hopOf fill)) (run t lo hi) depth key top work c at
 
 module _ {t : List ℕ} {lo hi depth key : ℕ} {first end : List ℕ} {present : ℕ} (n : Node t lo hi depth key)
-    (g : Gathered t lo hi depth key first end present) (inherited fill above : ℕ) (inherited-low : inherited ≤ 64) where
+    (g : Gathered t lo hi depth key first end present) (inherited fill above : ℕ) (inherited-low : inherited ≤ 64) (above-low : above ≤ 64) where
+  -- By what the passes over the node find.
   pub opened : {work : List ℕ} {top : ℕ} {covering hops : List ℕ} {entries : ℕ}
       → Stored (setWords (answerIn (run t lo hi) (hopOf inherited) (hopOf fill))) (nodesDeep depth) key (run t lo hi) top work
       → ((l j : ℕ) → l ≤ 4 → j < 2 ^ l → getD covering (position l j) 0 ≡ coveringAt t first end inherited l j)
-      → ((l j : ℕ) → l ≤ 4 → j < 2 ^ l → (getD hops (position l j) 0 ≤ 64)
-      × (hopOf (getD hops (position l j) 0)
-      ≡ assignedAt (answerIn (run t lo hi) (hopOf inherited) (hopOf fill)) (slotSize depth) key (hopOf above) l j))
-      → ((l j : ℕ) → l < 5 → j < 2 ^ l
-      → ownEntry (answerIn (run t lo hi) (hopOf inherited) (hopOf fill)) (slotSize depth) key (hopOf above) l j ≡ entryAt entries hops depth key l j)
+      → ((l j : ℕ) → l ≤ 4 → j < 2 ^ l → AssignedHop (answerIn (run t lo hi) (hopOf inherited) (hopOf fill)) (slotSize depth) key above hops l j)
+      → ((b : ℕ) → b < 31 → bit entries b ≡ hasEntry hops above b)
       → Opened t lo hi depth key inherited fill above work top first end covering hops entries
-  opened {work} {top} {covering} {hops} {entries} s cover assigned own =
+  opened {work} {top} {covering} {hops} {entries} s cover assigned bits =
       record {
         node = n;
         present = present;
@@ -160,7 +135,8 @@ module _ {t : List ℕ} {lo hi depth key : ℕ} {first end : List ℕ} {present 
         hops-low = λ c lt. assigned 4 (c / 2) (omega arith) (omega arith) .0;
         rewritten =
             rw size (rewrite-slots f (slotSize depth) key (hopOf above))
-            ∙ slots-agree 5 (ownEntry f (slotSize depth) key (hopOf above)) (entryAt entries hops depth key) own
+            ∙ slots-agree 5 (ownEntry f (slotSize depth) key (hopOf above)) (entryAt entries hops depth key)
+            (λ l j lt small. sym (entries-are f depth key above entries hops (shown .0) (n .deep) above-low (shown .1) assigned bits l j (omega arith) small))
             (λ c. ortc smallest wide f (slotSize depth) (placeAt (slotSize depth) key 5 c) (assignedAt f (slotSize depth) key (hopOf above) 4 (c / 2)))
             (slotRewrite t first end covering hops depth key fill) slot 32 (omega arith);
         stored = s;
@@ -171,6 +147,9 @@ module _ {t : List ℕ} {lo hi depth key : ℕ} {first end : List ℕ} {present 
 
       size : wide - depth ≡ slotSize depth + 5
       size = omega (arith, n .deep)
+
+      shown : (xs : List ℕ) × ShowsNode f (slotSize depth) key xs × Begins (packed xs) top work
+      shown = own-stored n s
 
       covers : (c : ℕ) → c < 32 → getD covering (15 + c / 2) 0 ≡ coveringAt t first end inherited 4 (c / 2)
       covers c lt = cover 4 (c / 2) (omega arith) (omega arith)

@@ -1,0 +1,2 @@
+-- The laws of ortc.
+pub mod CollectLaws

@@ -19,10 +19,11 @@ use Rattle.positions.proofs.RunsNode.{place-nested, above-lt, slot-answer}
 use Rattle.hops.specs.Sets.{ShowsSet}
 use Rattle.nodes.specs.Node.{wide, run, slotSize, Node}
 use Rattle.nodes.specs.Gathered.{runAt, Gathered, coveringAt}
-use Rattle.nodes.specs.Room.{Pushed, Block, nodesDeep, nodesBelow, Laid, SlotsLaid}
+use Rattle.nodes.specs.Room.{Pushed, Block, nodesDeep, slotNodes, nodesBelow, Laid, SlotsLaid}
 use Rattle.nodes.proofs.GatherLaws.{node-run, slot-records, no-child, covering-is}
+use Rattle.nodes.proofs.RoomLaws.{pushed-length}
 use Rattle.nodes.proofs.RoomBlocks.{run-length, slot-some, deep-step, block-deep, block-agree}
-use Rattle.nodes.proofs.RoomSizes.{Sized, nodes-below-deep, block-length}
+use Rattle.nodes.proofs.RoomSizes.{Sized, nodes-below-deep, block-length, room-child}
 use Rattle.nodes.proofs.RoomWalk.{laid-start, laid-next, laid-skip, laid-own}
 use Rattle.ortc.specs.Packed.{stored, low, high, wordsOf, packed}
 use Rattle.ortc.specs.Answers.{answerIn, ShowsNode, setWords}
@@ -104,6 +105,15 @@ collecting-start {t} {lo} {hi} {depth} {key} f top slots o n room e =
           (rw (nodes-below-deep depth (n .level) key (run t lo hi) (n .fives) (n .deep)) at room);
     }
 
+-- What is laid ends in the room, and there is room for the node's own words.
+pub collecting-within : {f : ℕ → Answer} {depth key : ℕ} {t : List Route} {c top at : ℕ} {slots o o₁ : List ℕ}
+    → Collecting f depth key t c top at slots o o₁ → top ≤ length o → (length o₁ ≡ length o) × ((63 ≤ at) × (at ≤ length o₁))
+collecting-within h le =
+    let e = pushed-length (h .laid .pushed) le in
+    let ends = h .laid .pushed .ends in
+    let room = h .laid .room in
+    (e, (omega arith, omega arith))
+
 -- One more slot, by its set.
 collecting-set : {f : ℕ → Answer} {depth key : ℕ} {t : List Route} {b c top at r : ℕ} {slots o o₁ o₂ : List ℕ}
     → Collecting f depth key t b top at slots o o₁ → b ≡ c + 1 → b ≤ 32
@@ -147,6 +157,12 @@ module _ {t : List ℕ} {lo hi depth key : ℕ} {first end : List ℕ} {present 
   slot-sets : sets inNode (slotSize depth) (placeAt (slotSize depth) key 5 c) ≡ sets inSlot (slotSize depth) (placeAt (slotSize depth) key 5 c)
   slot-sets = sets-agree inNode inSlot (slotSize depth) (placeAt (slotSize depth) key 5 c) slot-alike
 
+  slot-some-routes : getD first (31 + c) 0 < getD end (31 + c) 0
+      → 0 < length (inside wide (slotSize depth) (placeAt (slotSize depth) key 5 c) (run t lo hi))
+  slot-some-routes some =
+      subst (λ (rs : List Route). 0 < length rs) (slot-records g c small)
+      (omega (arith, run-length t (getD first (31 + c) 0) (getD end (31 + c) 0)))
+
   -- A slot without records has one answer.
   pub leaf-sets : getD end (31 + c) 0 ≤ getD first (31 + c) 0
       → sets inNode (slotSize depth) (placeAt (slotSize depth) key 5 c) ≡ leaf (orElse (hopOf cov) (hopOf fill))
@@ -165,7 +181,14 @@ module _ {t : List ℕ} {lo hi depth key : ℕ} {first end : List ℕ} {present 
         (laid-skip 160 _ _ (slotSize depth) key (run t lo hi) (sets-sized inNode (nodesDeep (depth + 5))) (h .laid) e le within
         (ap length (no-child g c small none)))
 
-    -- or by the node in it.
+    -- or by the node in it, for which there is room.
+    pub collecting-room : getD first (31 + c) 0 < getD end (31 + c) 0 → (slot : ℕ) → slot ≡ placeAt (slotSize depth) key 5 c
+        → 160 * nodesBelow (nodesDeep (depth + 5)) slot slotRoutes ≤ at
+    collecting-room some slot here =
+        let room : 160 * (1 + slotNodes (nodesBelow (nodesDeep (depth + 5))) (slotSize depth) key (run t lo hi) (c + 1)) ≤ at = rw e at (h .laid .room) in
+        rw (here, slot-records g c small)
+        (room-child 160 (nodesBelow (nodesDeep (depth + 5))) (slotSize depth) key (run t lo hi) c at room (slot-some-routes some))
+
     pub collecting-child : getD first (31 + c) 0 < getD end (31 + c) 0 → (slot v : ℕ) {r : ℕ} {o₂ : List ℕ} → slot ≡ placeAt (slotSize depth) key 5 c
         → ShowsSet v (sets inSlot (wide - (depth + 5)) slot)
         → Laid (setWords inSlot) (nodesDeep (depth + 5)) slot slotRoutes at r o₁ o₂
@@ -179,11 +202,9 @@ module _ {t : List ℕ} {lo hi depth key : ℕ} {first end : List ℕ} {present 
         rw routes (inside-nested wide (nested-self (slotSize depth) place) (run t lo hi)) in
         let block : Block (setWords inNode) (nodesDeep (depth + 5)) place slotRoutes (laid .words) =
         sets-block (nodesDeep (depth + 5)) place slotRoutes (laid .words) (rw d whole) (λ x i. sym (slot-alike x (rw d at i))) (rw here at (laid .block)) in
-        let count : 0 < length (inside wide (slotSize depth) place (run t lo hi)) =
-        subst (λ (rs : List Route). 0 < length rs) routes (omega (arith, run-length t (getD first (31 + c) 0) (getD end (31 + c) 0))) in
         collecting-set h e le v (rw slot-sets (rw (size, here) at shows))
         (laid-next 160 _ _ (slotSize depth) key (run t lo hi) (sets-sized inNode (nodesDeep (depth + 5))) (h .laid) e le within
-        (slot-some _ place (inside wide (slotSize depth) place (run t lo hi)) (laid .words) count .1
+        (slot-some _ place (inside wide (slotSize depth) place (run t lo hi)) (laid .words) (slot-some-routes some) .1
         (subst (λ (rs : List Route). Block (setWords inNode) (nodesDeep (depth + 5)) place rs (laid .words)) routes block))
         (laid .pushed))
 

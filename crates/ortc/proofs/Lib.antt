@@ -1,2 +1,4 @@
 -- The laws of ortc.
+pub mod PackedLaws
+pub mod AssignLaws
 pub mod CollectLaws

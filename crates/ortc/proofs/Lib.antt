@@ -2,4 +2,5 @@
 pub mod PackedLaws
 pub mod AssignLaws
 pub mod SlotLaws
+pub mod CollectLaws
 pub mod RewriteLaws

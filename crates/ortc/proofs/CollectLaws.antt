@@ -1,5 +1,5 @@
 -- The first walk of a node: its sets and its blocks by those of its slots, from the last slot to the first.
-use Prim.Native.Nat.{ℕ, zero, suc, _+_, _-_, _*_, _/_, _^_, _≤_, _<_}
+use Prim.Native.Nat.{ℕ, zero, suc, _+_, _-_, _*_, _/_, _≤_, _<_}
 use mathlib.Core.Path.{_≡_, refl, sym, ap, subst, _∙_}
 use mathlib.Core.Bool.{Bool, true, false, cond}
 use mathlib.Core.List.{List, [], _∷_}
@@ -8,54 +8,25 @@ use native.Mathlib.Nat.{eq-or-lt-of-le}
 use native.Mathlib.Omega.{arith}
 use lib.ListN.{length, getD, set, length-set}
 use lib.Seq.{getD-set-same, getD-set-other}
-use Rattle.theory.specs.Routes.{Route, Answer, lookup, under}
-use Rattle.theory.specs.Results.{In, Cand, leaf, sets}
-use Rattle.theory.proofs.Agree.{Agree, sets-agree}
+use Rattle.theory.specs.Routes.{Route, Answer}
+use Rattle.theory.specs.Results.{leaf, sets}
+use Rattle.theory.proofs.Agree.{sets-agree}
 use Rattle.theory.proofs.Uniform.{sets-uniform}
-use Rattle.words.specs.Positions.{position}
-use Rattle.positions.specs.Runs.{inside, hopOf, orElse, sizeAt, placeAt, cover}
-use Rattle.positions.proofs.Runs.{Nested, nested-self, inside-nested, Run}
-use Rattle.positions.proofs.RunsNode.{place-nested, above-lt, slot-answer}
+use Rattle.positions.specs.Runs.{hopOf, orElse, placeAt}
 use Rattle.hops.specs.Sets.{ShowsSet}
 use Rattle.nodes.specs.Node.{wide, run, slotSize, Node}
 use Rattle.nodes.specs.Gathered.{runAt, Gathered, coveringAt}
 use Rattle.nodes.specs.Room.{Pushed, Block, nodesDeep, slotNodes, nodesBelow, Laid, SlotsLaid}
-use Rattle.nodes.proofs.GatherLaws.{node-run, slot-records, no-child, covering-is}
+use Rattle.nodes.proofs.GatherLaws.{slot-records, no-child}
 use Rattle.nodes.proofs.RoomLaws.{pushed-length}
-use Rattle.nodes.proofs.RoomBlocks.{run-length, slot-some, deep-step, block-deep, block-agree}
+use Rattle.nodes.proofs.RoomBlocks.{block-deep}
 use Rattle.nodes.proofs.RoomSizes.{Sized, nodes-below-deep, block-length, room-child}
 use Rattle.nodes.proofs.RoomWalk.{laid-start, laid-next, laid-skip, laid-own}
-use Rattle.ortc.specs.Packed.{stored, low, high, wordsOf, packed}
 use Rattle.ortc.specs.Answers.{answerIn, ShowsNode, setWords}
+use Rattle.ortc.specs.Packed.{stored, low, high, wordsOf, packed}
+use Rattle.ortc.proofs.SlotLaws.{slot-alike, slot-some-routes, slot-block}
 
--- ---- The answers in a slot.
-
--- An address of a slot is answered in its node as by the slot's own routes, where what covers the position above the slot covers them.
-pub slot-agree : (m a : ℕ) {t : List Route} → Run wide (m + 5) a t → (g d : Answer) (c : ℕ) → c < 32
-    → Agree (answerIn t g d) (answerIn (inside wide m (placeAt m a 5 c) t) (cover wide m a t g 4 (c / 2)) d) m (placeAt m a 5 c)
-slot-agree m a n g d c lt x i = ap (λ (v : Answer). orElse v d) (slot-answer wide m a n g c x lt i)
-
--- ---- The sets of a node, by two functions that agree on its addresses.
-
-module _ {f f′ : ℕ → Answer} where
-  -- Those that show by one show by the other.
-  pub node-agree : (m a : ℕ) (xs : List ℕ) → Agree f f′ (m + 5) a → ShowsNode f m a xs → ShowsNode f′ m a xs
-  node-agree m a xs h s =
-      record {
-        count = s .count;
-        places = λ l j le lt.
-            let i = place-nested m a l j le lt in
-            subst (ShowsSet (getD xs (position l j) 0))
-            (sets-agree f f′ (sizeAt m l) (placeAt m a l j) (λ x e. h x (omega (arith, e, i .from, i .upto))))
-            (s .places l j le lt);
-      }
-
-  -- A block of the one is a block of the other.
-  pub sets-block : (k a : ℕ) (t : List Route) (ws : List ℕ) → inside wide (5 * k) a t ≡ t → Agree f f′ (5 * k) a
-      → Block (setWords f) k a t ws → Block (setWords f′) k a t ws
-  sets-block k a t ws whole h =
-      block-agree (setWords f) (setWords f′) k a t ws whole
-      (λ m b s u i e w. (w .0, node-agree m b (w .0) (λ x n. h x (omega (arith, n, i .from, i .upto))) (w .1), w .2))
+-- ---- The words of a node.
 
 -- The first set of a node is the node's.
 pub node-set : {f : ℕ → Answer} {m a : ℕ} {xs : List ℕ} → ShowsNode f m a xs → ShowsSet (getD xs 0 0) (sets f (m + 5) a)
@@ -147,21 +118,8 @@ module _ {t : List ℕ} {lo hi depth key : ℕ} {first end : List ℕ} {present 
   small : c < 32
   small = omega arith
 
-  covered : hopOf cov ≡ cover wide (slotSize depth) key (run t lo hi) (hopOf inherited) 4 (c / 2)
-  covered = ap hopOf is ∙ covering-is n g inherited 4 (c / 2) (omega arith) (above-lt 4 c small)
-
-  -- They answer the addresses of the slot alike.
-  pub slot-alike : Agree inNode inSlot (slotSize depth) (placeAt (slotSize depth) key 5 c)
-  slot-alike = rw (slot-records g c small, covered) (slot-agree (slotSize depth) key (node-run n) (hopOf inherited) (hopOf fill) c small)
-
   slot-sets : sets inNode (slotSize depth) (placeAt (slotSize depth) key 5 c) ≡ sets inSlot (slotSize depth) (placeAt (slotSize depth) key 5 c)
-  slot-sets = sets-agree inNode inSlot (slotSize depth) (placeAt (slotSize depth) key 5 c) slot-alike
-
-  slot-some-routes : getD first (31 + c) 0 < getD end (31 + c) 0
-      → 0 < length (inside wide (slotSize depth) (placeAt (slotSize depth) key 5 c) (run t lo hi))
-  slot-some-routes some =
-      subst (λ (rs : List Route). 0 < length rs) (slot-records g c small)
-      (omega (arith, run-length t (getD first (31 + c) 0) (getD end (31 + c) 0)))
+  slot-sets = sets-agree inNode inSlot (slotSize depth) (placeAt (slotSize depth) key 5 c) (slot-alike n g inherited fill c small is)
 
   -- A slot without records has one answer.
   pub leaf-sets : getD end (31 + c) 0 ≤ getD first (31 + c) 0
@@ -187,7 +145,7 @@ module _ {t : List ℕ} {lo hi depth key : ℕ} {first end : List ℕ} {present 
     collecting-room some slot here =
         let room : 160 * (1 + slotNodes (nodesBelow (nodesDeep (depth + 5))) (slotSize depth) key (run t lo hi) (c + 1)) ≤ at = rw e at (h .laid .room) in
         rw (here, slot-records g c small)
-        (room-child 160 (nodesBelow (nodesDeep (depth + 5))) (slotSize depth) key (run t lo hi) c at room (slot-some-routes some))
+        (room-child 160 (nodesBelow (nodesDeep (depth + 5))) (slotSize depth) key (run t lo hi) c at room (slot-some-routes n g inherited fill c small is some))
 
     pub collecting-child : getD first (31 + c) 0 < getD end (31 + c) 0 → (slot v : ℕ) {r : ℕ} {o₂ : List ℕ} → slot ≡ placeAt (slotSize depth) key 5 c
         → ShowsSet v (sets inSlot (wide - (depth + 5)) slot)
@@ -195,17 +153,9 @@ module _ {t : List ℕ} {lo hi depth key : ℕ} {first end : List ℕ} {present 
         → Collecting inNode depth key (run t lo hi) c top r (set slots (31 + c) v) o o₂
     collecting-child some slot v here shows laid =
         let size : wide - (depth + 5) ≡ slotSize depth = omega (arith, n .deep) in
-        let d = deep-step depth (n .level) (n .fives) (n .deep) .1 in
-        let place = placeAt (slotSize depth) key 5 c in
-        let routes : slotRoutes ≡ inside wide (slotSize depth) place (run t lo hi) = slot-records g c small in
-        let whole : inside wide (slotSize depth) place slotRoutes ≡ slotRoutes =
-        rw routes (inside-nested wide (nested-self (slotSize depth) place) (run t lo hi)) in
-        let block : Block (setWords inNode) (nodesDeep (depth + 5)) place slotRoutes (laid .words) =
-        sets-block (nodesDeep (depth + 5)) place slotRoutes (laid .words) (rw d whole) (λ x i. sym (slot-alike x (rw d at i))) (rw here at (laid .block)) in
         collecting-set h e le v (rw slot-sets (rw (size, here) at shows))
         (laid-next 160 _ _ (slotSize depth) key (run t lo hi) (sets-sized inNode (nodesDeep (depth + 5))) (h .laid) e le within
-        (slot-some _ place (inside wide (slotSize depth) place (run t lo hi)) (laid .words) (slot-some-routes some) .1
-        (subst (λ (rs : List Route). Block (setWords inNode) (nodesDeep (depth + 5)) place rs (laid .words)) routes block))
+        (slot-block n g inherited fill c small is some (laid .words) .1 (rw here at (laid .block)))
         (laid .pushed))
 
 -- After the first slot the node's own words are laid.

@@ -11,26 +11,25 @@ use Rattle.theory.proofs.Agree.{ortc-agree}
 use Rattle.theory.proofs.Chosen.{smallest-chooses}
 use Rattle.theory.proofs.Quick.{ortc-uniform}
 use Rattle.words.specs.Positions.{position}
-use Rattle.positions.specs.Runs.{inside, hopOf, orElse, sizeAt, placeAt}
+use Rattle.positions.specs.Runs.{hopOf, orElse, sizeAt, placeAt}
 use Rattle.positions.specs.Walk.{walk, stateAt, slots}
 use Rattle.positions.specs.Walks.{ortcOut, ortcNext}
 use Rattle.positions.proofs.Modes.{ortc-walk}
-use Rattle.positions.proofs.Runs.{inside-all}
 use Rattle.positions.proofs.Slots.{walk-slots, slots-agree}
 use Rattle.nodes.specs.Node.{wide, run, slotSize, Node}
 use Rattle.nodes.specs.Gathered.{runAt, Gathered, coveringAt}
 use Rattle.nodes.specs.Output.{Wrote, entryAt, slotHeads}
 use Rattle.nodes.specs.Room.{Begins, Block, nodesDeep, Stored, SlotsAhead}
-use Rattle.nodes.proofs.GatherLaws.{slot-records, no-child, covering-le, child-node}
+use Rattle.nodes.proofs.GatherLaws.{no-child, covering-le}
 use Rattle.nodes.proofs.GatherRuns.{run-none}
 use Rattle.nodes.proofs.OutputLaws.{wrote-none, slots-zero, slots-more, slots-count, node-count}
-use Rattle.nodes.proofs.RoomBlocks.{BlockAt, slot-nested, run-length, slot-some, deep-step, block-deep}
+use Rattle.nodes.proofs.RoomBlocks.{slot-nested, block-deep}
 use Rattle.nodes.proofs.RoomWalk.{ahead-start, ahead-next, ahead-skip, ahead-end}
 use Rattle.words.specs.Bits.{bit}
 use Rattle.ortc.specs.Answers.{answerIn, ShowsNode, setWords, assignedAt, entryOver}
 use Rattle.ortc.specs.Packed.{packed}
 use Rattle.ortc.proofs.AssignLaws.{state-assigned, AssignedHop, hasEntry, leaf-entry, entries-are}
-use Rattle.ortc.proofs.SlotLaws.{records-agree, sets-block}
+use Rattle.ortc.proofs.SlotLaws.{slot-alike, slot-block}
 
 -- ---- A node's rewrite, by its slots.
 
@@ -159,10 +158,10 @@ module _ {t : List ℕ} {lo hi depth key : ℕ} {first end : List ℕ} {present 
           ≡ slotRewrite t first end covering hops depth key fill c
       slot c lt =
           let e : wide - (depth + 5) ≡ slotSize depth = omega (arith, n .deep) in
-          rw (covers c lt, assigned 4 (c / 2) (omega arith) (omega arith) .1, e)
-          (ortc-agree f (answerIn (runAt t first end (31 + c)) (hopOf (coveringAt t first end inherited 4 (c / 2))) (hopOf fill)) smallest wide
+          rw (assigned 4 (c / 2) (omega arith) (omega arith) .1, e)
+          (ortc-agree f (answerIn (runAt t first end (31 + c)) (hopOf (getD covering (15 + c / 2) 0)) (hopOf fill)) smallest wide
           (slotSize depth) (placeAt (slotSize depth) key 5 c) (assignedAt f (slotSize depth) key (hopOf above) 4 (c / 2))
-          (records-agree n g inherited (hopOf fill) c lt))
+          (slot-alike n g inherited fill c lt (covers c lt)))
 
 -- ---- The loop over the slots.
 
@@ -197,29 +196,7 @@ module _ {t : List ℕ} {lo hi depth key inherited fill above : ℕ} {work : Lis
         let small : key + 2 ^ (slotSize depth + 5) ≤ 2 ^ wide = rw s at (q .node .small) in
         rw slot-size (omega (arith, slot-nested (slotSize depth) key c lt .upto))
 
-    -- The block of a slot with records is that of the slot's own node.
-    pub child-block : (u : List ℕ) → getD first (31 + c) 0 < getD end (31 + c) 0
-        → BlockAt (Block (setWords (answerIn (run t lo hi) (hopOf inherited) (hopOf fill))) (nodesDeep (depth + 5))) (slotSize depth) key (run t lo hi) c u
-        → Block (setWords (answerIn (runAt t first end (31 + c)) (hopOf (getD covering (15 + c / 2) 0)) (hopOf fill))) (nodesDeep (depth + 5))
-        (placeAt (slotSize depth) key 5 c) (runAt t first end (31 + c)) u
-    child-block u has b =
-        let n = q .node in
-        let g = q .gathered in
-        let child = child-node n g c lt has in
-        let d = deep-step depth (n .level) (n .fives) (n .deep) in
-        let r = slot-records g c lt in
-        let some : 0 < length (inside wide (slotSize depth) (placeAt (slotSize depth) key 5 c) (run t lo hi)) =
-        rw (← r) (omega (arith, run-length t (getD first (31 + c) 0) (getD end (31 + c) 0))) in
-        let block : Block (setWords (answerIn (run t lo hi) (hopOf inherited) (hopOf fill))) (nodesDeep (depth + 5)) (placeAt (slotSize depth) key 5 c)
-        (runAt t first end (31 + c)) u =
-        rw r (slot-some (Block (setWords (answerIn (run t lo hi) (hopOf inherited) (hopOf fill))) (nodesDeep (depth + 5))) (placeAt (slotSize depth) key 5 c)
-        (inside wide (slotSize depth) (placeAt (slotSize depth) key 5 c) (run t lo hi)) u some .0 b) in
-        let whole : inside wide (5 * nodesDeep (depth + 5)) (placeAt (slotSize depth) key 5 c) (runAt t first end (31 + c)) ≡ runAt t first end (31 + c) =
-        rw (d .1 ∙ sym slot-size) (inside-all wide (wide - (depth + 5)) (placeAt (slotSize depth) key 5 c) (child .within)) in
-        rw (q .covers c lt) (sets-block (nodesDeep (depth + 5)) (placeAt (slotSize depth) key 5 c) (runAt t first end (31 + c)) u whole
-        (rw (d .1) (records-agree n g inherited (hopOf fill) c lt)) block)
-
-    -- It stands in the room, where the walk has come to the slot.
+    -- The block of a slot with records stands in the room, where the walk has come to the slot.
     pub child-stored : {at : ℕ} → Ahead (answerIn (run t lo hi) (hopOf inherited) (hopOf fill)) (run t lo hi) depth key top work c at
         → getD first (31 + c) 0 < getD end (31 + c) 0
         → Stored (setWords (answerIn (runAt t first end (31 + c)) (hopOf (getD covering (15 + c / 2) 0)) (hopOf fill))) (nodesDeep (depth + 5))
@@ -228,7 +205,7 @@ module _ {t : List ℕ} {lo hi depth key inherited fill above : ℕ} {work : Lis
         let s = q .stored in
         let f = answerIn (run t lo hi) (hopOf inherited) (hopOf fill) in
         let a = ahead-next (Block (setWords f) (nodesDeep (depth + 5))) (slotSize depth) key (run t lo hi) (h (s .words) (s .block) (s .begins)) lt in
-        record { words = a .0; block = child-block (a .0) has (a .1); begins = a .2 }
+        record { words = a .0; block = slot-block (q .node) (q .gathered) inherited fill c lt (q .covers c lt) has (a .0) .0 (a .1); begins = a .2 }
 
     -- The walk of the slot has read its block, if it has one.
     pub ahead-child : {at at′ : ℕ} → Ahead (answerIn (run t lo hi) (hopOf inherited) (hopOf fill)) (run t lo hi) depth key top work c at
@@ -249,7 +226,7 @@ module _ {t : List ℕ} {lo hi depth key inherited fill above : ℕ} {work : Lis
         go : Dec (getD first (31 + c) 0 < getD end (31 + c) 0) → SlotsAhead block (slotSize depth) key (run t lo hi) (c + 1) at′ (top + length ws) work
         go (yes has) =
             let a = ahead-next block (slotSize depth) key (run t lo hi) (h ws b s) lt in
-            rw (read has (a .0) (child-block (a .0) has (a .1)) (a .2)) (a .3)
+            rw (read has (a .0) (slot-block (q .node) (q .gathered) inherited fill c lt (q .covers c lt) has (a .0) .0 (a .1)) (a .2)) (a .3)
         go (no none) =
             let le : getD end (31 + c) 0 ≤ getD first (31 + c) 0 = omega arith in
             rw (skipped le) (ahead-skip block (slotSize depth) key (run t lo hi) (h ws b s) lt (ap length (no-child (q .gathered) c lt le)))

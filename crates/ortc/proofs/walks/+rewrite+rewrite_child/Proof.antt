@@ -92,10 +92,13 @@ rewrite-assign-nodes-requires t c κs =
 rewrite-loop-holds : (t : ℕ) → rewrite-lts.Need-loop-holds (rewrite-claims t) (rewrite-at t) rewrite.Post Inv-loop μ-loop
 rewrite-loop-holds t c =
     let pre = c .before .before .before .before .before .before .before .before .before .before .before .pre .1 in
+    let low = pre .1 .0 in
     let s = own-stored (pre .0) (pre .1 .1) in
-    let o = opened (pre .0) (c .before .before .before .before .before .gather .ensures) _ _ _ (pre .1 .0 .0) (pre .1 .0 .1 .1) (pre .1 .1) (c .before .before .covering-values .ensures)
-    (c .before .assign-nodes .ensures .1 .0 _ _ _ (s .0) (s .1) (s .2)) (c .before .assign-nodes .ensures .1 .1) in
-    (o, walking-start o _ _ (c .before .assign-nodes .ensures .0))
+    let found = c .before .before .before .before .before .gather .ensures in
+    let does = c .before .assign-nodes .ensures in
+    let o =
+    opened (pre .0) found _ _ _ (low .0) (low .1 .1) (pre .1 .1) (c .before .before .covering-values .ensures) (does .1 .0 _ _ _ (s .0) (s .1) (s .2)) (does .1 .1) in
+    (o, walking-start o _ _ (does .0))
 
 rewrite-slot-key-requires : (t : ℕ) → rewrite-lts.Need-slot-key-requires (rewrite-claims t) (rewrite-at t) rewrite.Post Inv-loop μ-loop
 rewrite-slot-key-requires t c κs =
@@ -123,8 +126,9 @@ rewrite-emit-slot-requires t c κs =
 rewrite-add-n : (t : ℕ) → rewrite-lts.Need-add-n (rewrite-claims t) (rewrite-at t) rewrite.Post Inv-loop μ-loop
 rewrite-add-n t c =
     let l = c .before .before .before .before .before .before .before .before .loop in
-    let small = slots-small (slotSize (c .before .before .before .before .before .before .before .before .before .before .before .before .before .before .before .before .before .before .before .before .args .depth)) (l .c) (l .n) (omega arith) (l .inv .1 .within) (l .inv .1 .count) in
-    let e = c .before .before .emit-slot .ensures .0 in
+    let start = c .before .before .before .before .before .before .before .before .before .before .before .before .before .before .before .before .before .before .before .before in
+    let small = slots-small (slotSize (start .args .depth)) (l .c) (l .n) (omega arith) (l .inv .1 .within) (l .inv .1 .count) in
+    let few = c .before .before .emit-slot .ensures .0 in
     search needs
 
 rewrite-past-requires-2 : (t : ℕ) → rewrite-lts.Need-past-requires-2 (rewrite-claims t) (rewrite-at t) rewrite.Post Inv-loop μ-loop
@@ -149,7 +153,7 @@ rewrite-array-read-rewrite-child-2 : (t : ℕ) → rewrite-lts.Need-array-read-r
 rewrite-array-read-rewrite-child-2 t c = search needs
 
 rewrite-add-rewrite-child-3 : (t : ℕ) → rewrite-lts.Need-add-rewrite-child-3 (rewrite-claims t) (rewrite-at t) rewrite.Post Inv-loop μ-loop
-rewrite-add-rewrite-child-3 t c = let d = c .before .before .before .before .before .before .before .before .before .loop .inv .0 .node .deep in search needs
+rewrite-add-rewrite-child-3 t c = let deep = c .before .before .before .before .before .before .before .before .before .loop .inv .0 .node .deep in search needs
 
 rewrite-add-rewrite-child-4 : (t : ℕ) → rewrite-lts.Need-add-rewrite-child-4 (rewrite-claims t) (rewrite-at t) rewrite.Post Inv-loop μ-loop
 rewrite-add-rewrite-child-4 t c = search needs
@@ -177,13 +181,16 @@ rewrite-rewrite-child-requires t c κs =
     let l = c .before .before .before .before .before .before .before .before .before .before .loop in
     let o = l .inv .0 in
     let lt = c .before .before .before .before .before .before .before .before .before .loop-test .taken in
-    let falls = c .before .before .before .before .before .before .before .before .before .before .before .before .before .before .before .before .before .before .before .before .before .before .pre .0 in (
-      omega (arith, falls, o .node .deep),
+    let start = c .before .before .before .before .before .before .before .before .before .before .before .before .before .before .before .before .before .before .before .before .before .before in (
+      omega (arith, start .pre .0, o .node .deep),
       rw (c .before .before .before .before .before .before .before .before .slot-key .ensures) (
         λ has. child-node (o .node) (o .gathered) (l .c) lt has,
         (
           (omega (arith, o .node .deep), slot-within o (l .c) lt),
-          ((o .covers-low (l .c) lt, (c .before .before .before .before .before .before .before .before .before .before .before .before .before .before .before .before .before .before .before .before .before .before .pre .1 .1 .0 .1 .0, o .hops-low (l .c) lt)), λ has. child-stored o (l .c) lt (l .inv .1 .ahead) has),
+          (
+            (o .covers-low (l .c) lt, (start .pre .1 .1 .0 .1 .0, o .hops-low (l .c) lt)),
+            λ has. child-stored o (l .c) lt (l .inv .1 .ahead) has,
+          ),
         ),
       ),
     )
@@ -192,9 +199,11 @@ rewrite-add-n-2 : (t : ℕ) → rewrite-lts.Need-add-n-2 (rewrite-claims t) (rew
 rewrite-add-n-2 t c =
     let l = c .before .before .before .before .before .before .before .before .before .before .before .before .before .before .loop in
     let lt = c .before .before .before .before .before .before .before .before .before .before .before .before .before .loop-test .taken in
-    let o = l .inv .0 in
-    let few = walking-few o (l .c) lt (c .before .before .before .before .before .before .before .before .emit-slot .result) (c .before .before .before .rewrite-child .result .count) (l .inv .1) (c .before .before .before .before .before .before .before .before .emit-slot .ensures .0) (c .before .before .before .rewrite-child .ensures .0) in
-    let small = slots-small (slotSize (c .before .before .before .before .before .before .before .before .before .before .before .before .before .before .before .before .before .before .before .before .before .before .before .before .before .before .args .depth)) (l .c + 1) (l .n + (c .before .before .before .before .before .before .before .before .emit-slot .result + c .before .before .before .rewrite-child .result .count)) (omega arith) (omega arith) few in
+    let heads = c .before .before .before .before .before .before .before .before .emit-slot in
+    let slot = c .before .before .before .rewrite-child in
+    let start = c .before .before .before .before .before .before .before .before .before .before .before .before .before .before .before .before .before .before .before .before .before .before .before .before .before .before in
+    let few = walking-few (l .inv .0) (l .c) lt (heads .result) (slot .result .count) (l .inv .1) (heads .ensures .0) (slot .ensures .0) in
+    let small = slots-small (slotSize (start .args .depth)) (l .c + 1) (l .n + (heads .result + slot .result .count)) (omega arith) (omega arith) few in
     search needs
 
 rewrite-add-c : (t : ℕ) → rewrite-lts.Need-add-c (rewrite-claims t) (rewrite-at t) rewrite.Post Inv-loop μ-loop
@@ -210,13 +219,15 @@ rewrite-loop-again t c =
     let o = l .inv .0 in
     let key = c .before .before .before .before .before .before .before .before .before .before .before .before .slot-key .ensures in
     let here = c .before .before .before .before .before .before .before .before .before .before .before .past .ensures in
+    let heads = c .before .before .before .before .before .before .before .before .emit-slot in
+    let same = c .before .before .before .before .before .before .before .out .given .1 in
     let then = c .before .before .before .before .before .past2 .ensures in
-    let child = c .before .before .before .rewrite-child .ensures in
-    let same = c .before .before .before .before .before .before .before .out .given .1 in (
+    let slot = c .before .before .before .rewrite-child in
+    let does = slot .ensures in (
       o,
-      walking-next o (l .c) lt (c .before .before .before .before .before .before .before .before .emit-slot .result) (c .before .before .before .rewrite-child .result .count) (l .inv .1)
-          (wrote-tail _ _ _ (here .1) (here .0) (rw key at (c .before .before .before .before .before .before .before .before .emit-slot .ensures .1))) same (c .before .before .before .before .before .before .before .before .emit-slot .ensures .0)
-          (wrote-tail _ _ _ (then .1) (then .0) (rw key at (child .1 .1 .1))) (c .before .before .out2 .given .1) (child .0) (child .1 .0) (rw key at (child .1 .1 .0)),
+      walking-next o (l .c) lt (heads .result) (slot .result .count) (l .inv .1)
+          (wrote-tail _ _ _ (here .1) (here .0) (rw key at (heads .ensures .1))) same (heads .ensures .0)
+          (wrote-tail _ _ _ (then .1) (then .0) (rw key at (does .1 .1 .1))) (c .before .before .out2 .given .1) (does .0) (does .1 .0) (rw key at (does .1 .1 .0)),
     )
 
 rewrite-same-length : (t : ℕ) → rewrite-lts.Need-same-length (rewrite-claims t) (rewrite-at t) rewrite.Post Inv-loop μ-loop

@@ -1,0 +1,183 @@
+// The calls over a table that need the node walks: a rewrite in each of the five modes, and the cover query, with every refusal in
+// document 01's order. What they answer is said in the crate calls; lookup and addresses held are the crate table's.
+
+mod walks;
+
+use calls::Covers;
+use calls::Rewritten;
+use cover::query::covers_in_aggregate;
+use table::answers::Checked;
+use table::check_table;
+use table::count::count_nodes;
+use walks::prepare;
+use walks::write;
+ghost use mathlib.Core.Path.{_≡_};
+ghost use mathlib.Core.Bool.{not, _&&_, _||_};
+ghost use Prim.Native.Nat.{_-_, _*_, _^_, _≤_};
+ghost use lib.Dec.{eqb, leb};
+ghost use lib.ListN.{length, replicate};
+ghost use Rattle.theory.specs.Results.{startOf};
+ghost use Rattle.nodes.specs.Node.{spare};
+ghost use Rattle.nodes.specs.Room.{nodesBelow};
+ghost use Rattle.calls.specs.Rewriting.{RewritesIn, Rewrites};
+ghost use Rattle.calls.specs.Covering.{coversSays, coverReply, Queried};
+ghost use Rattle.aggregate.specs.Walks.{whole, Ready, Fills, Finished};
+
+// Makes every word of the room zero.
+fn clear(work: &mut [u32])
+    ensures { λ _. ⌜ now (work .exit) ≡ replicate (length (now (work .entry))) 0 ⌝ }
+{
+    let mut i: usize = 0;
+    while i < work.len() {
+        work[i] = 0;
+        i += 1;
+    }
+}
+
+// Is the mode none of the five?
+fn no_mode(mode: u32) -> bool
+    ensures { λ r. ⌜ r ≡ not (leb 1 mode && leb mode 5) ⌝ }
+{
+    if mode < 1 {
+        return true;
+    }
+    5 < mode
+}
+
+// Is the default of fill no hop?
+fn no_hop(mode: u32, default: u32) -> bool
+    ensures { λ r. ⌜ r ≡ not (not (eqb mode 5) || leb default 63) ⌝ }
+{
+    if mode == 5 { 63 < default } else { false }
+}
+
+// The hop of what has no route: the default in mode 5, and none, 64, in the others.
+fn fill_of(mode: u32, default: u32) -> u8
+    ensures { λ r. ⌜ (mode ≡ 5 → default ≤ 63 → r ≡ default) × ((mode ≡ 5 → ⊥) → r ≡ 64) ⌝ }
+{
+    if mode == 5 { (default % 256) as u8 } else { 64 }
+}
+
+// The rewrite of a table that keeps the rules and has so many records, in a room that is long enough.
+fn rewrite_checked(
+    table: &[u8],
+    mode: u32,
+    fill: u8,
+    records: usize,
+    output: &mut [u8],
+    work: &mut [u32],
+) -> Rewritten {
+    let top = prepare(table, mode, fill, work);
+    let mut nothing = [0u8; 0];
+    let count = write(table, mode, fill, work, top, &mut nothing);
+    if output.len() / 8 < count {
+        return Rewritten::Refused {
+            number: 11,
+            index: 0,
+        };
+    }
+    let written = write(table, mode, fill, work, top, output);
+    Rewritten::Records {
+        count: written,
+        change: (written as i64) - (records as i64),
+    }
+}
+
+// The rewrite, but for the room, in which it leaves words.
+fn rewrite_in(
+    table: &[u8],
+    mode: u32,
+    default: u32,
+    output: &mut [u8],
+    work: &mut [u32],
+) -> Rewritten
+    ensures { λ r. ⌜ RewritesIn (now (table .entry)) mode default (now (output .entry)) (length (now (work .entry))) r (now (output .exit)) ⌝ }
+{
+    if no_mode(mode) {
+        return Rewritten::Refused {
+            number: 1,
+            index: 0,
+        };
+    }
+    if no_hop(mode, default) {
+        return Rewritten::Refused {
+            number: 2,
+            index: 0,
+        };
+    }
+    match check_table(table, mode <= 2) {
+        Checked::Refused { number, index } => Rewritten::Refused { number, index },
+        Checked::Valid(records) => {
+            if work.len() / 160 < count_nodes(table) {
+                return Rewritten::Refused {
+                    number: 10,
+                    index: 0,
+                };
+            }
+            rewrite_checked(table, mode, fill_of(mode, default), records, output, work)
+        }
+    }
+}
+
+// Rewrites a table in a mode, 1 to 5, into the output: the number of records written from its start, and how many more they are than the
+// table's; or a refusal. Mode 5 gives the default to what has no route. The room is zero throughout afterwards.
+pub fn rewrite(
+    table: &[u8],
+    mode: u32,
+    default: u32,
+    output: &mut [u8],
+    work: &mut [u32],
+) -> Rewritten
+    ensures { λ r. ⌜ Rewrites (now (table .entry)) mode default (now (output .entry)) (length (now (work .entry))) r (now (output .exit)) (now (work .exit)) ⌝ }
+{
+    let answer = rewrite_in(table, mode, default, output, work);
+    clear(work);
+    answer
+}
+
+// The query as a wide address, without the bits past its length.
+fn masked(address: u32, len: usize) -> u64
+    requires { ⌜ len ≤ 32 ⌝ }
+    ensures { λ r. ⌜ r ≡ startOf (32 - len) address * 2 ^ spare ⌝ }
+{
+    let below = 32 - len;
+    (((address as u64) >> below) << below) * 8
+}
+
+// The cover query, for a room of so many words.
+fn covers_in(table: &[u8], address: u32, len: u32, room: usize) -> Covers
+    ensures { λ r. ⌜ coversSays r ≡ coverReply (now (table .entry)) address len room ⌝ }
+{
+    match check_table(table, true) {
+        Checked::Refused { number, index } => Covers::Refused { number, index },
+        Checked::Valid(records) => {
+            if 32 < len {
+                return Covers::Refused {
+                    number: 9,
+                    index: 0,
+                };
+            }
+            if room / 160 < count_nodes(table) {
+                return Covers::Refused {
+                    number: 10,
+                    index: 0,
+                };
+            }
+            let n = len as usize;
+            if covers_in_aggregate(table, 0, records, 0, 0, masked(address, n), n) {
+                Covers::Covered
+            } else {
+                Covers::Uncovered
+            }
+        }
+    }
+}
+
+// Does the set cover every address of the prefix? Bits of the address past the length are ignored. The room is zero throughout afterwards.
+pub fn covers(table: &[u8], address: u32, len: u32, work: &mut [u32]) -> Covers
+    ensures { λ r. ⌜ Queried (now (table .entry)) address len (length (now (work .entry))) r (now (work .exit)) ⌝ }
+{
+    let answer = covers_in(table, address, len, work.len());
+    clear(work);
+    answer
+}

@@ -13,21 +13,20 @@ use Rattle.theory.specs.Routes.{Route}
 use Rattle.words.specs.Bits.{bit}
 use Rattle.words.specs.Coverage.{WhollyCovered, UnderMembers}
 use Rattle.words.specs.Rules.{PushedSlots}
-use Rattle.words.proofs.BitLaws.{if-le, if-eq}
 use Rattle.positions.specs.Runs.{inside, placeAt}
 use Rattle.positions.specs.Walk.{slots}
 use Rattle.nodes.specs.Gathered.{Gathered, runAt}
 use Rattle.nodes.specs.Node.{wide, run, slotSize, Node}
 use Rattle.nodes.specs.Room.{Begins, Block, nodesDeep, nodesBelow, Laid, Stored, SlotsLaid, SlotsAhead}
 use Rattle.nodes.specs.Output.{Wrote, entryAt, slotHeads}
-use Rattle.nodes.proofs.GatherLaws.{slot-records, no-child, child-node}
+use Rattle.nodes.proofs.GatherLaws.{slot-records}
 use Rattle.nodes.proofs.OutputLaws.{wrote-none, slots-zero, slots-more, slots-count, slots-small, node-count}
 use Rattle.nodes.proofs.RoomBlocks.{run-length, slot-some, block-deep}
 use Rattle.nodes.proofs.RoomLaws.{pushed-word, begins-word}
 use Rattle.nodes.proofs.RoomSizes.{Sized, nodes-below-deep, block-length, room-child, room-own}
 use Rattle.nodes.proofs.RoomWalk.{laid-start, laid-next, laid-skip, laid-length, laid-own, ahead-start, ahead-next, ahead-skip, ahead-end}
 use Rattle.cover.specs.Coverage.{IsCoverage, coverageWord, Entries}
-use Rattle.cover.proofs.CoverLaws.{SlotsCovered, Passes, slots-none, slots-take, slots-skip, slots-all, child-covered, empty-covered, coverage-is}
+use Rattle.cover.proofs.CoverLaws.{child-covered, empty-covered, SlotsCovered, passes-down, slots-none, slots-take, slots-skip, slots-all, coverage-is}
 use Rattle.cover.proofs.MaximalLaws.{maximalWalk, absorbed, maximal-slots, maximal-no-child}
 
 -- The block of a node one deeper.
@@ -82,29 +81,27 @@ module _ {t : List ℕ} {lo hi depth key : ℕ} {first end : List ℕ} {present 
   pub collect-least : 160 ≤ at
   collect-least = room-own 160 (nodesBelow (nodesDeep (depth + 5))) (slotSize depth) key (run t lo hi) b at (w .laid .room)
 
-  module _ (c : ℕ) (e : b ≡ c + 1) where
-    next-lt : c < 32
+  module _ (pos : 0 < b) where
+    next-lt : b - 1 < 32
     next-lt = omega (arith, w .bound)
 
-    passes : Passes (λ i. leb b i) c (λ i. leb c i)
-    passes i lt =
-        if-eq (λ (q : Bool). leb c i ≡ (q || leb b i)) i c (λ q. le-leb c i (omega arith)) (λ q.
-        if-le (λ (p : Bool). leb c i ≡ p) b i (λ h. le-leb c i (omega arith)) (λ h. lt-leb c i (omega arith)))
+    next-is : b ≡ (b - 1) + 1
+    next-is = omega arith
 
-    -- There is room for the nodes of slot c.
-    pub collect-room : getD first (31 + c) 0 < getD end (31 + c) 0
-        → 160 * nodesBelow (nodesDeep (depth + 5)) (placeAt (slotSize depth) key 5 c) (runAt t first end (31 + c)) ≤ at
+    -- There is room for the nodes of the slot before.
+    pub collect-room : getD first (31 + (b - 1)) 0 < getD end (31 + (b - 1)) 0
+        → 160 * nodesBelow (nodesDeep (depth + 5)) (placeAt (slotSize depth) key 5 (b - 1)) (runAt t first end (31 + (b - 1))) ≤ at
     collect-room has =
-        rw (slot-records (w .gathered) c next-lt)
-        (room-child 160 (nodesBelow (nodesDeep (depth + 5))) (slotSize depth) key (run t lo hi) c at (rw e at (w .laid .room))
-        (omega (arith, slot-has (w .gathered) c next-lt)))
+        rw (slot-records (w .gathered) (b - 1) next-lt)
+        (room-child 160 (nodesBelow (nodesDeep (depth + 5))) (slotSize depth) key (run t lo hi) (b - 1) at (rw next-is at (w .laid .room))
+        (omega (arith, slot-has (w .gathered) (b - 1) next-lt)))
 
-    -- Slot c has records, whose walk laid their nodes.
-    pub collect-child : (has : getD first (31 + c) 0 < getD end (31 + c) 0) {cov r : ℕ} {o″ : List ℕ} (child : Bool) (covered′ : ℕ)
-        → IsCoverage (slotSize (depth + 5)) (placeAt (slotSize depth) key 5 c) (runAt t first end (31 + c)) cov
-        → Laid coverageWord (nodesDeep (depth + 5)) (placeAt (slotSize depth) key 5 c) (runAt t first end (31 + c)) at r o′ o″
-        → child ≡ bit cov 0 → ((i : ℕ) → i < 32 → bit covered′ i ≡ ((eqb i c && child) || bit covered i))
-        → Collecting t lo hi depth key first end present top o c r covered′ o″
+    -- It has records, whose walk laid their nodes.
+    pub collect-child : (has : getD first (31 + (b - 1)) 0 < getD end (31 + (b - 1)) 0) {cov r : ℕ} {o″ : List ℕ} (child : Bool) (covered′ : ℕ)
+        → IsCoverage (slotSize (depth + 5)) (placeAt (slotSize depth) key 5 (b - 1)) (runAt t first end (31 + (b - 1))) cov
+        → Laid coverageWord (nodesDeep (depth + 5)) (placeAt (slotSize depth) key 5 (b - 1)) (runAt t first end (31 + (b - 1))) at r o′ o″
+        → child ≡ bit cov 0 → ((i : ℕ) → i < 32 → bit covered′ i ≡ ((eqb i (b - 1) && child) || bit covered i))
+        → Collecting t lo hi depth key first end present top o (b - 1) r covered′ o″
     collect-child has {cov} {r} {o″} child covered′ is laid z more =
         record {
           node = w .node;
@@ -113,17 +110,17 @@ module _ {t : List ℕ} {lo hi depth key : ℕ} {first end : List ℕ} {present 
           fits = w .fits;
           laid =
               laid-next 160 (deeperBlock depth) (nodesBelow (nodesDeep (depth + 5))) (slotSize depth) key (run t lo hi)
-              (coverage-sized (nodesDeep (depth + 5))) (w .laid) e (w .bound) (w .fits)
-              (slot-some (deeperBlock depth) (placeAt (slotSize depth) key 5 c) (inside wide (slotSize depth) (placeAt (slotSize depth) key 5 c) (run t lo hi))
-              (laid .words) (omega (arith, slot-has (w .gathered) c next-lt)) .1 (rw (slot-records (w .gathered) c next-lt) at (laid .block)))
+              (coverage-sized (nodesDeep (depth + 5))) (w .laid) next-is (w .bound) (w .fits)
+              (slot-some (deeperBlock depth) (placeAt (slotSize depth) key 5 (b - 1)) (inside wide (slotSize depth) (placeAt (slotSize depth) key 5 (b - 1)) (run t lo hi))
+              (laid .words) (omega (arith, slot-has (w .gathered) (b - 1) next-lt)) .1 (rw (slot-records (w .gathered) (b - 1) next-lt) at (laid .block)))
               (laid .pushed);
           slots =
-              slots-take (w .slots) c (λ i. leb c i) passes child covered′
-              (z ∙ is .positions 0 0 (omega arith) (omega arith) ∙ child-covered (w .node) (w .gathered) c next-lt has) more;
+              slots-take (w .slots) (b - 1) (λ i. leb (b - 1) i) (passes-down b pos) child covered′
+              (z ∙ is .positions 0 0 (omega arith) (omega arith) ∙ child-covered (w .node) (w .gathered) (b - 1) next-lt has) more;
         }
 
-    -- Slot c has none.
-    pub collect-skip : getD end (31 + c) 0 ≤ getD first (31 + c) 0 → Collecting t lo hi depth key first end present top o c at covered o′
+    -- Or it has none.
+    pub collect-skip : getD end (31 + (b - 1)) 0 ≤ getD first (31 + (b - 1)) 0 → Collecting t lo hi depth key first end present top o (b - 1) at covered o′
     collect-skip none =
         record {
           node = w .node;
@@ -132,8 +129,8 @@ module _ {t : List ℕ} {lo hi depth key : ℕ} {first end : List ℕ} {present 
           fits = w .fits;
           laid =
               laid-skip 160 (deeperBlock depth) (nodesBelow (nodesDeep (depth + 5))) (slotSize depth) key (run t lo hi)
-              (coverage-sized (nodesDeep (depth + 5))) (w .laid) e (w .bound) (w .fits) (omega (arith, slot-has (w .gathered) c next-lt));
-          slots = slots-skip (w .slots) c (λ i. leb c i) passes (empty-covered (w .node) (w .gathered) c next-lt none);
+              (coverage-sized (nodesDeep (depth + 5))) (w .laid) next-is (w .bound) (w .fits) (omega (arith, slot-has (w .gathered) (b - 1) next-lt));
+          slots = slots-skip (w .slots) (b - 1) (λ i. leb (b - 1) i) (passes-down b pos) (empty-covered (w .node) (w .gathered) (b - 1) next-lt none);
         }
 
   -- All slots are passed: the node's coverage is found, and its word laid before their blocks.

@@ -1,3 +1,5 @@
+-- `cover::maximal::aggregate_set`, which calls itself on the slots, meets its contract, by falling bits below the node. The loop's invariant: the node's
+-- coverage is read, and of its slots before c the maximal prefixes are written. Assumes nothing.
 use Prim.Native.Nat.{ℕ, _-_, _<_}
 use mathlib.Core.Path.{_≡_, refl}
 use native.Mathlib.Omega.{arith}
@@ -26,19 +28,32 @@ abbrev measure : Measures 3 kinds.ps ℕ
 measure κs a = 35 - a .1 .1 .1 .0
 
 abbrev entered : ℕ → In 3 kinds.ps
-entered t =
-    and 3 kinds.ps (is 3 kinds.ps measure t) walk.Pre
+entered t = and 3 kinds.ps (is 3 kinds.ps measure t) walk.Pre
 
 abbrev deeper : ℕ → In 3 kinds.ps
-deeper t =
-    and
-    3
-    kinds.ps
-    (falls 3 kinds.ps _<_ measure t)
-    walk.Pre
+deeper t = and 3 kinds.ps (falls 3 kinds.ps _<_ measure t) walk.Pre
 
 abbrev claims : ℕ → lts.Claims
-claims t = (gather-reads.Asked, gather-reads.Learnt, member-coverage-reads.Asked, member-coverage-reads.Learnt, entries-of-reads.Asked, entries-of-reads.Learnt, push-l4-reads.Asked, push-l4-reads.Learnt, slot-key-reads.Asked, slot-key-reads.Learnt, past-reads.Asked, past-reads.Learnt, emit-slot-reads.Asked, emit-slot-reads.Learnt, is-absorbed-reads.Asked, is-absorbed-reads.Learnt, deeper t, walk.Post)
+claims t = (
+  gather-reads.Asked,
+  gather-reads.Learnt,
+  member-coverage-reads.Asked,
+  member-coverage-reads.Learnt,
+  entries-of-reads.Asked,
+  entries-of-reads.Learnt,
+  push-l4-reads.Asked,
+  push-l4-reads.Learnt,
+  slot-key-reads.Asked,
+  slot-key-reads.Learnt,
+  past-reads.Asked,
+  past-reads.Learnt,
+  emit-slot-reads.Asked,
+  emit-slot-reads.Learnt,
+  is-absorbed-reads.Asked,
+  is-absorbed-reads.Learnt,
+  deeper t,
+  walk.Post,
+)
 
 abbrev Inv-loop : lts.InvT-loop
 Inv-loop table lo hi depth key above work top out₀ first end present hops coverage entries under pushed at₀ n₀ c₀ out at n c =
@@ -47,44 +62,36 @@ Inv-loop table lo hi depth key above work top out₀ first end present hops cove
 abbrev μ-loop : lts.MeasureT-loop
 μ-loop table lo hi depth key above work top out₀ first end present hops coverage entries under pushed at₀ n₀ c₀ out at n c = 32 - c
 
--- src/maximal.rt:132:9
 gather-requires : (t : ℕ) → lts.Need-gather-requires (claims t) (entered t) walk.Post Inv-loop μ-loop
 gather-requires t c κs =
     (c .before .before .before .before .before .pre .1 .0, ((refl, refl), λ b lt. (getD-replicate 63 b 0 0 lt, getD-replicate 63 b 0 0 lt)))
 
--- src/maximal.rt:134:9
 member-coverage-requires : (t : ℕ) → lts.Need-member-coverage-requires (claims t) (entered t) walk.Post Inv-loop μ-loop
 member-coverage-requires t c κs = search needs
 
--- src/maximal.rt:135:20
 mul-coverage : (t : ℕ) → lts.Need-mul-coverage (claims t) (entered t) walk.Post Inv-loop μ-loop
 mul-coverage t c =
     let pre = c .before .before .before .before .before .before .before .pre in
     let w = word-read (pre .1 .0) (pre .1 .1) .within in
     search needs
 
--- src/maximal.rt:135:20
 shared-slice-read-coverage : (t : ℕ) → lts.Need-shared-slice-read-coverage (claims t) (entered t) walk.Post Inv-loop μ-loop
 shared-slice-read-coverage t c =
     let pre = c .before .before .before .before .before .before .before .before .pre in
     word-read (pre .1 .0) (pre .1 .1) .within
 
--- src/maximal.rt:136:9
 entries-of-requires : (t : ℕ) → lts.Need-entries-of-requires (claims t) (entered t) walk.Post Inv-loop μ-loop
 entries-of-requires t c κs = search needs
 
--- src/maximal.rt:138:9
 push-l4-requires : (t : ℕ) → lts.Need-push-l4-requires (claims t) (entered t) walk.Post Inv-loop μ-loop
 push-l4-requires t c κs = search needs
 
--- src/maximal.rt:139:18
 add-at : (t : ℕ) → lts.Need-add-at (claims t) (entered t) walk.Post Inv-loop μ-loop
 add-at t c =
     let pre = c .before .before .before .before .before .before .before .before .before .before .pre in
     let w = word-read (pre .1 .0) (pre .1 .1) .within in
     search needs
 
--- src/maximal.rt:142:5
 loop-holds : (t : ℕ) → lts.Need-loop-holds (claims t) (entered t) walk.Post Inv-loop μ-loop
 loop-holds t c =
     let pre = c .before .before .before .before .before .before .before .before .before .before .pre in
@@ -102,107 +109,85 @@ loop-holds t c =
       bare = λ b lt. getD-replicate 31 b 0 0 lt;
     }) (w .ahead)
 
--- src/maximal.rt:143:13
 slot-key-requires : (t : ℕ) → lts.Need-slot-key-requires (claims t) (entered t) walk.Post Inv-loop μ-loop
 slot-key-requires t c κs =
     let n = c .before .loop .inv .found .node in
     (n .deep, (c .loop-test .taken, n .small))
 
--- src/maximal.rt:144:13
 past-requires : (t : ℕ) → lts.Need-past-requires (claims t) (entered t) walk.Post Inv-loop μ-loop
 past-requires t c κs = search needs
 
--- src/maximal.rt:145:56
 sub-emit-slot : (t : ℕ) → lts.Need-sub-emit-slot (claims t) (entered t) walk.Post Inv-loop μ-loop
 sub-emit-slot t c = search needs
 
--- src/maximal.rt:145:56
 part-emit-slot-start : (t : ℕ) → lts.Need-part-emit-slot-start (claims t) (entered t) walk.Post Inv-loop μ-loop
 part-emit-slot-start t c = search needs
 
--- src/maximal.rt:145:56
 part-emit-slot-end : (t : ℕ) → lts.Need-part-emit-slot-end (claims t) (entered t) walk.Post Inv-loop μ-loop
 part-emit-slot-end t c = search needs
 
--- src/maximal.rt:145:14
 emit-slot-requires : (t : ℕ) → lts.Need-emit-slot-requires (claims t) (entered t) walk.Post Inv-loop μ-loop
 emit-slot-requires t c κs =
     let n = c .before .before .before .before .before .loop .inv .found .node in
     let lt = c .before .before .before .before .loop-test .taken in
     (lt, (n .deep, rw (c .before .before .before .slot-key .ensures) (slot-below _ _ _ (n .deep) lt (n .small))))
 
--- src/maximal.rt:145:9
 add-n : (t : ℕ) → lts.Need-add-n (claims t) (entered t) walk.Post Inv-loop μ-loop
 add-n t c =
     let small = walk-small (c .before .before .before .before .before .before .before .before .loop .inv) in
     let e = c .before .before .emit-slot .ensures .0 in
     search needs
 
--- src/maximal.rt:146:26
 add-from : (t : ℕ) → lts.Need-add-from (claims t) (entered t) walk.Post Inv-loop μ-loop
 add-from t c = search needs
 
--- src/maximal.rt:146:20
 mul-from : (t : ℕ) → lts.Need-mul-from (claims t) (entered t) walk.Post Inv-loop μ-loop
 mul-from t c = search needs
 
--- src/maximal.rt:146:20
 array-read-from : (t : ℕ) → lts.Need-array-read-from (claims t) (entered t) walk.Post Inv-loop μ-loop
 array-read-from t c = search needs
 
--- src/maximal.rt:147:22
 add-to : (t : ℕ) → lts.Need-add-to (claims t) (entered t) walk.Post Inv-loop μ-loop
 add-to t c = search needs
 
--- src/maximal.rt:147:18
 mul-to : (t : ℕ) → lts.Need-mul-to (claims t) (entered t) walk.Post Inv-loop μ-loop
 mul-to t c = search needs
 
--- src/maximal.rt:147:18
 array-read-to : (t : ℕ) → lts.Need-array-read-to (claims t) (entered t) walk.Post Inv-loop μ-loop
 array-read-to t c = search needs
 
--- src/maximal.rt:148:13
 is-absorbed-requires : (t : ℕ) → lts.Need-is-absorbed-requires (claims t) (entered t) walk.Post Inv-loop μ-loop
 is-absorbed-requires t c κs = search needs
 
--- src/maximal.rt:149:9
 add-c : (t : ℕ) → lts.Need-add-c (claims t) (entered t) walk.Post Inv-loop μ-loop
 add-c t c = search needs
 
--- src/maximal.rt:151:17
 past-requires-2 : (t : ℕ) → lts.Need-past-requires-2 (claims t) (entered t) walk.Post Inv-loop μ-loop
 past-requires-2 t c κs = search needs
 
--- src/maximal.rt:156:17
 add-aggregate-set : (t : ℕ) → lts.Need-add-aggregate-set (claims t) (entered t) walk.Post Inv-loop μ-loop
 add-aggregate-set t c =
     let deep = c .before .before .before .before .before .before .before .before .before .before .before .loop .inv .found .node .deep in
     search needs
 
--- src/maximal.rt:161:17
 sub-aggregate-set : (t : ℕ) → lts.Need-sub-aggregate-set (claims t) (entered t) walk.Post Inv-loop μ-loop
 sub-aggregate-set t c = search needs
 
--- src/maximal.rt:161:17
 part-aggregate-set-start : (t : ℕ) → lts.Need-part-aggregate-set-start (claims t) (entered t) walk.Post Inv-loop μ-loop
 part-aggregate-set-start t c = search needs
 
--- src/maximal.rt:161:17
 part-aggregate-set-end : (t : ℕ) → lts.Need-part-aggregate-set-end (claims t) (entered t) walk.Post Inv-loop μ-loop
 part-aggregate-set-end t c = search needs
 
--- src/maximal.rt:152:17
 aggregate-set-requires : (t : ℕ) → lts.Need-aggregate-set-requires (claims t) (entered t) walk.Post Inv-loop μ-loop
 aggregate-set-requires t c κs =
     let w = c .before .before .before .before .before .before .before .before .before .before .before .before .loop .inv in
     let f = w .found in
     let lt = c .before .before .before .before .before .before .before .before .before .before .before .loop-test .taken in
     let has = c .before .before .if1 .taken in
-    let falls = c .before .before .before .before .before .before .before .before .before .before .before .before .before .before .before .before .before .before .before .before .before .before .before .pre .0 in
-    (omega (arith, falls, f .node .deep), rw (c .before .before .before .before .before .before .before .before .before .before .slot-key .ensures) (child-node (f .node) (f .gathered) _ lt has, ahead-stored (f .gathered) (w .ahead) lt has (f .stored)))
+    let bits = c .before .before .before .before .before .before .before .before .before .before .before .before .before .before .before .before .before .before .before .before .before .before .before .pre .0 in
+    (omega (arith, bits, f .node .deep), rw (c .before .before .before .before .before .before .before .before .before .before .slot-key .ensures) (child-node (f .node) (f .gathered) _ lt has, ahead-stored (f .gathered) (w .ahead) lt has (f .stored)))
 
--- src/maximal.rt:142:5
 loop-again : (t : ℕ) → lts.Need-loop-again (claims t) (entered t) walk.Post Inv-loop μ-loop
 loop-again t c =
     let l = c .before .before .before .before .before .before .before .before .before .before .before .before .before .before .before .before .loop in
@@ -215,21 +200,17 @@ loop-again t c =
     (c .before .before .before .before .before .before .if1 .taken) (c .before .before .before .aggregate-set .result .count) (c .before .before .before .before .before .before .before .is-absorbed .ensures) (child .0) (child .1 .0)
     (wrote-tail _ _ _ (then .1) (then .0) (child .1 .1)) (c .before .before .out2 .given .1)
 
--- src/maximal.rt:163:13
 add-n-2 : (t : ℕ) → lts.Need-add-n-2 (claims t) (entered t) walk.Post Inv-loop μ-loop
 add-n-2 t c =
     let small = walk-small (loop-again t c) in
     search needs
 
--- src/maximal.rt:142:5
 loop-less : (t : ℕ) → lts.Need-loop-less (claims t) (entered t) walk.Post Inv-loop μ-loop
 loop-less t c = search needs
 
--- src/maximal.rt:142:5
 loop-less-2 : (t : ℕ) → lts.Need-loop-less-2 (claims t) (entered t) walk.Post Inv-loop μ-loop
 loop-less-2 t c = search needs
 
--- src/maximal.rt:142:5
 loop-again-2 : (t : ℕ) → lts.Need-loop-again-2 (claims t) (entered t) walk.Post Inv-loop μ-loop
 loop-again-2 t c =
     let l = c .before .before .before .before .before .before .before .before .before .before .loop in
@@ -238,11 +219,9 @@ loop-again-2 t c =
     walk-none (l .inv) lt (c .before .before .before .before .emit-slot .ensures .0) (wrote-tail _ _ _ (here .1) (here .0) (rw (c .before .before .before .before .before .before .before .before .slot-key .ensures) at (c .before .before .before .before .emit-slot .ensures .1)))
     (c .before .before .before .out .given .1) (c .if1 .left)
 
--- src/maximal.rt:113:1
 same-length : (t : ℕ) → lts.Need-same-length (claims t) (entered t) walk.Post Inv-loop μ-loop
 same-length t c = c .before .loop .inv .same
 
--- src/maximal.rt:113:1
 returns : (t : ℕ) → lts.Need-returns (claims t) (entered t) walk.Post Inv-loop μ-loop
 returns t c =
     let w = c .before .loop .inv in

@@ -1,12 +1,14 @@
-use Prim.Native.Nat.{ℕ, _+_, _-_, _<_, _≤_}
-use mathlib.Core.Path.{_≡_, refl, sym, ap, _∙_}
+-- `cover::maximal::collect_coverage`, which calls itself on the slots, meets its contract, by falling bits below the node. The loop's invariant: of the
+-- slots from c on the coverage is laid, and the word has the covered ones. Assumes nothing.
+use Prim.Native.Nat.{ℕ, _-_, _<_}
+use mathlib.Core.Path.{refl}
 use native.Mathlib.Omega.{arith}
 use lib.ListN.{getD-replicate, length-set}
 use borrow.Author.Needs.{needs}
-use Rattle.nodes.proofs.GatherLaws.{child-node}
-use Rattle.cover.proofs.MaximalRoom.{Collecting, collect-start, collect-length, collect-within, collect-least, collect-room, collect-child, collect-skip, collect-end}
 use borrow.Fn.Kinds.{In}
 use borrow.Fn.PlainCycle.{Measures, is, falls, and}
+use Rattle.nodes.proofs.GatherLaws.{child-node}
+use Rattle.cover.proofs.MaximalRoom.{Collecting, collect-start, collect-length, collect-within, collect-least, collect-room, collect-child, collect-skip, collect-end}
 use Rattle.cover.proofs.maximal.collect_coverage.Reads as walk
 use Rattle.cover.proofs.maximal.collect_coverage.Kinds as kinds
 use Rattle.cover.proofs.maximal.+collect_coverage.Lts-collect_coverage as lts
@@ -22,23 +24,26 @@ abbrev measure : Measures 2 kinds.ps ℕ
 measure κs a = 35 - a .1 .1 .1 .0
 
 abbrev entered : ℕ → In 2 kinds.ps
-entered t =
-    and
-    2
-    kinds.ps
-    (is 2 kinds.ps measure t)
-    walk.Pre
+entered t = and 2 kinds.ps (is 2 kinds.ps measure t) walk.Pre
 
 abbrev deeper : ℕ → In 2 kinds.ps
-deeper t =
-    and
-    2
-    kinds.ps
-    (falls 2 kinds.ps _<_ measure t)
-    walk.Pre
+deeper t = and 2 kinds.ps (falls 2 kinds.ps _<_ measure t) walk.Pre
 
 abbrev claims : ℕ → lts.Claims
-claims t = (gather-reads.Asked, gather-reads.Learnt, slot-key-reads.Asked, slot-key-reads.Learnt, deeper t, walk.Post, has-bit-reads.Asked, has-bit-reads.Learnt, with-slot-reads.Asked, with-slot-reads.Learnt, fold-coverage-reads.Asked, fold-coverage-reads.Learnt)
+claims t = (
+  gather-reads.Asked,
+  gather-reads.Learnt,
+  slot-key-reads.Asked,
+  slot-key-reads.Learnt,
+  deeper t,
+  walk.Post,
+  has-bit-reads.Asked,
+  has-bit-reads.Learnt,
+  with-slot-reads.Asked,
+  with-slot-reads.Learnt,
+  fold-coverage-reads.Asked,
+  fold-coverage-reads.Learnt,
+)
 
 abbrev Inv-loop : lts.InvT-loop
 Inv-loop table lo hi depth key work₀ top first end present covered₀ at₀ c₀ work covered at c =
@@ -47,126 +52,98 @@ Inv-loop table lo hi depth key work₀ top first end present covered₀ at₀ c�
 abbrev μ-loop : lts.MeasureT-loop
 μ-loop table lo hi depth key work₀ top first end present covered₀ at₀ c₀ work covered at c = c
 
--- src/maximal.rt:51:9
 gather-requires : (t : ℕ) → lts.Need-gather-requires (claims t) (entered t) walk.Post Inv-loop μ-loop
 gather-requires t c κs =
     (c .before .before .before .before .pre .1 .0, ((refl, refl), λ b lt. (getD-replicate 63 b 0 0 lt, getD-replicate 63 b 0 0 lt)))
 
--- src/maximal.rt:55:5
 loop-holds : (t : ℕ) → lts.Need-loop-holds (claims t) (entered t) walk.Post Inv-loop μ-loop
 loop-holds t c =
     let pre = c .before .before .before .before .before .pre in
     collect-start (pre .1 .0) (c .gather .ensures) (pre .1 .1)
 
--- src/maximal.rt:56:9
 sub-c : (t : ℕ) → lts.Need-sub-c (claims t) (entered t) walk.Post Inv-loop μ-loop
 sub-c t c = search needs
 
--- src/maximal.rt:57:26
 add-from : (t : ℕ) → lts.Need-add-from (claims t) (entered t) walk.Post Inv-loop μ-loop
 add-from t c = search needs
 
--- src/maximal.rt:57:20
 mul-from : (t : ℕ) → lts.Need-mul-from (claims t) (entered t) walk.Post Inv-loop μ-loop
 mul-from t c = search needs
 
--- src/maximal.rt:57:20
 array-read-from : (t : ℕ) → lts.Need-array-read-from (claims t) (entered t) walk.Post Inv-loop μ-loop
 array-read-from t c = search needs
 
--- src/maximal.rt:58:22
 add-to : (t : ℕ) → lts.Need-add-to (claims t) (entered t) walk.Post Inv-loop μ-loop
 add-to t c = search needs
 
--- src/maximal.rt:58:18
 mul-to : (t : ℕ) → lts.Need-mul-to (claims t) (entered t) walk.Post Inv-loop μ-loop
 mul-to t c = search needs
 
--- src/maximal.rt:58:18
 array-read-to : (t : ℕ) → lts.Need-array-read-to (claims t) (entered t) walk.Post Inv-loop μ-loop
 array-read-to t c = search needs
 
--- src/maximal.rt:64:17
 add-collect-coverage : (t : ℕ) → lts.Need-add-collect-coverage (claims t) (entered t) walk.Post Inv-loop μ-loop
 add-collect-coverage t c = search needs
 
--- src/maximal.rt:65:17
 slot-key-requires : (t : ℕ) → lts.Need-slot-key-requires (claims t) (entered t) walk.Post Inv-loop μ-loop
 slot-key-requires t c κs = search needs
 
--- src/maximal.rt:60:17
 collect-coverage-requires : (t : ℕ) → lts.Need-collect-coverage-requires (claims t) (entered t) walk.Post Inv-loop μ-loop
 collect-coverage-requires t c κs =
     let l = c .before .before .before .before .loop in
     let w = l .inv in
-    let b : l .c ≡ (l .c - 1) + 1 = omega arith in
+    let lt = c .before .before .before .loop-test .taken in
     let has = c .before .before .if1 .taken in
-    let falls = c .before .before .before .before .before .before .before .before .before .before .pre .0 in
-    (omega (arith, w .node .deep), rw (c .before .slot-key .ensures) (child-node (w .node) (w .gathered) (l .c - 1) (omega arith) has, (collect-room w (l .c - 1) b has, collect-within w)))
+    let bits = c .before .before .before .before .before .before .before .before .before .before .pre .0 in
+    (omega (arith, w .node .deep), rw (c .before .slot-key .ensures) (child-node (w .node) (w .gathered) (l .c - 1) (omega arith) has, (collect-room w lt has, collect-within w)))
 
--- src/maximal.rt:70:42
 cast-with-slot : (t : ℕ) → lts.Need-cast-with-slot (claims t) (entered t) walk.Post Inv-loop μ-loop
 cast-with-slot t c = search needs
 
--- src/maximal.rt:70:52
 has-bit-requires : (t : ℕ) → lts.Need-has-bit-requires (claims t) (entered t) walk.Post Inv-loop μ-loop
 has-bit-requires t c κs = search needs
 
--- src/maximal.rt:70:13
 with-slot-requires : (t : ℕ) → lts.Need-with-slot-requires (claims t) (entered t) walk.Post Inv-loop μ-loop
 with-slot-requires t c κs = search needs
 
--- src/maximal.rt:55:5
 loop-less : (t : ℕ) → lts.Need-loop-less (claims t) (entered t) walk.Post Inv-loop μ-loop
 loop-less t c = search needs
 
--- src/maximal.rt:55:5
 loop-again : (t : ℕ) → lts.Need-loop-again (claims t) (entered t) walk.Post Inv-loop μ-loop
 loop-again t c =
     let l = c .before .before .before .before .before .before .before .before .before .loop in
     let lt = c .before .before .before .before .before .before .before .before .loop-test .taken in
-    let b : l .c ≡ (l .c - 1) + 1 = omega arith in
     let child = rw (c .before .before .before .before .before .before .slot-key .ensures) at (c .before .before .before .before .collect-coverage .ensures) in
-    collect-child (l .inv) (l .c - 1) b (c .before .before .before .before .before .before .before .if1 .taken) _ _ (child .0) (child .1) (c .before .has-bit .ensures) (c .with-slot .ensures)
+    collect-child (l .inv) lt (c .before .before .before .before .before .before .before .if1 .taken) _ _ (child .0) (child .1) (c .before .has-bit .ensures) (c .with-slot .ensures)
 
--- src/maximal.rt:55:5
 loop-less-2 : (t : ℕ) → lts.Need-loop-less-2 (claims t) (entered t) walk.Post Inv-loop μ-loop
 loop-less-2 t c = search needs
 
--- src/maximal.rt:55:5
 loop-again-2 : (t : ℕ) → lts.Need-loop-again-2 (claims t) (entered t) walk.Post Inv-loop μ-loop
 loop-again-2 t c =
     let l = c .before .before .loop in
-    let b : l .c ≡ (l .c - 1) + 1 = omega arith in
-    collect-skip (l .inv) (l .c - 1) b (c .if1 .left)
+    collect-skip (l .inv) (c .before .loop-test .taken) (c .if1 .left)
 
--- src/maximal.rt:73:9
 fold-coverage-requires : (t : ℕ) → lts.Need-fold-coverage-requires (claims t) (entered t) walk.Post Inv-loop μ-loop
 fold-coverage-requires t c κs = search needs
 
--- src/maximal.rt:74:10
 sub-work : (t : ℕ) → lts.Need-sub-work (claims t) (entered t) walk.Post Inv-loop μ-loop
 sub-work t c = omega (arith, collect-least (c .before .before .loop .inv))
 
--- src/maximal.rt:74:5
 mul-work : (t : ℕ) → lts.Need-mul-work (claims t) (entered t) walk.Post Inv-loop μ-loop
 mul-work t c = search needs
 
--- src/maximal.rt:74:5
 slice-write-work : (t : ℕ) → lts.Need-slice-write-work (claims t) (entered t) walk.Post Inv-loop μ-loop
 slice-write-work t c =
     let w = c .before .before .loop .inv in
     omega (arith, collect-least w, collect-within w)
 
--- src/maximal.rt:77:14
 sub-t34 : (t : ℕ) → lts.Need-sub-t34 (claims t) (entered t) walk.Post Inv-loop μ-loop
 sub-t34 t c = omega (arith, collect-least (c .before .before .loop .inv))
 
--- src/maximal.rt:35:1
 same-length : (t : ℕ) → lts.Need-same-length (claims t) (entered t) walk.Post Inv-loop μ-loop
 same-length t c = simp length-set (collect-length (c .before .before .loop .inv))
 
--- src/maximal.rt:35:1
 returns : (t : ℕ) → lts.Need-returns (claims t) (entered t) walk.Post Inv-loop μ-loop
 returns t c = collect-end (c .before .before .loop .inv) (omega arith) (c .fold-coverage .result) (c .fold-coverage .ensures)
 

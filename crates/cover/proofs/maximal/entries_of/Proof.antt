@@ -1,31 +1,24 @@
+-- `cover::maximal::entries_of` meets its contract: what `keep_of` ensures of each bit, with the positions below a covered one. Assumes nothing.
 use Prim.Native.Nat.{suc}
 use mathlib.Core.Path.{_∙_}
 use mathlib.Core.Bool.{and-true}
 use native.Mathlib.Omega.{arith}
+use borrow.Author.Needs.{needs}
 use Rattle.words.specs.Positions.{position}
 use Rattle.words.proofs.BitLaws.{bit-zero}
 use Rattle.words.proofs.PositionLaws.{in-word}
-use borrow.Author.Needs.{needs}
 use Rattle.cover.proofs.maximal.entries_of.Statement.{statement}
 use Rattle.cover.proofs.maximal.entries_of.Tie as tie
-use Rattle.cover.proofs.maximal.entries_of.Reads as reads
-use Rattle.cover.proofs.maximal.entries_of.Lts as lts
-use Rattle.words.proofs.coverage.keep_of.Reads as keep-of-reads
-use Rattle.words.proofs.coverage.parent_coverage.Reads as parent-coverage-reads
 
--- src/maximal.rt:92:9
 returns : tie.Need-returns
 returns c = rw (c .if1 .taken) (record { root = bit-zero _; below = λ l j le lt. bit-zero _ })
 
--- src/maximal.rt:94:23
 parent-coverage-requires : tie.Need-parent-coverage-requires
 parent-coverage-requires c κs = search needs
 
--- src/maximal.rt:94:5
 keep-of-requires : tie.Need-keep-of-requires
 keep-of-requires c κs = search needs
 
--- src/maximal.rt:88:1
 returns-2 : tie.Need-returns-2
 returns-2 c =
     let k = c .keep-of .ensures in

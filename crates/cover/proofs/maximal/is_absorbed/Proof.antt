@@ -1,35 +1,26 @@
+-- `cover::maximal::is_absorbed` meets its contract. Assumes nothing.
 use borrow.Author.Needs.{needs}
 use Rattle.cover.proofs.maximal.is_absorbed.Statement.{statement}
 use Rattle.cover.proofs.maximal.is_absorbed.Tie as tie
-use Rattle.cover.proofs.maximal.is_absorbed.Reads as reads
-use Rattle.cover.proofs.maximal.is_absorbed.Lts as lts
-use Rattle.words.proofs.bits.has_bit.Reads as has-bit-reads
 
--- src/maximal.rt:103:9
 returns : tie.Need-returns
 returns c = search needs
 
--- src/maximal.rt:105:23
 cast-has-bit : tie.Need-cast-has-bit
 cast-has-bit c = search needs
 
--- src/maximal.rt:105:8
 has-bit-requires : tie.Need-has-bit-requires
 has-bit-requires c κs = search needs
 
--- src/maximal.rt:106:9
 returns-2 : tie.Need-returns-2
 returns-2 c = rw (c .before .before .if1 .left, ← c .before .has-bit .ensures, c .if2 .taken)
 
--- src/maximal.rt:108:21
 cast-has-bit-2 : tie.Need-cast-has-bit-2
 cast-has-bit-2 c = search needs
 
--- src/maximal.rt:108:5
 has-bit-requires-2 : tie.Need-has-bit-requires-2
 has-bit-requires-2 c κs = search needs
 
--- src/maximal.rt:98:1
 returns-3 : tie.Need-returns-3
 returns-3 c =
     rw (c .before .before .before .if1 .left, ← c .before .before .has-bit .ensures, c .before .if2 .left) (c .has-bit2 .ensures)

@@ -7,3 +7,4 @@ pub mod GatherSteps
 pub mod GatherCovers
 pub mod GatherLaws
 pub mod MemberLaws
+pub mod OutputWalk

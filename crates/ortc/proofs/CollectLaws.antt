@@ -1,5 +1,5 @@
 -- The first walk of a node: its sets and its blocks by those of its slots, from the last slot to the first.
-use Prim.Native.Nat.{ℕ, zero, suc, _+_, _-_, _*_, _/_, _^_, _≤_, _<_}
+use Prim.Native.Nat.{ℕ, zero, suc, _+_, _-_, _*_, _/_, _≤_, _<_}
 use mathlib.Core.Path.{_≡_, refl, sym, ap, subst, _∙_}
 use mathlib.Core.Bool.{Bool, true, false, cond}
 use mathlib.Core.List.{List, [], _∷_}
@@ -8,13 +8,13 @@ use native.Mathlib.Nat.{eq-or-lt-of-le}
 use native.Mathlib.Omega.{arith}
 use lib.ListN.{length, getD, set, length-set}
 use lib.Seq.{getD-set-same, getD-set-other}
-use Rattle.theory.specs.Routes.{Route, Answer, lookup, under}
-use Rattle.theory.specs.Results.{In, Cand, leaf, sets}
+use Rattle.theory.specs.Routes.{Route, Answer}
+use Rattle.theory.specs.Results.{leaf, sets}
 use Rattle.theory.proofs.Agree.{Agree, sets-agree}
 use Rattle.theory.proofs.Uniform.{sets-uniform}
 use Rattle.words.specs.Positions.{position}
 use Rattle.positions.specs.Runs.{inside, hopOf, orElse, sizeAt, placeAt, cover}
-use Rattle.positions.proofs.Runs.{Nested, nested-self, inside-nested, Run}
+use Rattle.positions.proofs.Runs.{nested-self, inside-nested, Run}
 use Rattle.positions.proofs.RunsNode.{place-nested, above-lt, slot-answer}
 use Rattle.hops.specs.Sets.{ShowsSet}
 use Rattle.nodes.specs.Node.{wide, run, slotSize, Node}
@@ -25,8 +25,8 @@ use Rattle.nodes.proofs.RoomLaws.{pushed-length}
 use Rattle.nodes.proofs.RoomBlocks.{run-length, slot-some, deep-step, block-deep, block-agree}
 use Rattle.nodes.proofs.RoomSizes.{Sized, nodes-below-deep, block-length, room-child}
 use Rattle.nodes.proofs.RoomWalk.{laid-start, laid-next, laid-skip, laid-own}
-use Rattle.ortc.specs.Packed.{stored, low, high, wordsOf, packed}
 use Rattle.ortc.specs.Answers.{answerIn, ShowsNode, setWords}
+use Rattle.ortc.specs.Packed.{stored, low, high, wordsOf, packed}
 
 -- ---- The answers in a slot.
 

@@ -1,3 +1,5 @@
+-- `ortc::walks::collect_sets` meets its contract: it calls itself only on a node five bits deeper. The loop's invariant: the slots from c on are
+-- collected. Assumes nothing.
 use Prim.Native.Nat.{ℕ, _+_, _-_, _/_, _≤_, _<_}
 use mathlib.Core.Path.{_≡_, refl, _∙_}
 use native.Mathlib.Omega.{arith}
@@ -23,9 +25,11 @@ use Rattle.ortc.proofs.room.push_sets.Reads as push-sets-reads
 use Rattle.ortc.proofs.walks.+collect_sets.{statement}
 use Rattle.ortc.proofs.walks.+collect_sets.Tie.{close}
 
+-- The bits below the node.
 abbrev μ : Measures 2 kinds.ps ℕ
 μ κs a = 35 - a .1 .1 .1 .0
 
+-- What holds on entry at the measure t, and of a call below it.
 abbrev at-measure : ℕ → In 2 kinds.ps
 at-measure t =
     and 2 kinds.ps (is 2 kinds.ps μ t) collect-sets.Pre
@@ -136,7 +140,7 @@ collect-sets-requires t c κs =
     let j = lp .c - 1 in
     let g = c .before .before .before .before .before .before .before .before .gather .ensures in
     let e : lp .c ≡ j + 1 = omega arith in
-    let is = c .before .before .before .before .before .covering-values .ensures 4 (j / 2) (omega arith) (omega arith) in
+    let covers = c .before .before .before .before .before .covering-values .ensures 4 (j / 2) (omega arith) (omega arith) in
     let some = c .before .before .if1 .taken in
     let here = c .before .slot-key .ensures in
     let low = covering-le n g (start .args .inherited) 4 (j / 2) (start .pre .1 .1 .0 .0) (omega arith) (omega arith) in (
@@ -144,9 +148,9 @@ collect-sets-requires t c κs =
       (
         rw here (child-node n g j (omega arith) some),
         (
-          (rw is low, start .pre .1 .1 .0 .1),
+          (omega (arith, covers, low, start .pre .1 .1 .0 .0), start .pre .1 .1 .0 .1),
           (
-            collecting-room n g (start .args .inherited) (start .args .fill) j e (lp .inv .0) is (lp .inv .1) (start .pre .1 .1 .1 .1) some _ here,
+            collecting-room n g (start .args .inherited) (start .args .fill) j e (lp .inv .0) covers (lp .inv .1) (start .pre .1 .1 .1 .1) some _ here,
             collecting-within (lp .inv .1) (start .pre .1 .1 .1 .1) .1 .1,
           ),
         ),
@@ -178,12 +182,12 @@ loop-again t c =
     let j = lp .c - 1 in
     let g = c .before .before .before .before .before .before .before .before .before .before .before .gather .ensures in
     let e : lp .c ≡ j + 1 = omega arith in
-    let is = c .before .before .before .before .before .before .before .before .covering-values .ensures 4 (j / 2) (omega arith) (omega arith) in
+    let covers = c .before .before .before .before .before .before .before .before .covering-values .ensures 4 (j / 2) (omega arith) (omega arith) in
     let some = c .before .before .before .before .before .if1 .taken in
     let here = c .before .before .before .before .slot-key .ensures in
     let child = c .before .before .collect-sets in (
       omega arith,
-      collecting-child n g (start .args .inherited) (start .args .fill) j e (lp .inv .0) is (lp .inv .1) (start .pre .1 .1 .1 .1) some _ _ here
+      collecting-child n g (start .args .inherited) (start .args .fill) j e (lp .inv .0) covers (lp .inv .1) (start .pre .1 .1 .1 .1) some _ _ here
           (child .ensures .0) (child .ensures .1),
     )
 
@@ -216,10 +220,10 @@ loop-again-2 t c =
     let j = lp .c - 1 in
     let g = c .before .before .before .before .before .before .before .gather .ensures in
     let e : lp .c ≡ j + 1 = omega arith in
-    let is = c .before .before .before .before .covering-values .ensures 4 (j / 2) (omega arith) (omega arith) in
+    let covers = c .before .before .before .before .covering-values .ensures 4 (j / 2) (omega arith) (omega arith) in
     let none = c .before .if1 .left in (
       omega arith,
-      collecting-leaf n g (start .args .inherited) (start .args .fill) j e (lp .inv .0) is (lp .inv .1) (start .pre .1 .1 .1 .1) none _ (c .leaf-set .ensures),
+      collecting-leaf n g (start .args .inherited) (start .args .fill) j e (lp .inv .0) covers (lp .inv .1) (start .pre .1 .1 .1 .1) none _ (c .leaf-set .ensures),
     )
 
 -- src/walks.rt:76:5

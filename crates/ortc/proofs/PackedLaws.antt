@@ -79,7 +79,7 @@ pub record Reading (xs : List ℕ) (top : ℕ) (o : List ℕ) (b mask at : ℕ) 
 pub reading-start : (xs : List ℕ) (top : ℕ) (o : List ℕ) (mask at : ℕ) → Begins (packed xs) top o → mask ≡ getD o top 0 → at ≡ top + 1
     → Reading xs top o 0 mask at
 reading-start xs top o mask at h e s =
-    let r = begins-word h in
+    let r : Read (maskOf xs 31) (wordsOf xs 31) top o = begins-word h in
     record { masks = e ∙ r .word; words = rw s (r .after); ends = omega arith }
 
 module _ {xs : List ℕ} {top : ℕ} {o : List ℕ} {b mask at : ℕ} (r : Reading xs top o b mask at) (small : b < 31) where

@@ -16,12 +16,12 @@ same-length : tie.Need-same-length
 same-length c = search needs
 
 returns-2 : tie.Need-returns-2
-returns-2 c = 
+returns-2 c =
     let a = c .before .before .before .before .before .before .before .args in
     (omega arith, rw (ne-eqb (a .hop) (a .above) (c .before .before .before .before .before .if1 .left), lt-ltb (a .hop) 64 (c .before .before .before .before .if2 .taken)) (c .before .before .put .ensures))
 
 returns-3 : tie.Need-returns-3
-returns-3 c = 
+returns-3 c =
     let a = c .before .before .before .args in
     (omega arith, rw (ne-eqb (a .hop) (a .above) (c .before .if1 .left), le-ltb (a .hop) 64 (c .if2 .left)) (wrote-none 0 _))
 

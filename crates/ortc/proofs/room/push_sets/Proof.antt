@@ -42,13 +42,13 @@ sub-at : tie.Need-sub-at Inv-loop μ-loop
 sub-at c = search needs
 
 mul-mask : tie.Need-mul-mask Inv-loop μ-loop
-mul-mask c = 
+mul-mask c =
     let l = c .before .before .before .before .before .before .before .before .loop in
     let m = mask-within (c .before .before .before .before .before .before .before .before .before .before .args .sets .now) (31 - l .b) 30 (omega arith) in
     omega arith
 
 add-mask : tie.Need-add-mask Inv-loop μ-loop
-add-mask c = 
+add-mask c =
     let l = c .before .before .before .before .before .before .before .before .loop in
     let m = mask-within (c .before .before .before .before .before .before .before .before .before .before .args .sets .now) (31 - l .b) 30 (omega arith) in
     omega arith
@@ -57,7 +57,7 @@ loop-less : tie.Need-loop-less Inv-loop μ-loop
 loop-less c = search needs
 
 loop-again : tie.Need-loop-again Inv-loop μ-loop
-loop-again c = 
+loop-again c =
     let a = c .before .before .before .before .before .before .before .before .before .before .args in
     let l = c .before .before .before .before .before .before .before .before .loop in
     let j = l .b - 1 in
@@ -69,7 +69,7 @@ loop-again c =
     )
 
 mul-mask-2 : tie.Need-mul-mask-2 Inv-loop μ-loop
-mul-mask-2 c = 
+mul-mask-2 c =
     let l = c .before .before .before .loop in
     let m = mask-within (c .before .before .before .before .before .args .sets .now) (31 - l .b) 30 (omega arith) in
     omega arith
@@ -78,7 +78,7 @@ loop-less-2 : tie.Need-loop-less-2 Inv-loop μ-loop
 loop-less-2 c = search needs
 
 loop-again-2 : tie.Need-loop-again-2 Inv-loop μ-loop
-loop-again-2 c = 
+loop-again-2 c =
     let a = c .before .before .before .before .before .args in
     let l = c .before .before .before .loop in
     let j = l .b - 1 in
@@ -103,7 +103,7 @@ same-length : tie.Need-same-length Inv-loop μ-loop
 same-length c = search needs
 
 returns : tie.Need-returns Inv-loop μ-loop
-returns c = 
+returns c =
     let l = c .before .loop in
     let z : 31 - l .b ≡ 31 = omega arith in (
       omega arith,

@@ -12,10 +12,16 @@ use table::count::count_nodes;
 use walks::prepare;
 use walks::write;
 ghost use mathlib.Core.Path.{_≡_};
-ghost use Prim.Native.Nat.{ℕ, _≤_};
+ghost use mathlib.Core.Bool.{not, _&&_, _||_};
+ghost use Prim.Native.Nat.{_-_, _*_, _^_, _≤_};
+ghost use lib.Dec.{eqb, leb};
 ghost use lib.ListN.{length, replicate};
+ghost use Rattle.theory.specs.Results.{startOf};
+ghost use Rattle.nodes.specs.Node.{spare};
+ghost use Rattle.nodes.specs.Room.{nodesBelow};
 ghost use Rattle.calls.specs.Rewriting.{RewritesIn, Rewrites};
 ghost use Rattle.calls.specs.Covering.{coversSays, coverReply, Queried};
+ghost use Rattle.aggregate.specs.Walks.{whole, Ready, Fills, Finished};
 
 // Makes every word of the room zero.
 fn clear(work: &mut [u32])
@@ -29,7 +35,9 @@ fn clear(work: &mut [u32])
 }
 
 // Is the mode none of the five?
-fn no_mode(mode: u32) -> bool {
+fn no_mode(mode: u32) -> bool
+    ensures { λ r. ⌜ r ≡ not (leb 1 mode && leb mode 5) ⌝ }
+{
     if mode < 1 {
         return true;
     }
@@ -37,12 +45,16 @@ fn no_mode(mode: u32) -> bool {
 }
 
 // Is the default of fill no hop?
-fn no_hop(mode: u32, default: u32) -> bool {
+fn no_hop(mode: u32, default: u32) -> bool
+    ensures { λ r. ⌜ r ≡ not (not (eqb mode 5) || leb default 63) ⌝ }
+{
     if mode == 5 { 63 < default } else { false }
 }
 
 // The hop of what has no route: the default in mode 5, and none, 64, in the others.
-fn fill_of(mode: u32, default: u32) -> u8 {
+fn fill_of(mode: u32, default: u32) -> u8
+    ensures { λ r. ⌜ (mode ≡ 5 → default ≤ 63 → r ≡ default) × ((mode ≡ 5 → ⊥) → r ≡ 64) ⌝ }
+{
     if mode == 5 { (default % 256) as u8 } else { 64 }
 }
 
@@ -124,7 +136,10 @@ pub fn rewrite(
 }
 
 // The query as a wide address, without the bits past its length.
-fn masked(address: u32, len: usize) -> u64 {
+fn masked(address: u32, len: usize) -> u64
+    requires { ⌜ len ≤ 32 ⌝ }
+    ensures { λ r. ⌜ r ≡ startOf (32 - len) address * 2 ^ spare ⌝ }
+{
     let below = 32 - len;
     (((address as u64) >> below) << below) * 8
 }

@@ -5,9 +5,21 @@ use consistent::sets::aggregate_consistent_set;
 use cover::maximal::aggregate_set;
 use cover::maximal::collect_coverage;
 use ortc::walks::collect_sets;
+ghost use mathlib.Core.Path.{_≡_};
+ghost use Prim.Native.Nat.{_+_, _*_, _^_, _≤_};
+ghost use lib.ListN.{length};
+ghost use Rattle.nodes.specs.Node.{wide};
+ghost use Rattle.nodes.specs.Output.{Wrote};
+ghost use Rattle.nodes.specs.Room.{nodesBelow};
+ghost use Rattle.aggregate.specs.Walks.{whole, Ready, Fills, Prepared, wideResult};
 
 // Lays what the mode's walk reads into the room: the coverage of the nodes in mode 1, their candidate sets in modes 4 and 5. Says where it begins.
-pub fn prepare(table: &[u8], mode: u32, fill: u8, work: &mut [u32]) -> usize {
+pub fn prepare(table: &[u8], mode: u32, fill: u8, work: &mut [u32]) -> usize
+    requires { ⌜ Ready (now table) mode ⌝ }
+    requires { ⌜ Fills mode fill ⌝ }
+    requires { ⌜ 160 * nodesBelow 7 0 (whole (now table)) ≤ length (now work) ⌝ }
+    ensures { λ r. ⌜ Prepared (now (table .entry)) mode fill r (now (work .exit)) ⌝ }
+{
     let records = table.len() / 8;
     let size = work.len();
     if mode == 1 {
@@ -22,7 +34,14 @@ pub fn prepare(table: &[u8], mode: u32, fill: u8, work: &mut [u32]) -> usize {
 }
 
 // Writes the mode's result into the output, if it has room for it, and says how many records it has.
-pub fn write(table: &[u8], mode: u32, fill: u8, work: &[u32], top: usize, out: &mut [u8]) -> usize {
+pub fn write(table: &[u8], mode: u32, fill: u8, work: &[u32], top: usize, out: &mut [u8]) -> usize
+    requires { ⌜ (1 ≤ mode) × (mode ≤ 5) ⌝ }
+    requires { ⌜ Ready (now table) mode ⌝ }
+    requires { ⌜ Fills mode fill ⌝ }
+    requires { ⌜ Prepared (now table) mode fill top (now work) ⌝ }
+    ensures { λ r. ⌜ r + 6 ≤ 8 * 2 ^ wide ⌝ }
+    ensures { λ r. ⌜ Wrote (wideResult (now (table .entry)) mode fill) 0 r (now (out .entry)) (now (out .exit)) ⌝ }
+{
     let records = table.len() / 8;
     if mode == 1 {
         let root = aggregate_set(table, 0, records, 0, 0, false, work, top, out);

@@ -14,8 +14,8 @@ use Rattle.theory.specs.Demands.{HopIn, HopFrom}
 use Rattle.theory.proofs.Lists.{all-map, all-member}
 use Rattle.theory.proofs.Chosen.{smallest-chooses}
 use Rattle.theory.proofs.Modes.{result-hops, result-again, drop-alike, fill-alike, set-alike}
-use Rattle.table.specs.Wire.{records, routes, bytesOf, Bytes, topHop, Lawful}
-use Rattle.table.specs.Facts.{Accepted}
+use Rattle.table.specs.Wire.{records, routes, bytesOf, Bytes, topHop}
+use Rattle.table.specs.Facts.{Accepted, Lawful}
 use Rattle.table.specs.Nodes.{nodes}
 use Rattle.table.proofs.Accepted.{accepted}
 use Rattle.table.proofs.Tables.{table-accepted}

@@ -16,7 +16,8 @@ use Rattle.theory.proofs.Chosen.{smallest-chooses}
 use Rattle.theory.proofs.Modes.{result-keeps, result-table}
 use Rattle.theory.proofs.Maximal.{throughout-each}
 use Rattle.table.specs.Rules.{Reply, gives, refuses}
-use Rattle.table.specs.Wire.{records, routes, bytesOf, Bytes, Lawful}
+use Rattle.table.specs.Wire.{records, routes, bytesOf, Bytes}
+use Rattle.table.specs.Facts.{Lawful}
 use Rattle.table.proofs.Accepted.{not-refused}
 use Rattle.table.proofs.Tables.{accepted-table}
 use Rattle.table.proofs.Written.{length-bytes, routes-bytes}

@@ -54,52 +54,64 @@ own-zero n a zero = go (all-part (isAt wide n a) (λ r h e. h) zero)
     go nil = refl
     go (cons h hs) = ap via h
 
--- The routes of a slot have hop 0, where those of the node do.
-pub slot-zero : {t : List ℕ} {lo hi depth key : ℕ} {first end : List ℕ} {present : ℕ} → Gathered t lo hi depth key first end present
-    → All (λ r. r .hop ≡ 0) (run t lo hi) → (c : ℕ) → c < 32 → All (λ r. r .hop ≡ 0) (runAt t first end (31 + c))
-slot-zero g zero c lt = rw (slot-records g c lt) (all-part _ (λ r h e. h) zero)
+-- What is found of a node of hops 0 before its slots are walked: the records of its places, the slots below a member and the entries, by hop 0.
+pub record Found (t : List ℕ) (lo hi depth key : ℕ) (first end : List ℕ) (under entries : ℕ) (hops : List ℕ) : Type 0 where
+  pub node : Node t lo hi depth key
+  pub zero : All (λ r. r .hop ≡ 0) (run t lo hi)
+  pub present : ℕ
+  pub gathered : Gathered t lo hi depth key first end present
+  pub covered : ℕ
+  pub members : UnderMembers present covered under
+  pub kept : Kept present 0 covered entries
+  pub zeros : (b : ℕ) → b < 31 → getD hops b 0 ≡ 0
 
-module _ {t : List ℕ} {lo hi depth key : ℕ} {first end : List ℕ} {present covered under : ℕ}
-    (g : Gathered t lo hi depth key first end present) (u : UnderMembers present covered under) where
+module _ {t : List ℕ} {lo hi depth key : ℕ} {first end : List ℕ} {under entries : ℕ} {hops : List ℕ}
+    (f : Found t lo hi depth key first end under entries hops) where
   -- The state at a slot says whether the slot is below a member.
   slot-state : (c : ℕ) → c < 32 → keptState isBelow orRouted (run t lo hi) (slotSize depth) key false 5 c ≡ bit under c
-  slot-state c lt = consistent-set-state wide (slotSize depth) key (run t lo hi) false 5 c ∙ sym (slot-is g u c lt)
+  slot-state c lt =
+      consistent-set-state wide (slotSize depth) key (run t lo hi) false 5 c ∙ sym (slot-is (f .gathered) (f .members) c lt)
 
   -- A slot below a member has no entries,
   pub slot-below-member : (c : ℕ) → c < 32 → bit under c ≡ true → setSlot t lo hi depth key first end c ≡ []
-  slot-below-member c lt e = rw (slot-state c lt, e) (set-covered (runAt t first end (31 + c)) (slotSize depth) (placeAt (slotSize depth) key 5 c))
+  slot-below-member c lt e =
+      rw (slot-state c lt, e) (set-covered (runAt t first end (31 + c)) (slotSize depth) (placeAt (slotSize depth) key 5 c))
 
   -- nor has one without records.
   pub slot-without : (c : ℕ) → c < 32 → getD end (31 + c) 0 ≤ getD first (31 + c) 0 → setSlot t lo hi depth key first end c ≡ []
-  slot-without c lt le = kept-no-child isBelow orRouted g c lt le (keptState isBelow orRouted (run t lo hi) (slotSize depth) key false 5 c)
+  slot-without c lt le =
+      kept-no-child isBelow orRouted (f .gathered) c lt le (keptState isBelow orRouted (run t lo hi) (slotSize depth) key false 5 c)
 
   -- Another has those of its node: what a call for that node wrote is what the walk puts out at the slot.
-  pub slot-open : Node t lo hi depth key → (c : ℕ) → c < 32 → bit under c ≡ false → (a : ℕ) → a ≡ placeAt (slotSize depth) key 5 c
+  pub slot-open : (c : ℕ) → c < 32 → bit under c ≡ false → (a : ℕ) → a ≡ placeAt (slotSize depth) key 5 c
       → {k : ℕ} {o o′ : List ℕ} → Wrote (setWalk (runAt t first end (31 + c)) (wide - (depth + 5)) a false) 0 k o o′
       → Wrote (setSlot t lo hi depth key first end c) 0 k o o′
-  slot-open n c lt e a is w =
-      let size : wide - (depth + 5) ≡ slotSize depth = omega (arith, n .deep) in
+  slot-open c lt e a is w =
+      let size : wide - (depth + 5) ≡ slotSize depth = omega (arith, f .node .deep) in
       rw (slot-state c lt, e) (rw (is, size) at w)
 
-  module _ (n : Node t lo hi depth key) (zero : All (λ r. r .hop ≡ 0) (run t lo hi)) (entries : ℕ) (kept : Kept present 0 covered entries)
-      (hops : List ℕ) (zeros : (b : ℕ) → b < 31 → getD hops b 0 ≡ 0) where
-    -- A position has an entry, by hop 0, where a member stands and none above it.
-    set-entry : (l j : ℕ) → l ≤ 4 → j < 2 ^ l → entryAt entries hops depth key l j
-        ≡ keptOut isBelow wide (run t lo hi) (sizeAt (slotSize depth) l) (placeAt (slotSize depth) key l j)
-        (keptState isBelow orRouted (run t lo hi) (slotSize depth) key false l j)
-    set-entry l j le lt =
-        let size : depth + l ≡ wide - sizeAt (slotSize depth) l = omega (arith, n .deep) in
-        rw (size, zeros (position l j) (in-word l j le lt), consistent-set-state wide (slotSize depth) key (run t lo hi) false l j)
-        (go (own wide (sizeAt (slotSize depth) l) (placeAt (slotSize depth) key l j) (run t lo hi)) _ _
-        (own-zero (sizeAt (slotSize depth) l) (placeAt (slotSize depth) key l j) zero) (top-member g u entries kept l j le lt))
-      where
-        go : (o : Answer) (b s : Bool) → o ≡ cond (routed o) (via 0) none → b ≡ (routed o && not s)
-            → cond b (route (placeAt (slotSize depth) key l j) (wide - sizeAt (slotSize depth) l) 0 ∷ []) []
-            ≡ entryUnless isBelow wide (sizeAt (slotSize depth) l) (placeAt (slotSize depth) key l j) o s
-        go none b s z e = rw e
-        go (via h) b true z e = rw e
-        go (via h) b false z e = let q : h ≡ 0 = cc in rw (e, q)
+  -- That node is one of hops 0.
+  pub slot-zero : (c : ℕ) → c < 32 → All (λ r. r .hop ≡ 0) (runAt t first end (31 + c))
+  slot-zero c lt = rw (slot-records (f .gathered) c lt) (all-part _ (λ r h e. h) (f .zero))
 
-    -- The walk of mode 2 through the node, by its slots.
-    pub set-slots : setWalk (run t lo hi) (wide - depth) key false ≡ slots (entryAt entries hops depth key) (setSlot t lo hi depth key first end) 32
-    set-slots = kept-slots isBelow orRouted g n false entries hops set-entry
+  -- A position has an entry, by hop 0, where a member stands and none above it.
+  set-entry : (l j : ℕ) → l ≤ 4 → j < 2 ^ l → entryAt entries hops depth key l j
+      ≡ keptOut isBelow wide (run t lo hi) (sizeAt (slotSize depth) l) (placeAt (slotSize depth) key l j)
+      (keptState isBelow orRouted (run t lo hi) (slotSize depth) key false l j)
+  set-entry l j le lt =
+      let size : depth + l ≡ wide - sizeAt (slotSize depth) l = omega (arith, f .node .deep) in
+      rw (size, f .zeros (position l j) (in-word l j le lt), consistent-set-state wide (slotSize depth) key (run t lo hi) false l j)
+      (go (own wide (sizeAt (slotSize depth) l) (placeAt (slotSize depth) key l j) (run t lo hi)) _ _
+      (own-zero (sizeAt (slotSize depth) l) (placeAt (slotSize depth) key l j) (f .zero))
+      (top-member (f .gathered) (f .members) entries (f .kept) l j le lt))
+    where
+      go : (o : Answer) (b s : Bool) → o ≡ cond (routed o) (via 0) none → b ≡ (routed o && not s)
+          → cond b (route (placeAt (slotSize depth) key l j) (wide - sizeAt (slotSize depth) l) 0 ∷ []) []
+          ≡ entryUnless isBelow wide (sizeAt (slotSize depth) l) (placeAt (slotSize depth) key l j) o s
+      go none b s z e = rw e
+      go (via h) b true z e = rw e
+      go (via h) b false z e = let q : h ≡ 0 = cc in rw (e, q)
+
+  -- The walk of mode 2 through the node, by its slots.
+  pub set-slots : setWalk (run t lo hi) (wide - depth) key false ≡ slots (entryAt entries hops depth key) (setSlot t lo hi depth key first end) 32
+  set-slots = kept-slots isBelow orRouted (f .gathered) (f .node) false entries hops set-entry

@@ -1,2 +1,4 @@
 -- The laws of cover.
 pub mod CoverLaws
+pub mod MaximalLaws
+pub mod MaximalRoom

@@ -22,12 +22,12 @@ use Rattle.table.specs.Facts.{Lawful}
 use Rattle.table.proofs.Tables.{accepted-table}
 use Rattle.words.specs.Bits.{bit}
 use Rattle.words.specs.Positions.{position}
-use Rattle.positions.specs.Runs.{isAt, inside, headHop, own, orElse, sizeAt, placeAt, cover}
+use Rattle.positions.specs.Runs.{isAt, inside, headHop, own, orElse, sizeAt, placeAt, cover, hopOf}
 use Rattle.positions.specs.Wide.{widened}
 use Rattle.positions.proofs.Runs.{Run, inside-within}
 use Rattle.positions.proofs.RunsNode.{size-slot, place-aligned, place-nested, above-lt}
 use Rattle.positions.proofs.Wide.{all-widen, table-widen, short-widen}
-use Rattle.nodes.specs.Node.{wide, spare, wideAt, run, slotSize, Node, hopOf}
+use Rattle.nodes.specs.Node.{wide, spare, wideAt, run, slotSize, Node}
 use Rattle.nodes.specs.Gathered.{filed, some, runAt, Gathered, valueOf, coveringAt}
 use Rattle.nodes.proofs.GatherPlaces.{filed-position}
 use Rattle.nodes.proofs.GatherRuns.{member-run, run-none, run-first}

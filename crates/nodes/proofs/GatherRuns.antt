@@ -12,7 +12,7 @@ use borrow.Author.Tests.{lt-ltb, le-ltb}
 use Rattle.theory.specs.Results.{part}
 use Rattle.theory.specs.Routes.{Route, All, nil, cons, Before, Ascending, first, Member, head, later}
 use Rattle.theory.proofs.Lists.{all-member}
-use Rattle.theory.proofs.Parts.{part-whole, part-none}
+use Rattle.theory.proofs.Parts.{part-whole, part-none, part-append}
 use Rattle.table.specs.Wire.{routesFrom}
 use Rattle.positions.specs.Wide.{widened}
 use Rattle.nodes.specs.Node.{spare, wideAt, run}
@@ -94,14 +94,6 @@ some-run t lo hi = go (decLt lo hi)
     go (no ge) = let h : hi ≤ lo = omega arith in ap some (run-none t lo hi h) ∙ sym (le-ltb lo hi h)
 
 -- ---- The part of a run that is a run.
-
-part-append : (p : Route → Bool) (s t : List Route) → part p (s ++ t) ≡ part p s ++ part p t
-part-append p [] t = refl
-part-append p (r ∷ s) t = go (p r) (part-append p s t)
-  where
-    go : (b : Bool) → part p (s ++ t) ≡ part p s ++ part p t → cond b (r ∷ part p (s ++ t)) (part p (s ++ t)) ≡ cond b (r ∷ part p s) (part p s) ++ part p t
-    go true ih = ap (λ (u : List Route). r ∷ u) ih
-    go false ih = ih
 
 module _ (t : List ℕ) (p : Route → Bool) where
   -- A test that none of the records passes.

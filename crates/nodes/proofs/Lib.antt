@@ -12,3 +12,4 @@ pub mod RoomWalk
 pub mod RoomNodes
 pub mod GatherLaws
 pub mod MemberLaws
+pub mod OutputWalk

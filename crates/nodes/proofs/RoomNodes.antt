@@ -12,14 +12,14 @@ use Rattle.theory.proofs.Blocks.{aligned-zero, in→block, block→in}
 use Rattle.table.specs.Nodes.{nodes}
 use Rattle.table.specs.Wire.{records, routes, routesFrom}
 use Rattle.table.proofs.NodeCount.{both-true, true-both}
-use Rattle.table.proofs.NodeRuns.{inBlock, slotKey, slotRun, sumTo, nodesIn, nodes-runs}
+use Rattle.table.proofs.NodeRuns.{orNone, inBlock, slotKey, slotRun, sumTo, nodesIn, nodes-runs}
 use Rattle.positions.specs.Runs.{isIn, inside, placeAt}
 use Rattle.positions.specs.Wide.{widen, widened}
 use Rattle.positions.proofs.Runs.{is-in}
 use Rattle.positions.proofs.RunsNode.{size-slot, place-aligned}
 use Rattle.positions.proofs.Wide.{unwide, in-widen, part-widen}
 use Rattle.nodes.specs.Node.{wide, run}
-use Rattle.nodes.specs.Room.{orNone, slotNodes, nodesBelow}
+use Rattle.nodes.specs.Room.{slotNodes, nodesBelow}
 use Rattle.nodes.proofs.RoomSizes.{nodesAt, nodes-below-next}
 
 -- Tests that hold of the same things are equal.

@@ -10,7 +10,8 @@ use lib.ListN.{length, length-append}
 use Rattle.theory.specs.Routes.{Route}
 use Rattle.positions.specs.Runs.{inside, placeAt}
 use Rattle.nodes.specs.Node.{wide, slotSize}
-use Rattle.nodes.specs.Room.{SlotBlock, SlotBlocks, Block, nodesDeep, orNone, slotNodes, nodesBelow}
+use Rattle.table.proofs.NodeRuns.{orNone}
+use Rattle.nodes.specs.Room.{SlotBlock, SlotBlocks, Block, nodesDeep, slotNodes, nodesBelow}
 use Rattle.nodes.proofs.RoomBlocks.{deep-step}
 
 -- ---- The nodes below a node, slot by slot.

@@ -1,10 +1,8 @@
 -- A node as a run of a table's records, at wide addresses.
 use Prim.Native.Nat.{ℕ, _+_, _-_, _*_, _^_, _≤_, _<_}
 use mathlib.Core.Path.{_≡_}
-use mathlib.Core.Bool.{cond}
 use mathlib.Core.List.{List}
-use lib.Dec.{ltb}
-use Rattle.theory.specs.Routes.{Route, All, Table, Aligned, Answer, none, via}
+use Rattle.theory.specs.Routes.{Route, All, Table, Aligned}
 use Rattle.theory.proofs.Preserve.{Within}
 use Rattle.table.specs.Wire.{records, routesFrom, routeAt}
 use Rattle.positions.specs.Wide.{widen, widened}
@@ -41,7 +39,3 @@ pub record Node (t : List ℕ) (lo hi depth key : ℕ) : Type 0 where
   pub within : All (Within wide (wide - depth) key) (run t lo hi)
   pub short : All (λ r. r .len ≤ 32) (run t lo hi)
   pub hops : All (λ r. r .hop < 64) (run t lo hi)
-
--- What a hop of the code says: below 64 that hop, from 64 on none.
-abbrev pub hopOf : ℕ → Answer
-hopOf h = cond (ltb h 64) (via h) none

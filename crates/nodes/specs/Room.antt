@@ -5,6 +5,7 @@ use mathlib.Core.Path.{_≡_}
 use mathlib.Core.List.{List, [], _∷_, _++_}
 use lib.ListN.{length, take, drop}
 use Rattle.theory.specs.Routes.{Route}
+use Rattle.table.proofs.NodeRuns.{orNone}
 use Rattle.positions.specs.Runs.{inside, placeAt}
 use Rattle.nodes.specs.Node.{wide}
 
@@ -45,11 +46,6 @@ Block own (suc k) a t ws =
 -- How many nodes deep the node at this depth still goes, itself included.
 abbrev pub nodesDeep : ℕ → ℕ
 nodesDeep depth = 7 - depth / 5
-
--- A number for routes, 0 where there is none.
-abbrev pub orNone : List Route → ℕ → ℕ
-orNone [] n = 0
-orNone (r ∷ t) n = n
 
 -- The nodes of the first c slots, those that have a record.
 unfoldable pub slotNodes : (ℕ → List Route → ℕ) → ℕ → ℕ → List Route → ℕ → ℕ

@@ -15,7 +15,7 @@ use Rattle.theory.proofs.Blocks.{pow-pos, aligned-zero, aligned-left, aligned-r
 use Rattle.theory.proofs.Kept.{isShorter, passes, kept, noneAbove}
 use Rattle.theory.proofs.Lists.{all-member, member-all}
 use Rattle.theory.proofs.LongestMatch.{lookup-none, lookup-is, lookup-bits}
-use Rattle.theory.proofs.Parts.{table-part, rest, lookup-part, member-part, member-rest, part-twice, part-whole, part-none}
+use Rattle.theory.proofs.Parts.{table-part, rest, lookup-part, member-part, member-rest, part-twice, part-whole, part-none, part-append}
 use Rattle.theory.proofs.Preserve.{back}
 use Rattle.theory.proofs.Routed.{matches-in, routed}
 use Rattle.positions.specs.Runs.{isAt, isIn, inside, own, orElse, sizeAt, placeAt, coverOver, memberOver}
@@ -63,16 +63,6 @@ module _ (w : ℕ) (p : ℕ → Bool) where
       go false l r = ap₂ _++_ l r
 
 -- ---- Modes 2 and 3: the routes that a test keeps.
-
--- A part of two lists in turn.
-part-append : (p : Route → Bool) (s t : List Route) → part p (s ++ t) ≡ part p s ++ part p t
-part-append p [] t = refl
-part-append p (r ∷ s) t = go (p r) (part-append p s t)
-  where
-    go : (b : Bool) → part p (s ++ t) ≡ part p s ++ part p t
-        → cond b (r ∷ part p (s ++ t)) (part p (s ++ t)) ≡ cond b (r ∷ part p s) (part p s) ++ part p t
-    go true ih = ap (λ (u : List Route). r ∷ u) ih
-    go false ih = ih
 
 -- What the routes shorter than k say of x.
 abbrev pub overhead : ℕ → List Route → ℕ → ℕ → Answer

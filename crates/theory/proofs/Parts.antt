@@ -233,3 +233,12 @@ part-either p q k (first {r = r} {t = t} b o) = go (p r) refl (q r) refl (part-e
     go true e false f ih = ap (λ (u : List Route). r ∷ u) ih
     go false e true f ih = rw (ih, none f)
     go false e false f ih = ih
+
+-- The routes of two lists, one after the other, that pass a test.
+pub part-append : (p : Route → Bool) (s t : List Route) → part p (s ++ t) ≡ part p s ++ part p t
+part-append p [] t = refl
+part-append p (r ∷ s) t = go (p r) (part-append p s t)
+  where
+    go : (b : Bool) → part p (s ++ t) ≡ part p s ++ part p t → cond b (r ∷ part p (s ++ t)) (part p (s ++ t)) ≡ cond b (r ∷ part p s) (part p s) ++ part p t
+    go true ih = ap (λ (u : List Route). r ∷ u) ih
+    go false ih = ih

@@ -127,7 +127,7 @@ covers-in-aggregate-add-covers-in-aggregate t c = omega (arith, c .before .befor
 covers-in-aggregate-slot-key-requires : (t : ℕ) → covers-in-aggregate-lts.Need-slot-key-requires (covers-in-aggregate-claims t) (covers-in-aggregate-at t) covers-in-aggregate.Post
 covers-in-aggregate-slot-key-requires t c κs =
     let s = sought t (c .before .before .before .before .before .before) in
-    (s .node .deep, (place-slot s (c .before .before .before .before .before .if1 .left) .2, s .node .small))
+    (s .node .deep, (omega (arith, place-slot s (c .before .before .before .before .before .if1 .left) .2), s .node .small))
 
 covers-in-aggregate-covers-in-aggregate-requires : (t : ℕ) → covers-in-aggregate-lts.Need-covers-in-aggregate-requires (covers-in-aggregate-claims t) (covers-in-aggregate-at t) covers-in-aggregate.Post
 covers-in-aggregate-covers-in-aggregate-requires t c κs =

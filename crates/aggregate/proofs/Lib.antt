@@ -1,0 +1,2 @@
+-- The laws of aggregate.
+pub mod WalkLaws

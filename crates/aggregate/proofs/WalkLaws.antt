@@ -1,0 +1,122 @@
+-- What the walks of the five modes make of a whole table: at wide addresses each is the mode's result, and narrowed it is the result itself.
+-- Assumes nothing.
+use Prim.Native.Nat.{ℕ, _*_, _≤_, _<_}
+use mathlib.Core.Path.{_≡_, refl, sym, ap, _∙_}
+use mathlib.Core.Bool.{Bool, true, false}
+use mathlib.Core.List.{List, _++_}
+use mathlib.Core.Logic.{_⊎_, inl, inr}
+use native.Mathlib.Nat.{eq-or-lt-of-le}
+use native.Mathlib.Omega.{arith}
+use lib.Dec.{eqb}
+use lib.ListN.{length, drop}
+use borrow.Author.Tests.{lt-ltb, eqb-true, eqb-false}
+use Rattle.theory.specs.Results.{ortc, result, smallest}
+use Rattle.theory.specs.Routes.{Route, held, Answer, none, via, answer, orDefault, filled, Valid, All, Table}
+use Rattle.theory.proofs.Agree.{ortc-agree}
+use Rattle.theory.proofs.Chosen.{smallest-chooses}
+use Rattle.table.specs.Wire.{routes, bytesOf}
+use Rattle.positions.specs.Runs.{hopOf, orElse}
+use Rattle.positions.specs.Walk.{walk}
+use Rattle.positions.specs.Walks.{maximalOut, maximalNext, consistentSetOut, consistentSetNext, consistentMapOut, consistentMapNext}
+use Rattle.positions.specs.Wide.{narrowed}
+use Rattle.positions.proofs.Modes.{set-walk, consistent-set-walk, consistent-map-walk}
+use Rattle.positions.proofs.Wide.{result-narrow, length-narrow}
+use Rattle.nodes.specs.Node.{wide, spare}
+use Rattle.nodes.specs.Output.{wireOf, Wrote}
+use Rattle.nodes.specs.Room.{Laid, Stored}
+use Rattle.nodes.proofs.GatherLaws.{root-run}
+use Rattle.nodes.proofs.OutputLaws.{wrote-whole, wrote-count}
+use Rattle.nodes.proofs.RoomLaws.{pushed-begins}
+use Rattle.ortc.specs.Answers.{answerIn}
+use Rattle.calls.specs.Rewriting.{modeOf, resultOf}
+use Rattle.aggregate.specs.Walks.{whole, Fills, wideResult}
+
+-- ---- From wide addresses to those of the wire.
+
+module _ (t : List ℕ) (mode fill : ℕ) (valid : All (Valid 32) (routes t)) where
+  -- What the mode makes of the table at wide addresses is, narrowed, its result.
+  pub wide-is : narrowed spare (wideResult t mode fill) ≡ resultOf t mode fill
+  unfolding wideResult resultOf
+  wide-is =
+      ap (λ (u : List Route). narrowed spare (result smallest wide (modeOf mode fill) u)) (root-run t)
+      ∙ result-narrow smallest smallest-chooses 32 spare (modeOf mode fill) valid
+
+  -- So it has as many routes,
+  pub wide-length : length (wideResult t mode fill) ≡ length (resultOf t mode fill)
+  wide-length = sym (length-narrow spare (wideResult t mode fill)) ∙ ap length wide-is
+
+  -- and the same bytes on the wire.
+  pub wide-bytes : wireOf (wideResult t mode fill) ≡ bytesOf (resultOf t mode fill)
+  wide-bytes = ap bytesOf wide-is
+
+  module _ {k : ℕ} {o o′ : List ℕ} (wrote : Wrote (wideResult t mode fill) 0 k o o′) where
+    -- A walk counts the records of the result, whatever room there is,
+    pub written-count : k ≡ length (resultOf t mode fill)
+    written-count = wrote-count wrote ∙ wide-length
+
+    -- and writes them to the start of the output, where they fit.
+    pub written-bytes : 8 * k ≤ length o → o′ ≡ bytesOf (resultOf t mode fill) ++ drop (8 * k) o
+    written-bytes fits =
+        let e : k * 8 ≡ 8 * k = omega arith in
+        wrote-whole wrote (omega arith) .0 ∙ rw (wide-bytes, e)
+
+-- ---- The walks from the root.
+
+-- An answer or else none is the answer, and an answer or else a hop is the answer with that default.
+else-none : (a : Answer) → orElse a none ≡ a
+else-none none = refl
+else-none (via h) = refl
+
+else-via : (d : ℕ) (a : Answer) → orElse a (via d) ≡ orDefault d a
+else-via d none = refl
+else-via d (via h) = refl
+
+-- The filling hop is a hop or 64.
+pub fill-le : {mode fill : ℕ} → Fills mode fill → fill ≤ 64
+fill-le {mode} {fill} fills = go (eqb mode 5) refl
+  where
+    go : (b : Bool) → eqb mode 5 ≡ b → fill ≤ 64
+    go true e = omega (arith, fills .hop (eqb-true mode 5 e))
+    go false e = omega (arith, fills .none (eqb-false mode 5 e))
+
+module _ (t : List ℕ) {mode : ℕ} (fill : ℕ) where
+  -- Mode 1.
+  pub set-is : mode ≡ 1 → wideResult t mode fill ≡ walk (maximalOut wide (held wide (whole t))) (maximalNext (held wide (whole t))) wide 0 false
+  unfolding wideResult
+  set-is e = rw e (set-walk smallest wide (whole t))
+
+  -- Mode 2.
+  pub consistent-set-is : mode ≡ 2 → Table wide (whole t)
+      → wideResult t mode fill ≡ walk (consistentSetOut wide (whole t)) (consistentSetNext wide (whole t)) wide 0 false
+  unfolding wideResult
+  consistent-set-is e table = rw e (consistent-set-walk smallest wide (whole t) table)
+
+  -- Mode 3.
+  pub consistent-map-is : mode ≡ 3 → Table wide (whole t)
+      → wideResult t mode fill ≡ walk (consistentMapOut wide (whole t)) (consistentMapNext wide (whole t)) wide 0 none
+  unfolding wideResult
+  consistent-map-is e table = rw e (consistent-map-walk smallest wide (whole t) table)
+
+  -- Modes 4 and 5: the rewrite of the answers, filled where the mode fills.
+  pub ortc-is : 4 ≤ mode → mode ≤ 5 → Fills mode fill
+      → wideResult t mode fill ≡ ortc smallest wide (answerIn (whole t) none (hopOf fill)) wide 0 none
+  unfolding wideResult result
+  ortc-is low high fills = go (eq-or-lt-of-le high)
+    where
+      go : (mode ≡ 5) ⊎ (mode < 5) → wideResult t mode fill ≡ ortc smallest wide (answerIn (whole t) none (hopOf fill)) wide 0 none
+      go (inl e) =
+          rw (e, lt-ltb fill 64 (fills .hop e))
+          (ortc-agree (filled fill (answer wide (whole t))) (answerIn (whole t) none (via fill)) smallest wide wide 0 none
+          (λ x i. sym (else-via fill (answer wide (whole t) x))))
+      go (inr lt) =
+          let four : mode ≡ 4 = omega arith in
+          rw (four, fills .none (λ five. omega arith))
+          (ortc-agree (answer wide (whole t)) (answerIn (whole t) none none) smallest wide wide 0 none
+          (λ x i. sym (else-none (answer wide (whole t) x))))
+
+-- ---- The room.
+
+-- A block that was laid is stored.
+pub laid-stored : {own : ℕ → ℕ → List Route → List ℕ → Type 0} {k a : ℕ} {t : List Route} {top r : ℕ} {o o′ : List ℕ}
+    → Laid own k a t top r o o′ → top ≤ length o → Stored own k a t r o′
+laid-stored laid within = record { words = laid .words; block = laid .block; begins = pushed-begins (laid .pushed) within }

@@ -1,0 +1,49 @@
+-- The walks of the five modes over a whole table: what they need, and what they write.
+use Prim.Native.Nat.{ℕ, _*_, _≤_, _<_}
+use mathlib.Core.Path.{_≡_}
+use mathlib.Core.Bool.{true}
+use mathlib.Core.List.{List, [], _∷_}
+use lib.Dec.{leb}
+use lib.ListN.{length}
+use Rattle.theory.specs.Routes.{Route, All, none}
+use Rattle.theory.specs.Results.{result, smallest}
+use Rattle.table.specs.Rules.{rule, Reply, judge}
+use Rattle.table.specs.Wire.{records}
+use Rattle.positions.specs.Runs.{hopOf}
+use Rattle.nodes.specs.Node.{wide, run, Node}
+use Rattle.nodes.specs.Room.{Stored}
+use Rattle.cover.specs.Coverage.{coverageWord}
+use Rattle.ortc.specs.Answers.{answerIn, setWords}
+use Rattle.calls.specs.Rewriting.{modeOf, takesSet, resultOf, writtenOf, outputOf, rewrittenSays}
+use Rattle.calls.specs.declared.Rewritten.{Rewritten}
+
+-- The table's records as wide routes.
+abbrev pub whole : List ℕ → List Route
+whole t = run t 0 (records t)
+
+-- The table keeps the rules of the mode's tables: its records are those of the root, and a set's hops are 0.
+pub record Ready (t : List ℕ) (mode : ℕ) : Type 0 where
+  pub node : Node t 0 (records t) 0 0
+  pub bare : takesSet mode ≡ true → All (λ r. r .hop ≡ 0) (whole t)
+
+-- The hop that fills what has no route: a hop in mode 5, none in the others.
+pub record Fills (mode fill : ℕ) : Type 0 where
+  pub hop : mode ≡ 5 → fill < 64
+  pub none : (mode ≡ 5 → ⊥) → fill ≡ 64
+
+-- From `top` on the room holds what the mode's writing walk reads: the nodes' coverage in mode 1, their sets in modes 4 and 5.
+pub record Prepared (t : List ℕ) (mode fill top : ℕ) (work : List ℕ) : Type 0 where
+  pub coverage : mode ≡ 1 → Stored coverageWord 7 0 (whole t) top work
+  pub sets : 4 ≤ mode → Stored (setWords (answerIn (whole t) none (hopOf fill))) 7 0 (whole t) top work
+
+-- What the mode makes of the table at wide addresses.
+unfoldable pub wideResult : List ℕ → ℕ → ℕ → List Route
+wideResult t mode fill = result smallest wide (modeOf mode fill) (whole t)
+
+-- The end of a rewrite of a table that keeps the rules: only the output's room is still to be judged, by rule 11.
+abbrev pub lastReply : List ℕ → ℕ → ℕ → ℕ → Reply (List Route)
+lastReply t mode fill room = judge (rule 11 0 (leb (8 * length (resultOf t mode fill)) room) ∷ []) (resultOf t mode fill)
+
+pub record Finished (t : List ℕ) (mode fill : ℕ) (o : List ℕ) (r : Rewritten) (o′ : List ℕ) : Type 0 where
+  pub answer : rewrittenSays r ≡ writtenOf (records t) (lastReply t mode fill (length o))
+  pub output : o′ ≡ outputOf o (lastReply t mode fill (length o))

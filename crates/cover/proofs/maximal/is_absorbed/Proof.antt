@@ -1,0 +1,38 @@
+-- `cover::maximal::is_absorbed` meets its contract. Assumes nothing.
+use borrow.Author.Needs.{needs}
+use Rattle.cover.proofs.maximal.is_absorbed.Statement.{statement}
+use Rattle.cover.proofs.maximal.is_absorbed.Tie as tie
+
+returns : tie.Need-returns
+returns c = search needs
+
+cast-has-bit : tie.Need-cast-has-bit
+cast-has-bit c = search needs
+
+has-bit-requires : tie.Need-has-bit-requires
+has-bit-requires c κs = search needs
+
+returns-2 : tie.Need-returns-2
+returns-2 c = rw (c .before .before .if1 .left, ← c .before .has-bit .ensures, c .if2 .taken)
+
+cast-has-bit-2 : tie.Need-cast-has-bit-2
+cast-has-bit-2 c = search needs
+
+has-bit-requires-2 : tie.Need-has-bit-requires-2
+has-bit-requires-2 c κs = search needs
+
+returns-3 : tie.Need-returns-3
+returns-3 c =
+    rw (c .before .before .before .if1 .left, ← c .before .before .has-bit .ensures, c .before .if2 .left) (c .has-bit2 .ensures)
+
+pub is-absorbed-spec : {M : Type 1} → statement M
+is-absorbed-spec =
+    tie.close
+    (tie.spec
+    returns
+    cast-has-bit
+    has-bit-requires
+    returns-2
+    cast-has-bit-2
+    has-bit-requires-2
+    returns-3)

@@ -1,0 +1,275 @@
+-- The second walk of a node: its rewrite by its slots, the rewrite of a slot without routes, and the loop over the slots, a step at a time.
+use Prim.Native.Nat.{ℕ, _+_, _-_, _*_, _/_, _^_, _≤_, _<_}
+use mathlib.Core.Path.{_≡_, refl, sym, ap, _∙_}
+use mathlib.Core.List.{List, []}
+use native.Mathlib.Decide.{decLt}
+use native.Mathlib.Omega.{arith}
+use lib.ListN.{length, getD}
+use Rattle.theory.specs.Routes.{Route, Answer}
+use Rattle.theory.specs.Results.{smallest, ortc}
+use Rattle.theory.proofs.Agree.{ortc-agree}
+use Rattle.theory.proofs.Chosen.{smallest-chooses}
+use Rattle.theory.proofs.Quick.{ortc-uniform}
+use Rattle.words.specs.Positions.{position}
+use Rattle.positions.specs.Runs.{hopOf, orElse, sizeAt, placeAt}
+use Rattle.positions.specs.Walk.{walk, stateAt, slots}
+use Rattle.positions.specs.Walks.{ortcOut, ortcNext}
+use Rattle.positions.proofs.Modes.{ortc-walk}
+use Rattle.positions.proofs.Slots.{walk-slots, slots-agree}
+use Rattle.nodes.specs.Node.{wide, run, slotSize, Node}
+use Rattle.nodes.specs.Gathered.{runAt, Gathered, coveringAt}
+use Rattle.nodes.specs.Output.{Wrote, entryAt, slotHeads}
+use Rattle.nodes.specs.Room.{Begins, Block, nodesDeep, Stored, SlotsAhead}
+use Rattle.nodes.proofs.GatherLaws.{no-child, covering-le}
+use Rattle.nodes.proofs.GatherRuns.{run-none}
+use Rattle.nodes.proofs.OutputLaws.{wrote-none, slots-zero, slots-more, slots-count, node-count}
+use Rattle.nodes.proofs.RoomBlocks.{slot-nested, block-deep}
+use Rattle.nodes.proofs.RoomWalk.{ahead-start, ahead-next, ahead-skip, ahead-end}
+use Rattle.words.specs.Bits.{bit}
+use Rattle.ortc.specs.Answers.{answerIn, ShowsNode, setWords, assignedAt, entryOver}
+use Rattle.ortc.specs.Packed.{packed}
+use Rattle.ortc.proofs.AssignLaws.{state-assigned, AssignedHop, hasEntry, leaf-entry, entries-are}
+use Rattle.ortc.proofs.SlotLaws.{slot-alike, slot-block}
+
+-- ---- A node's rewrite, by its slots.
+
+-- What the rewrite of the node (m + 5, a) puts out at position j of level l, where g is assigned above the node.
+abbrev pub ownEntry : (ℕ → Answer) → ℕ → ℕ → Answer → ℕ → ℕ → List Route
+ownEntry f m a g l j =
+    ortcOut smallest wide f (sizeAt m l) (placeAt m a l j) (stateAt (ortcOut smallest wide f) (ortcNext smallest f) m a g l j)
+
+module _ (f : ℕ → Answer) (m a : ℕ) (g : Answer) where
+  -- Its own entries, and at each slot the rewrite of the slot under what the position above it is assigned.
+  pub rewrite-slots :
+      ortc smallest wide f (m + 5) a g
+      ≡ slots (ownEntry f m a g) (λ c. ortc smallest wide f m (placeAt m a 5 c) (assignedAt f m a g 4 (c / 2))) 32
+  rewrite-slots =
+      ortc-walk smallest wide f (m + 5) a g
+      ∙ walk-slots (ortcOut smallest wide f) (ortcNext smallest f) m a g
+      ∙ slots-agree 5 (ownEntry f m a g) (ownEntry f m a g) (λ l j lt small. refl)
+      (λ c. walk (ortcOut smallest wide f) (ortcNext smallest f) m (placeAt m a 5 c) (stateAt (ortcOut smallest wide f) (ortcNext smallest f) m a g 5 c))
+      (λ c. ortc smallest wide f m (placeAt m a 5 c) (assignedAt f m a g 4 (c / 2)))
+      (λ c lt.
+      rw (state-assigned f m a g 5 c)
+      (sym (ortc-walk smallest wide f m (placeAt m a 5 c) (assignedAt f m a g 4 (c / 2)))))
+      32 (omega arith)
+
+-- ---- A region without routes.
+
+-- Its rewrite is one entry at most, by the hop that covers it or else fills.
+pub leaf-rewrite : (t : List ℕ) (lo hi depth key covering fill hop above : ℕ) → hi ≤ lo → depth ≤ 35 → hop ≤ 64 → above ≤ 64
+    → hopOf hop ≡ orElse (hopOf covering) (hopOf fill)
+    → ortc smallest wide (answerIn (run t lo hi) (hopOf covering) (hopOf fill)) (wide - depth) key (hopOf above) ≡ entryOver key depth hop above
+leaf-rewrite t lo hi depth key covering fill hop above none deep hop-low above-low e =
+    rw (run-none t lo hi none)
+    (ortc-uniform smallest wide smallest-chooses (answerIn [] (hopOf covering) (hopOf fill)) (orElse (hopOf covering) (hopOf fill)) (wide - depth) key
+    (hopOf above) (λ x i. refl)
+    ∙ rw (← e) (sym (leaf-entry (wide - depth) key depth hop above (omega arith) hop-low above-low)))
+
+-- ---- A node in the room.
+
+-- The sets of a node whose block stands in the room are read there.
+pub own-stored : {f : ℕ → Answer} {t : List ℕ} {lo hi depth key top : ℕ} {o : List ℕ} → Node t lo hi depth key
+    → Stored (setWords f) (nodesDeep depth) key (run t lo hi) top o
+    → (xs : List ℕ) × ShowsNode f (slotSize depth) key xs × Begins (packed xs) top o
+own-stored {f} {t} {lo} {hi} {depth} {key} {top} {o} n s =
+    let b = block-deep (setWords f) key (run t lo hi) (s .words) depth (n .level) (n .fives) (n .deep) .0 (s .block) in
+    let a =
+    ahead-start (Block (setWords f) (nodesDeep (depth + 5))) (slotSize depth) key (run t lo hi) (setWords f) top o (s .words) b (s .begins) in
+    (a .1 .0, a .1 .1, rw (a .1 .2) at (a .2))
+
+-- Wherever a block of the node begins at top, the blocks of its slots from c on stand from `at` to the block's end.
+abbrev pub Ahead : (ℕ → Answer) → List Route → ℕ → ℕ → ℕ → List ℕ → ℕ → ℕ → Type 0
+Ahead f t depth key top o c at =
+    (ws : List ℕ) → Block (setWords f) (nodesDeep depth) key t ws → Begins ws top o
+    → SlotsAhead (Block (setWords f) (nodesDeep (depth + 5))) (slotSize depth) key t c at (top + length ws) o
+
+-- ---- The slots of a node.
+
+-- The rewrite of slot c, by its records, what covers it and what the position above it is assigned.
+abbrev pub slotRewrite : List ℕ → List ℕ → List ℕ → List ℕ → List ℕ → ℕ → ℕ → ℕ → ℕ → List Route
+slotRewrite t first end covering hops depth key fill c =
+    ortc smallest wide (answerIn (runAt t first end (31 + c)) (hopOf (getD covering (15 + c / 2) 0)) (hopOf fill))
+    (wide - (depth + 5)) (placeAt (slotSize depth) key 5 c) (hopOf (getD hops (15 + c / 2) 0))
+
+-- What is found of a node before its slots are walked: the records of its places, what covers them and what they are assigned, and its rewrite
+-- by its slots.
+pub record Opened (t : List ℕ) (lo hi depth key inherited fill above : ℕ) (work : List ℕ) (top : ℕ) (first end covering hops : List ℕ) (entries : ℕ) :
+    Type 0 where
+  pub node : Node t lo hi depth key
+  pub present : ℕ
+  pub gathered : Gathered t lo hi depth key first end present
+  pub covers : (c : ℕ) → c < 32 → getD covering (15 + c / 2) 0 ≡ coveringAt t first end inherited 4 (c / 2)
+  pub covers-low : (c : ℕ) → c < 32 → getD covering (15 + c / 2) 0 ≤ 64
+  pub hops-low : (c : ℕ) → c < 32 → getD hops (15 + c / 2) 0 ≤ 64
+  pub rewritten : ortc smallest wide (answerIn (run t lo hi) (hopOf inherited) (hopOf fill)) (wide - depth) key (hopOf above)
+      ≡ slots (entryAt entries hops depth key) (slotRewrite t first end covering hops depth key fill) 32
+  pub stored : Stored (setWords (answerIn (run t lo hi) (hopOf inherited) (hopOf fill))) (nodesDeep depth) key (run t lo hi) top work
+
+-- What the walk over its slots has done before slot c.
+pub record Walking (t : List ℕ) (lo hi depth key inherited fill above : ℕ) (work : List ℕ) (top : ℕ) (first end covering hops : List ℕ) (entries : ℕ)
+    (c at n : ℕ) (out₀ out : List ℕ) : Type 0 where
+  pub within : c ≤ 32
+  pub count : n + c ≤ c * (8 * 2 ^ slotSize depth)
+  pub same : length out ≡ length out₀
+  pub wrote : Wrote (slots (entryAt entries hops depth key) (slotRewrite t first end covering hops depth key fill) c) 0 n out₀ out
+  pub ahead : Ahead (answerIn (run t lo hi) (hopOf inherited) (hopOf fill)) (run t lo hi) depth key top work c at
+
+module _ {t : List ℕ} {lo hi depth key : ℕ} {first end : List ℕ} {present : ℕ} (n : Node t lo hi depth key)
+    (g : Gathered t lo hi depth key first end present) (inherited fill above : ℕ) (inherited-low : inherited ≤ 64) (above-low : above ≤ 64) where
+  -- By what the passes over the node find.
+  pub opened : {work : List ℕ} {top : ℕ} {covering hops : List ℕ} {entries : ℕ}
+      → Stored (setWords (answerIn (run t lo hi) (hopOf inherited) (hopOf fill))) (nodesDeep depth) key (run t lo hi) top work
+      → ((l j : ℕ) → l ≤ 4 → j < 2 ^ l → getD covering (position l j) 0 ≡ coveringAt t first end inherited l j)
+      → ((l j : ℕ) → l ≤ 4 → j < 2 ^ l → AssignedHop (answerIn (run t lo hi) (hopOf inherited) (hopOf fill)) (slotSize depth) key above hops l j)
+      → ((b : ℕ) → b < 31 → bit entries b ≡ hasEntry hops above b)
+      → Opened t lo hi depth key inherited fill above work top first end covering hops entries
+  opened {work} {top} {covering} {hops} {entries} s cover assigned bits =
+      record {
+        node = n;
+        present = present;
+        gathered = g;
+        covers = covers;
+        covers-low = λ c lt. rw (covers c lt) (covering-le n g inherited 4 (c / 2) inherited-low (omega arith) (omega arith));
+        hops-low = λ c lt. assigned 4 (c / 2) (omega arith) (omega arith) .0;
+        rewritten =
+            rw size (rewrite-slots f (slotSize depth) key (hopOf above))
+            ∙ slots-agree 5 (ownEntry f (slotSize depth) key (hopOf above)) (entryAt entries hops depth key)
+            (λ l j lt small. sym (entries-are f depth key above entries hops (shown .0) (n .deep) above-low (shown .1) assigned bits l j (omega arith) small))
+            (λ c. ortc smallest wide f (slotSize depth) (placeAt (slotSize depth) key 5 c) (assignedAt f (slotSize depth) key (hopOf above) 4 (c / 2)))
+            (slotRewrite t first end covering hops depth key fill) slot 32 (omega arith);
+        stored = s;
+      }
+    where
+      f : ℕ → Answer
+      f = answerIn (run t lo hi) (hopOf inherited) (hopOf fill)
+
+      size : wide - depth ≡ slotSize depth + 5
+      size = omega (arith, n .deep)
+
+      shown : (xs : List ℕ) × ShowsNode f (slotSize depth) key xs × Begins (packed xs) top work
+      shown = own-stored n s
+
+      covers : (c : ℕ) → c < 32 → getD covering (15 + c / 2) 0 ≡ coveringAt t first end inherited 4 (c / 2)
+      covers c lt = cover 4 (c / 2) (omega arith) (omega arith)
+
+      slot : (c : ℕ) → c < 32
+          → ortc smallest wide f (slotSize depth) (placeAt (slotSize depth) key 5 c) (assignedAt f (slotSize depth) key (hopOf above) 4 (c / 2))
+          ≡ slotRewrite t first end covering hops depth key fill c
+      slot c lt =
+          let e : wide - (depth + 5) ≡ slotSize depth = omega (arith, n .deep) in
+          rw (assigned 4 (c / 2) (omega arith) (omega arith) .1, e)
+          (ortc-agree f (answerIn (runAt t first end (31 + c)) (hopOf (getD covering (15 + c / 2) 0)) (hopOf fill)) smallest wide
+          (slotSize depth) (placeAt (slotSize depth) key 5 c) (assignedAt f (slotSize depth) key (hopOf above) 4 (c / 2))
+          (slot-alike n g inherited fill c lt (covers c lt)))
+
+-- ---- The loop over the slots.
+
+module _ {t : List ℕ} {lo hi depth key inherited fill above : ℕ} {work : List ℕ} {top : ℕ} {first end covering hops : List ℕ} {entries : ℕ}
+    (q : Opened t lo hi depth key inherited fill above work top first end covering hops entries) where
+  -- The room is read up to the blocks of the slots.
+  pub walking-start : (at : ℕ) (out : List ℕ) → ((xs : List ℕ) → Begins (packed xs) top work → at ≡ top + length (packed xs))
+      → Walking t lo hi depth key inherited fill above work top first end covering hops entries 0 at 0 out out
+  walking-start at out tops =
+      record {
+        within = omega arith;
+        count = omega arith;
+        same = refl;
+        wrote = rw slots-zero (wrote-none 0 out);
+        ahead = λ ws b s.
+            let f = answerIn (run t lo hi) (hopOf inherited) (hopOf fill) in
+            let n = q .node in
+            let d = block-deep (setWords f) key (run t lo hi) ws depth (n .level) (n .fives) (n .deep) .0 b in
+            let a = ahead-start (Block (setWords f) (nodesDeep (depth + 5))) (slotSize depth) key (run t lo hi) (setWords f) top work ws d s in
+            rw (tops (a .1 .0) (rw (a .1 .2) at (a .2))) (rw (a .1 .2) at (a .3));
+      }
+
+  module _ (c : ℕ) (lt : c < 32) where
+    -- The size of a slot.
+    slot-size : wide - (depth + 5) ≡ slotSize depth
+    slot-size = omega (arith, q .node .deep)
+
+    -- A slot stands in the wide addresses.
+    pub slot-within : placeAt (slotSize depth) key 5 c + 2 ^ (wide - (depth + 5)) ≤ 2 ^ wide
+    slot-within =
+        let s : wide - depth ≡ slotSize depth + 5 = omega (arith, q .node .deep) in
+        let small : key + 2 ^ (slotSize depth + 5) ≤ 2 ^ wide = rw s at (q .node .small) in
+        rw slot-size (omega (arith, slot-nested (slotSize depth) key c lt .upto))
+
+    -- The block of a slot with records stands in the room, where the walk has come to the slot.
+    pub child-stored : {at : ℕ} → Ahead (answerIn (run t lo hi) (hopOf inherited) (hopOf fill)) (run t lo hi) depth key top work c at
+        → getD first (31 + c) 0 < getD end (31 + c) 0
+        → Stored (setWords (answerIn (runAt t first end (31 + c)) (hopOf (getD covering (15 + c / 2) 0)) (hopOf fill))) (nodesDeep (depth + 5))
+        (placeAt (slotSize depth) key 5 c) (runAt t first end (31 + c)) at work
+    child-stored h has =
+        let s = q .stored in
+        let f = answerIn (run t lo hi) (hopOf inherited) (hopOf fill) in
+        let a = ahead-next (Block (setWords f) (nodesDeep (depth + 5))) (slotSize depth) key (run t lo hi) (h (s .words) (s .block) (s .begins)) lt in
+        record { words = a .0; block = slot-block (q .node) (q .gathered) inherited fill c lt (q .covers c lt) has (a .0) .0 (a .1); begins = a .2 }
+
+    -- The walk of the slot has read its block, if it has one.
+    pub ahead-child : {at at′ : ℕ} → Ahead (answerIn (run t lo hi) (hopOf inherited) (hopOf fill)) (run t lo hi) depth key top work c at
+        → (getD end (31 + c) 0 ≤ getD first (31 + c) 0 → at′ ≡ at)
+        → (getD first (31 + c) 0 < getD end (31 + c) 0 → (ws : List ℕ)
+        → Block (setWords (answerIn (runAt t first end (31 + c)) (hopOf (getD covering (15 + c / 2) 0)) (hopOf fill))) (nodesDeep (depth + 5))
+        (placeAt (slotSize depth) key 5 c) (runAt t first end (31 + c)) ws
+        → Begins ws at work → at′ ≡ at + length ws)
+        → Ahead (answerIn (run t lo hi) (hopOf inherited) (hopOf fill)) (run t lo hi) depth key top work (c + 1) at′
+    ahead-child {at} {at′} h skipped read ws b s = go (decLt (getD first (31 + c) 0) (getD end (31 + c) 0))
+      where
+        f : ℕ → Answer
+        f = answerIn (run t lo hi) (hopOf inherited) (hopOf fill)
+
+        block : ℕ → List Route → List ℕ → Type 0
+        block = Block (setWords f) (nodesDeep (depth + 5))
+
+        go : Dec (getD first (31 + c) 0 < getD end (31 + c) 0) → SlotsAhead block (slotSize depth) key (run t lo hi) (c + 1) at′ (top + length ws) work
+        go (yes has) =
+            let a = ahead-next block (slotSize depth) key (run t lo hi) (h ws b s) lt in
+            rw (read has (a .0) (slot-block (q .node) (q .gathered) inherited fill c lt (q .covers c lt) has (a .0) .0 (a .1)) (a .2)) (a .3)
+        go (no none) =
+            let le : getD end (31 + c) 0 ≤ getD first (31 + c) 0 = omega arith in
+            rw (skipped le) (ahead-skip block (slotSize depth) key (run t lo hi) (h ws b s) lt (ap length (no-child (q .gathered) c lt le)))
+
+    -- After the slot there are few enough to count.
+    pub walking-few : {at n : ℕ} (e k : ℕ) {out₀ out : List ℕ}
+        → Walking t lo hi depth key inherited fill above work top first end covering hops entries c at n out₀ out → e ≤ 5
+        → k + 6 ≤ 8 * 2 ^ (wide - (depth + 5)) → (n + (e + k)) + (c + 1) ≤ (c + 1) * (8 * 2 ^ slotSize depth)
+    walking-few {n = n} e k h few some =
+        let less : k + 6 ≤ 8 * 2 ^ slotSize depth = rw slot-size at some in
+        slots-count (8 * 2 ^ slotSize depth) c n e k (h .count) (omega arith)
+
+    -- One slot more: the entries that begin there, and then the slot's.
+    pub walking-next : {at at′ n : ℕ} (e k : ℕ) {out₀ out out₁ out₂ : List ℕ}
+        → Walking t lo hi depth key inherited fill above work top first end covering hops entries c at n out₀ out
+        → Wrote (slotHeads entries hops depth (placeAt (slotSize depth) key 5 c) c 5) n (n + e) out out₁ → length out₁ ≡ length out → e ≤ 5
+        → Wrote (slotRewrite t first end covering hops depth key fill c) (n + e) (n + e + k) out₁ out₂ → length out₂ ≡ length out₁
+        → k + 6 ≤ 8 * 2 ^ (wide - (depth + 5))
+        → (getD end (31 + c) 0 ≤ getD first (31 + c) 0 → at′ ≡ at)
+        → (getD first (31 + c) 0 < getD end (31 + c) 0 → (ws : List ℕ)
+        → Block (setWords (answerIn (runAt t first end (31 + c)) (hopOf (getD covering (15 + c / 2) 0)) (hopOf fill))) (nodesDeep (depth + 5))
+        (placeAt (slotSize depth) key 5 c) (runAt t first end (31 + c)) ws
+        → Begins ws at work → at′ ≡ at + length ws)
+        → Walking t lo hi depth key inherited fill above work top first end covering hops entries (c + 1) at′ (n + e + k) out₀ out₂
+    walking-next {n = n} e k h wrote same few own same′ some skipped read =
+        let count = walking-few e k h few some in
+        record {
+          within = omega arith;
+          count = omega arith;
+          same = same′ ∙ same ∙ h .same;
+          wrote = slots-more entries hops depth key (slotRewrite t first end covering hops depth key fill) c (h .wrote) (h .same) wrote same own;
+          ahead = ahead-child (h .ahead) skipped read;
+        }
+
+  -- After the last slot the node's rewrite is written, few enough, and its block is read.
+  pub walking-end : {c at n : ℕ} {out₀ out : List ℕ}
+      → Walking t lo hi depth key inherited fill above work top first end covering hops entries c at n out₀ out → c ≡ 32
+      → (n + 6 ≤ 8 * 2 ^ (wide - depth))
+      × (((ws : List ℕ) → Block (setWords (answerIn (run t lo hi) (hopOf inherited) (hopOf fill))) (nodesDeep depth) key (run t lo hi) ws → Begins ws top work → at ≡ top + length ws)
+      × Wrote (ortc smallest wide (answerIn (run t lo hi) (hopOf inherited) (hopOf fill)) (wide - depth) key (hopOf above)) 0 n out₀ out)
+  walking-end {c} {at} {n} {out₀} {out} h z =
+      let size : wide - depth ≡ slotSize depth + 5 = omega (arith, q .node .deep) in
+      let count : n + 32 ≤ 8 * 2 ^ (slotSize depth + 5) = node-count (slotSize depth) n (rw z at (h .count)) in (
+        rw size (omega arith),
+        (λ ws b s. ahead-end _ _ _ _ (h .ahead ws b s) z, rw (q .rewritten) (rw z at (h .wrote))),
+      )

@@ -1,5 +1,8 @@
--- The laws of the text of answers. The theorems to look for: Numbers.decimal-is, reads-back and no-leading-zero; Puts.put-then; Examples.
+-- The laws of the text of answers. The theorems to look for: Numbers.decimal-is, reads-back and no-leading-zero; Puts.put-then; Replies.rewritten-text;
+-- Examples.
 pub mod Numbers
 pub mod Signs
 pub mod Puts
+pub mod Lines
+pub mod Replies
 pub mod Examples

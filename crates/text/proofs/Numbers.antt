@@ -7,7 +7,7 @@ use native.Mathlib.Nat.{pow-suc, one-le-pow}
 use native.Mathlib.Omega.{arith}
 use borrow.Author.Tests.{lt-ltb, le-ltb, ltb-true, ltb-false}
 use lib.Dec.{ltb, lit≤}
-use lib.ListN.{length, getD, take, length-take, length-append, List·getD-append}
+use lib.ListN.{length, getD, length-append, List·getD-append}
 use Rattle.io.specs.Digits.{glyph, digits, Fewest}
 use Rattle.text.specs.Text.{places, decimal, readFrom, reading}
 
@@ -40,21 +40,17 @@ pub decimal-is : (n k : ℕ) → n < 2 ^ 64 → Fewest 10 1 n k → digits 10 k 
 unfolding decimal
 decimal-is n k small few = ap (λ (m : ℕ). digits 10 m n) (sym (places-fewest n k small few))
 
-places-most : (fuel n : ℕ) → places fuel n ≤ suc fuel
+-- A number below 10 ^ (k + 1) has at most k + 1 places, and none more than fuel + 1.
+places-few : (fuel k n : ℕ) → n < 10 ^ suc k → places fuel n ≤ suc k
 unfolding places
-places-most zero n = omega arith
-places-most (suc fuel) n = most (ltb n 10) (places-most fuel (n / 10))
+places-few zero k n below = omega arith
+places-few (suc fuel) zero n below = rw (lt-ltb n 10 (omega arith)) (omega arith)
+places-few (suc fuel) (suc k) n below =
+    let rest = places-few fuel k (n / 10) (omega (arith, pow-suc 10 (suc k))) in either (ltb n 10) rest
   where
-    most : (b : Bool) → places fuel (n / 10) ≤ suc fuel → cond b 1 (suc (places fuel (n / 10))) ≤ suc (suc fuel)
-    most true h = omega arith
-    most false h = omega arith
-
--- They fit 20 bytes.
-pub digits-fit : (n k : ℕ) (l : List ℕ) → n < 2 ^ 64 → Fewest 10 1 n k → length (take k l) ≤ 20
-digits-fit n k l small few =
-    let e = places-fewest n k small few in
-    let most = places-most 19 n in
-    simp length-take (omega arith)
+    either : (b : Bool) → places fuel (n / 10) ≤ suc k → cond b 1 (suc (places fuel (n / 10))) ≤ suc (suc k)
+    either true h = omega arith
+    either false h = omega arith
 
 -- What is known of the places p of n: the fewest digits that hold it.
 pub record Counted (n p : ℕ) : Type 0 where
@@ -87,6 +83,23 @@ places-counted (suc fuel) n small =
 counted : (n : ℕ) → n < 2 ^ 64 → Counted n (places 19 n)
 counted n small = let top : 2 ^ 64 ≤ 10 ^ 20 = lit≤ tt in places-counted 19 n (omega arith)
 
+-- ---- How long.
+
+length-digits : (k n : ℕ) → length (digits 10 k n) ≡ k
+length-digits zero n = refl
+length-digits (suc k) n = length-append (digits 10 k (n / 10)) (glyph (n % 10) ∷ []) ∙ rw (length-digits k (n / 10)) (omega arith)
+
+pub decimal-short : (k n : ℕ) → n < 10 ^ suc k → length (decimal n) ≤ suc k
+unfolding decimal
+decimal-short k n below = rw (length-digits (places 19 n) n) (places-few 19 k n below)
+
+-- A byte's value has at most 3 digits, and a number of 64 bits at most 20.
+pub octet-short : (n : ℕ) → n < 256 → length (decimal n) ≤ 3
+octet-short n small = decimal-short 2 n (omega arith)
+
+pub number-short : (n : ℕ) → n < 2 ^ 64 → length (decimal n) ≤ 20
+number-short n small = let top : 2 ^ 64 ≤ 10 ^ 20 = lit≤ tt in decimal-short 19 n (omega arith)
+
 -- ---- What is read.
 
 read-behind : (v : ℕ) (ds : List ℕ) (d : ℕ) → readFrom v (ds ++ (d ∷ [])) ≡ readFrom v ds * 10 + (d - 48)
@@ -115,10 +128,6 @@ reads-back n small =
     ap (λ (k : ℕ). reading (digits 10 k n)) (p .is) ∙ digits-read (suc (p .front)) n (p .below)
 
 -- ---- No leading zero.
-
-length-digits : (k n : ℕ) → length (digits 10 k n) ≡ k
-length-digits zero n = refl
-length-digits (suc k) n = length-append (digits 10 k (n / 10)) (glyph (n % 10) ∷ []) ∙ rw (length-digits k (n / 10)) (omega arith)
 
 -- The first of digits that are needed is not 0.
 first-digit : (k n : ℕ) → 10 ^ k ≤ n → n < 10 ^ suc k → getD (digits 10 (suc k) n) 0 0 ≡ 48 → ⊥

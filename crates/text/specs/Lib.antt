@@ -1,2 +1,3 @@
--- What the text of answers is.
+-- What the text of answers is: lines, and the answers made of them.
 pub mod Text
+pub mod Answers

@@ -48,6 +48,11 @@ hopEnd hops hop = cond hops (32 ∷ decimal hop) [] ++ (10 ∷ [])
 unfoldable pub lineOf : Bool → Route → List ℕ
 lineOf hops r = dotted (r .addr) ++ (47 ∷ decimal (r .len) ++ hopEnd hops (r .hop))
 
+-- The lines of records, one after another.
+unfoldable pub linesOf : Bool → List Route → List ℕ
+linesOf hops [] = []
+linesOf hops (r ∷ rs) = lineOf hops r ++ linesOf hops rs
+
 -- The line `change N`.
 unfoldable pub changeLine : ℤ → List ℕ
 changeLine n = 99 ∷ 104 ∷ 97 ∷ 110 ∷ 103 ∷ 101 ∷ 32 ∷ signed n ++ (10 ∷ [])

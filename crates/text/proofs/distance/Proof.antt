@@ -6,7 +6,7 @@ use native.Mathlib.Nat.{lt-of-le-of-lt}
 use native.Mathlib.Omega.{arith}
 use lib.Dec.{T, lit<}
 use lib.IntN.{ℤ, natAbs}
-use lib.Signed.{mag, nonNeg, natAbs-le}
+use lib.Signed.{nonNeg, natAbs-le}
 use mir.Syntax.{w64}
 use mir.Val.{Fits}
 use mir.ValLaws.{toZ-ofZ}

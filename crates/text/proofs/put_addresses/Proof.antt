@@ -1,5 +1,4 @@
 -- `text::put_addresses` meets its contract. Assumes nothing.
-use native.Mathlib.Omega.{arith}
 use borrow.Author.Needs.{needs}
 use Rattle.text.specs.Text.{addressesLine}
 use Rattle.text.proofs.Puts.{put-then}
@@ -12,20 +11,17 @@ slice-aggregate-put-bytes c = search needs
 put-bytes-requires : tie.Need-put-bytes-requires
 put-bytes-requires c κs = search needs
 
-put-part-requires : tie.Need-put-part-requires
-put-part-requires c κs = search needs
+put-last-requires : tie.Need-put-last-requires
+put-last-requires c κs = search needs
 
 same-length : tie.Need-same-length
 same-length c = search needs
 
 returns : tie.Need-returns
 unfolding addressesLine
-returns c =
-    let word = c .before .before .before .before .before .before .put-bytes .ensures in
-    let number = c .before .before .put-part .ensures in
-    (put-then word (number .0), omega (arith, word .ends, number .1))
+returns c = put-then (c .before .before .before .before .before .before .put-bytes .ensures) (c .before .before .put-last .ensures .0)
 
 pub put-addresses-spec : {M : Type 1} → statement M
 put-addresses-spec =
     tie.close
-    (tie.spec slice-aggregate-put-bytes put-bytes-requires put-part-requires same-length returns)
+    (tie.spec slice-aggregate-put-bytes put-bytes-requires put-last-requires same-length returns)

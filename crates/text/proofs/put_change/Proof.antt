@@ -1,6 +1,5 @@
 -- `text::put_change` meets its contract. Assumes nothing.
 use mathlib.Core.Path.{ap}
-use native.Mathlib.Omega.{arith}
 use mir.Syntax.{w64}
 use mir.ValLaws.{toZ-ofZ}
 use borrow.Author.Needs.{needs}
@@ -28,10 +27,9 @@ returns : tie.Need-returns
 unfolding changeLine
 returns c =
     let s = c .before .before .before .before .before .before .before .before .before .before .before .before .before .before in
-    let word = c .before .before .before .before .before .before .before .before .before .before .put-bytes .ensures in
-    let number = c .before .before .before .before .before .before .put-signed .ensures in
-    let feed = c .before .before .put-byte .ensures in
-    (put-then word (put-then (put-as (ap signed (toZ-ofZ w64 (s .args .change) (s .fits .change))) (number .0)) feed), omega (arith, word .ends, number .1, feed .ends))
+    let number = c .before .before .before .before .before .before .put-signed .ensures .0 in
+    put-then (c .before .before .before .before .before .before .before .before .before .before .put-bytes .ensures)
+    (put-then (put-as (ap signed (toZ-ofZ w64 (s .args .change) (s .fits .change))) number) (c .before .before .put-byte .ensures))
 
 pub put-change-spec : {M : Type 1} → statement M
 put-change-spec =

@@ -1,8 +1,11 @@
 -- `text::put_decimal` meets its contract: the digits that io writes are the number in decimal. Assumes nothing.
-use mathlib.Core.Path.{_∙_}
+use mathlib.Core.Path.{_∙_, ap}
+use mathlib.Core.List.{List}
+use Prim.Native.Nat.{ℕ}
 use native.Mathlib.Omega.{arith}
+use lib.ListN.{length}
 use borrow.Author.Needs.{needs}
-use Rattle.text.proofs.Numbers.{decimal-is, digits-fit}
+use Rattle.text.proofs.Numbers.{decimal-is}
 use Rattle.text.proofs.Puts.{put-as}
 use Rattle.text.proofs.put_decimal.Statement.{statement}
 use Rattle.text.proofs.put_decimal.Tie as tie
@@ -20,7 +23,8 @@ put-bytes-requires : tie.Need-put-bytes-requires
 put-bytes-requires c κs =
     let s = c .before .before .before .before .before in
     let few = c .before .before .decimal .ensures in
-    omega (arith, s .pre, digits-fit (s .args .n) (c .before .before .decimal .result) (c .before .before .decimal .last .1 .0) (s .fits .n .fits) (few .1 .0))
+    let same = ap (λ (l : List ℕ). length l) (few .1 .1 ∙ decimal-is (s .args .n) (c .before .before .decimal .result) (s .fits .n .fits) (few .1 .0)) in
+    omega (arith, s .pre, same)
 
 same-length : tie.Need-same-length
 same-length c = search needs
@@ -28,12 +32,8 @@ same-length c = search needs
 returns : tie.Need-returns
 returns c =
     let s = c .before .before .before .before .before .before .before .before in
-    let k = c .before .before .before .before .before .decimal .result in
     let few = c .before .before .before .before .before .decimal .ensures in
-    let put = c .before .before .put-bytes .ensures in (
-      put-as (few .1 .1 ∙ decimal-is (s .args .n) k (s .fits .n .fits) (few .1 .0)) put,
-      omega (arith, put .ends, digits-fit (s .args .n) k (c .before .before .before .before .before .decimal .last .1 .0) (s .fits .n .fits) (few .1 .0)),
-    )
+    put-as (few .1 .1 ∙ decimal-is (s .args .n) (c .before .before .before .before .before .decimal .result) (s .fits .n .fits) (few .1 .0)) (c .before .before .put-bytes .ensures)
 
 pub put-decimal-spec : {M : Type 1} → statement M
 put-decimal-spec =

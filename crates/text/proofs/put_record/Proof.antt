@@ -1,4 +1,4 @@
--- `text::put_record` meets its contract: the prefix, the length and the end of the line. Assumes nothing.
+-- `text::put_record` meets its contract: the prefix, then the length and the rest of the line. Assumes nothing.
 use mathlib.Core.List.{append-assoc}
 use native.Mathlib.Omega.{arith}
 use borrow.Author.Needs.{needs}
@@ -16,17 +16,11 @@ put-dotted-requires c κs = search needs
 len-at-requires : tie.Need-len-at-requires
 len-at-requires c κs = search needs
 
-cast-put-decimal : tie.Need-cast-put-decimal
-cast-put-decimal c = search needs
-
-put-decimal-requires : tie.Need-put-decimal-requires
-put-decimal-requires c κs = search needs
-
 hop-at-requires : tie.Need-hop-at-requires
 hop-at-requires c κs = search needs
 
-put-hop-requires : tie.Need-put-hop-requires
-put-hop-requires c κs = search needs
+put-ending-requires : tie.Need-put-ending-requires
+put-ending-requires c κs = search needs
 
 same-length : tie.Need-same-length
 same-length c = search needs
@@ -34,11 +28,10 @@ same-length c = search needs
 returns : tie.Need-returns
 unfolding lineOf
 returns c =
-    let prefix = c .before .before .before .before .before .before .before .before .before .before .before .before .put-dotted .ensures in
-    let size = c .before .before .before .before .before .before .before .put-decimal .ensures in
-    let end = c .before .before .put-hop .ensures in
-    rw (← c .before .before .before .before .before .before .before .before .before .before .before .before .before .before .addr-at .ensures, ← c .before .before .before .before .before .before .before .before .before .len-at .ensures, ← c .before .before .before .before .hop-at .ensures)
-    (put-as (simp append-assoc) (put-then (prefix .0) (put-then (size .0) (end .0))), omega (arith, prefix .1, size .1, end .1))
+    let prefix = c .before .before .before .before .before .before .before .before .put-dotted .ensures in
+    let end = c .before .before .put-ending .ensures in
+    rw (← c .before .before .before .before .before .before .before .before .before .before .addr-at .ensures, ← c .before .before .before .before .before .len-at .ensures, ← c .before .before .before .before .hop-at .ensures)
+    (put-as (simp append-assoc) (put-then (prefix .0) (end .0)), omega (arith, prefix .1, end .1))
 
 pub put-record-spec : {M : Type 1} → statement M
 put-record-spec =
@@ -47,9 +40,7 @@ put-record-spec =
     addr-at-requires
     put-dotted-requires
     len-at-requires
-    cast-put-decimal
-    put-decimal-requires
     hop-at-requires
-    put-hop-requires
+    put-ending-requires
     same-length
     returns)

@@ -1,0 +1,36 @@
+-- The text of an answer that meets its statement is the text of the right reply. Assumes of the table that its elements are bytes.
+use mathlib.Core.Path.{_≡_, refl, sym, ap, ap₂, _∙_}
+use mathlib.Core.Bool.{Bool}
+use mathlib.Core.List.{List, _++_}
+use Prim.Native.Nat.{ℕ}
+use lib.IntN.{ℤ}
+use lib.ListN.{length}
+use Rattle.theory.specs.Routes.{Route}
+use Rattle.table.specs.Rules.{Reply, refuses}
+use Rattle.table.specs.Wire.{records, Bytes}
+use Rattle.calls.specs.declared.Rewritten.{Rewritten}
+use Rattle.calls.specs.declared.Rewritten.the-variants.{Records, Refused}
+use Rattle.calls.specs.Rewriting.{resultOf, rewriteReply, writtenOf, Rewrites}
+use Rattle.calls.proofs.Refusals.{reply-gives}
+use Rattle.calls.proofs.Results.{rewrite-records, rewrite-reads}
+use Rattle.text.specs.Text.{linesOf, changeLine}
+use Rattle.text.specs.Answers.{rewrittenText, replyText}
+
+-- A reply that is said as a refusal is that refusal.
+said-refused : (before number index : ℕ) (q : Reply (List Route)) → refuses number index ≡ writtenOf before q → q ≡ refuses number index
+said-refused before number index (Rattle.table.specs.Rules.gives rs) e = cc
+said-refused before number index (refuses m i) e = cc
+
+-- Of a rewrite.
+module _ (t : List ℕ) (mode default : ℕ) (o : List ℕ) (words : ℕ) (o′ w′ : List ℕ) (hops : Bool) (bytes : Bytes t) where
+  pub rewritten-text : (r : Rewritten) → Rewrites t mode default o words r o′ w′
+      → rewrittenText hops r o′ ≡ replyText hops (records t) (rewriteReply t mode default (length o) words)
+  unfolding rewrittenText replyText resultOf
+  rewritten-text (Records count change) ok =
+      let f = rewrite-records t mode default o words (Records count change) o′ w′ ok count change refl in
+      let e = reply-gives t mode default o words .1 (f .0, refl) in
+      ap₂ (λ (rs : List Route) (z : ℤ). linesOf hops rs ++ changeLine z)
+      (rewrite-reads t mode default o words (Records count change) o′ w′ ok bytes count change refl) (f .2)
+      ∙ sym (ap (replyText hops (records t)) e)
+  rewritten-text (Refused number index) ok =
+      sym (ap (replyText hops (records t)) (said-refused (records t) number index (rewriteReply t mode default (length o) words) (ok .inner .answer)))

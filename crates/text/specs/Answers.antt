@@ -1,0 +1,45 @@
+-- The text of each call's answer, and of the reply to a rewrite.
+use Prim.Native.Nat.{ℕ, _*_}
+use mathlib.Core.Bool.{Bool}
+use mathlib.Core.List.{List, [], _∷_, _++_}
+use lib.IntN.{pos, _-ℤ_}
+use lib.ListN.{length, take}
+use Rattle.theory.specs.Routes.{Route}
+use Rattle.table.specs.Rules.{Reply, gives, refuses}
+use Rattle.table.specs.Wire.{routes}
+use Rattle.table.specs.declared.answers.Lookup.{Lookup}
+use Rattle.table.specs.declared.answers.Lookup.the-variants.{Route as Found, NoRoute, Refused as NotLooked}
+use Rattle.table.specs.declared.answers.AddressesHeld.{AddressesHeld}
+use Rattle.table.specs.declared.answers.AddressesHeld.the-variants.{Sum, Refused as NotSummed}
+use Rattle.calls.specs.declared.Rewritten.{Rewritten}
+use Rattle.calls.specs.declared.Rewritten.the-variants.{Records, Refused as NotWritten}
+use Rattle.calls.specs.declared.Covers.{Covers}
+use Rattle.calls.specs.declared.Covers.the-variants.{Covered, Uncovered, Refused as NotAnswered}
+use Rattle.text.specs.Text.{linesOf, changeLine, refusedLine, foundLine, addressesLine}
+
+-- Of a rewrite that left the output o: the records' lines, then the change; or the refusal.
+unfoldable pub rewrittenText : Bool → Rewritten → List ℕ → List ℕ
+rewrittenText hops (Records count change) o = linesOf hops (routes (take (8 * count) o)) ++ changeLine change
+rewrittenText hops (NotWritten number index) o = refusedLine number index
+
+-- Of the reply to a rewrite of a table with so many records: the lines of the result, then the change; or the refusal.
+unfoldable pub replyText : Bool → ℕ → Reply (List Route) → List ℕ
+replyText hops before (gives rs) = linesOf hops rs ++ changeLine (pos (length rs) -ℤ pos before)
+replyText hops before (refuses number index) = refusedLine number index
+
+-- Of the cover query: `covered`, `uncovered` or the refusal.
+unfoldable pub coversText : Covers → List ℕ
+coversText Covered = 99 ∷ 111 ∷ 118 ∷ 101 ∷ 114 ∷ 101 ∷ 100 ∷ 10 ∷ []
+coversText Uncovered = 117 ∷ 110 ∷ 99 ∷ 111 ∷ 118 ∷ 101 ∷ 114 ∷ 101 ∷ 100 ∷ 10 ∷ []
+coversText (NotAnswered number index) = refusedLine number index
+
+-- Of a lookup: the match, `no route` or the refusal.
+unfoldable pub lookupText : Lookup → List ℕ
+lookupText (Found hop len) = foundLine hop len
+lookupText NoRoute = 110 ∷ 111 ∷ 32 ∷ 114 ∷ 111 ∷ 117 ∷ 116 ∷ 101 ∷ 10 ∷ []
+lookupText (NotLooked number index) = refusedLine number index
+
+-- Of addresses held: the sum or the refusal.
+unfoldable pub heldText : AddressesHeld → List ℕ
+heldText (Sum n) = addressesLine n
+heldText (NotSummed number index) = refusedLine number index

@@ -2,7 +2,8 @@
 use mathlib.Core.Path.{_≡_, refl, sym, ap, ap₂, _∙_}
 use mathlib.Core.Bool.{Bool}
 use mathlib.Core.List.{List, _++_}
-use Prim.Native.Nat.{ℕ}
+use Prim.Native.Nat.{ℕ, _*_, _≤_}
+use native.Mathlib.Omega.{arith}
 use lib.IntN.{ℤ}
 use lib.ListN.{length}
 use Rattle.theory.specs.Routes.{Route}
@@ -10,9 +11,9 @@ use Rattle.table.specs.Rules.{Reply, refuses}
 use Rattle.table.specs.Wire.{records, Bytes}
 use Rattle.calls.specs.declared.Rewritten.{Rewritten}
 use Rattle.calls.specs.declared.Rewritten.the-variants.{Records, Refused}
-use Rattle.calls.specs.Rewriting.{resultOf, rewriteReply, writtenOf, Rewrites}
-use Rattle.calls.proofs.Refusals.{reply-gives}
-use Rattle.calls.proofs.Results.{rewrite-records, rewrite-reads}
+use Rattle.calls.specs.Rewriting.{countOf, resultOf, rewriteReply, writtenOf, Rewrites}
+use Rattle.calls.proofs.Refusals.{answerable-exactly, reply-gives}
+use Rattle.calls.proofs.Results.{rewrite-records, rewrite-length, rewrite-reads}
 use Rattle.text.specs.Text.{linesOf, changeLine}
 use Rattle.text.specs.Answers.{rewrittenText, replyText}
 
@@ -34,3 +35,15 @@ module _ (t : List ℕ) (mode default : ℕ) (o : List ℕ) (words : ℕ) (o′ 
       ∙ sym (ap (replyText hops (records t)) e)
   rewritten-text (Refused number index) ok =
       sym (ap (replyText hops (records t)) (said-refused (records t) number index (rewriteReply t mode default (length o) words) (ok .inner .answer)))
+
+-- ---- Room.
+
+module _ (t : List ℕ) (mode default : ℕ) (o : List ℕ) (words : ℕ) (o′ w′ : List ℕ) where
+  -- The records that are answered with stand in the output.
+  pub rewritten-fits : (r : Rewritten) → Rewrites t mode default o words r o′ w′ → 8 * countOf r ≤ length o′
+  rewritten-fits (Records count change) ok =
+      let f = rewrite-records t mode default o words (Records count change) o′ w′ ok count change refl in
+      let size = f .1 in
+      let room = answerable-exactly t mode default (length o) words .0 (f .0) .enough-output in
+      omega (arith, rewrite-length t mode default o words (Records count change) o′ w′ ok)
+  rewritten-fits (Refused number index) ok = omega arith

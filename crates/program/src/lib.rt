@@ -1,0 +1,29 @@
+// What document 01's five programs share: a table from standard input, rewritten in a mode, its records and the change printed; or the refusal.
+
+use libc::STDIN_FILENO;
+use libc::STDOUT_FILENO;
+use text::answers::put_rewritten;
+ghost use Prim.Native.Nat.{_≤_};
+ghost use lib.ListN.{length};
+ghost use Rattle.text.specs.Text.{Put};
+ghost use Rattle.program.specs.Printed.{printed};
+
+// Lays what the mode's program prints for a table into the buffer, from its start, and says where it ends.
+fn answer(table: &[u8], mode: u32, out: &mut [u8]) -> usize
+    requires { ⌜ 24636 ≤ length (now out) ⌝ }
+    ensures { λ r. ⌜ Put (printed mode (now (table .entry))) 0 r (now (out .entry)) (now (out .exit)) ⌝ }
+{
+    let mut output = [0u8; 8200];
+    let mut work = [0u32; 16384];
+    let answered = aggregate::rewrite(table, mode, 0, &mut output, &mut work);
+    put_rewritten(answered, &output, 2 < mode, 0, out)
+}
+
+// Reads a table, at most 8,200 bytes of it, and prints the answer in the mode.
+pub fn run(mode: u32) {
+    let mut table = [0u8; 8200];
+    let mut out = [0u8; 24636];
+    let size = io::read_full(STDIN_FILENO, &mut table);
+    let end = answer(&table[..size], mode, &mut out);
+    io::write_all(STDOUT_FILENO, &out[..end]);
+}

@@ -239,9 +239,13 @@ module _ (t : List ℕ) (address len words : ℕ) where
       unfolding judge
       query-answered h = query-next ∙ rw (le-leb len 32 short, le-leb (160 * nodes 32 (routes t)) words h)
 
--- The start of a block is no more than the address.
+-- The start of a block is no more than the address,
 pub start-small : (n x : ℕ) → x < 2 ^ 32 → startOf n x < 2 ^ 32
 start-small n x h = omega (arith, div-mul-le-self x (2 ^ n))
+
+-- and, wide, still an address.
+pub query-within : (address len : ℕ) → address < 2 ^ 32 → startOf (32 - len) address * 2 ^ spare < 2 ^ wide
+query-within address len h = let s = start-small (32 - len) address h in omega arith
 
 module _ (t : List ℕ) (address len : ℕ) (short : len ≤ 32) where
   sizes : wide - len ≡ (32 - len) + spare

@@ -7,8 +7,8 @@ use mathlib.Core.List.{List, _++_}
 use mathlib.Core.Logic.{_⊎_, inl, inr}
 use native.Mathlib.Nat.{eq-or-lt-of-le}
 use native.Mathlib.Omega.{arith}
-use lib.ListN.{length, drop}
 use lib.Dec.{eqb}
+use lib.ListN.{length, drop}
 use borrow.Author.Tests.{lt-ltb, eqb-true, eqb-false}
 use Rattle.theory.specs.Results.{ortc, result, smallest}
 use Rattle.theory.specs.Routes.{Route, held, Answer, none, via, answer, orDefault, filled, Valid, All, Table}
@@ -79,29 +79,29 @@ fill-le {mode} {fill} fills = go (eqb mode 5) refl
     go true e = omega (arith, fills .hop (eqb-true mode 5 e))
     go false e = omega (arith, fills .none (eqb-false mode 5 e))
 
-module _ (t : List ℕ) (fill : ℕ) where
+module _ (t : List ℕ) {mode : ℕ} (fill : ℕ) where
   -- Mode 1.
-  pub set-is : wideResult t 1 fill ≡ walk (maximalOut wide (held wide (whole t))) (maximalNext (held wide (whole t))) wide 0 false
+  pub set-is : mode ≡ 1 → wideResult t mode fill ≡ walk (maximalOut wide (held wide (whole t))) (maximalNext (held wide (whole t))) wide 0 false
   unfolding wideResult
-  set-is = set-walk smallest wide (whole t)
+  set-is e = rw e (set-walk smallest wide (whole t))
 
   -- Mode 2.
-  pub consistent-set-is : Table wide (whole t)
-      → wideResult t 2 fill ≡ walk (consistentSetOut wide (whole t)) (consistentSetNext wide (whole t)) wide 0 false
+  pub consistent-set-is : mode ≡ 2 → Table wide (whole t)
+      → wideResult t mode fill ≡ walk (consistentSetOut wide (whole t)) (consistentSetNext wide (whole t)) wide 0 false
   unfolding wideResult
-  consistent-set-is table = consistent-set-walk smallest wide (whole t) table
+  consistent-set-is e table = rw e (consistent-set-walk smallest wide (whole t) table)
 
   -- Mode 3.
-  pub consistent-map-is : Table wide (whole t)
-      → wideResult t 3 fill ≡ walk (consistentMapOut wide (whole t)) (consistentMapNext wide (whole t)) wide 0 none
+  pub consistent-map-is : mode ≡ 3 → Table wide (whole t)
+      → wideResult t mode fill ≡ walk (consistentMapOut wide (whole t)) (consistentMapNext wide (whole t)) wide 0 none
   unfolding wideResult
-  consistent-map-is table = consistent-map-walk smallest wide (whole t) table
+  consistent-map-is e table = rw e (consistent-map-walk smallest wide (whole t) table)
 
   -- Modes 4 and 5: the rewrite of the answers, filled where the mode fills.
-  pub ortc-is : {mode : ℕ} → 4 ≤ mode → mode ≤ 5 → Fills mode fill
+  pub ortc-is : 4 ≤ mode → mode ≤ 5 → Fills mode fill
       → wideResult t mode fill ≡ ortc smallest wide (answerIn (whole t) none (hopOf fill)) wide 0 none
   unfolding wideResult result
-  ortc-is {mode} low high fills = go (eq-or-lt-of-le high)
+  ortc-is low high fills = go (eq-or-lt-of-le high)
     where
       go : (mode ≡ 5) ⊎ (mode < 5) → wideResult t mode fill ≡ ortc smallest wide (answerIn (whole t) none (hopOf fill)) wide 0 none
       go (inl e) =

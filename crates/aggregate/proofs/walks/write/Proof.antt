@@ -1,0 +1,87 @@
+-- `aggregate::walks::write` meets its contract: each branch returns what its walk counted and wrote from the root, which is the mode's result.
+-- Assumes nothing.
+use native.Mathlib.Omega.{arith}
+use borrow.Author.Needs.{needs}
+use borrow.Author.Tests.{le-leb}
+use Rattle.aggregate.proofs.WalkLaws.{fill-le, set-is, consistent-set-is, consistent-map-is, ortc-is}
+use Rattle.aggregate.proofs.walks.write.Statement.{statement}
+use Rattle.aggregate.proofs.walks.write.Tie as tie
+
+aggregate-set-requires : tie.Need-aggregate-set-requires
+aggregate-set-requires c κs =
+    let pre = c .before .before .before .before .before .pre in
+    (pre .1 .0 .node, pre .1 .1 .1 .coverage (c .before .if1 .taken))
+
+same-length : tie.Need-same-length
+same-length c = search needs
+
+returns : tie.Need-returns
+returns c =
+    let a = c .before .before .before .before .before .before .before .before .args in
+    let e = c .before .before .aggregate-set .ensures in
+    (e .0, rw (set-is (a .table .now) (a .fill) (c .before .before .before .before .if1 .taken)) (e .1 .1))
+
+aggregate-consistent-set-requires : tie.Need-aggregate-consistent-set-requires
+aggregate-consistent-set-requires c κs =
+    let s = c .before .before .before .before .before .before in
+    (s .pre .1 .0 .node, s .pre .1 .0 .bare (le-leb (s .args .mode) 2 (omega arith)))
+
+same-length-2 : tie.Need-same-length-2
+same-length-2 c = search needs
+
+returns-2 : tie.Need-returns-2
+returns-2 c =
+    let s = c .before .before .before .before .before .before .before .before .before in
+    let a = s .args in
+    let e = c .before .before .aggregate-consistent-set .ensures in (
+      e .0,
+      rw (consistent-set-is (a .table .now) (a .fill) (c .before .before .before .before .if2 .taken) (s .pre .1 .0 .node .table)) (e .1),
+    )
+
+aggregate-consistent-map-requires : tie.Need-aggregate-consistent-map-requires
+aggregate-consistent-map-requires c κs = search needs
+
+same-length-3 : tie.Need-same-length-3
+same-length-3 c = search needs
+
+returns-3 : tie.Need-returns-3
+returns-3 c =
+    let s = c .before .before .before .before .before .before .before .before .before .before in
+    let a = s .args in
+    let e = c .before .before .aggregate-consistent-map .ensures in (
+      e .0,
+      rw (consistent-map-is (a .table .now) (a .fill) (c .before .before .before .before .if3 .taken) (s .pre .1 .0 .node .table)) (e .1),
+    )
+
+rewrite-requires : tie.Need-rewrite-requires
+rewrite-requires c κs =
+    let pre = c .before .before .before .before .before .before .before .pre in
+    (pre .1 .0 .node, ((omega arith, (fill-le (pre .1 .1 .0), omega arith)), pre .1 .1 .1 .sets (omega arith)))
+
+same-length-4 : tie.Need-same-length-4
+same-length-4 c = search needs
+
+returns-4 : tie.Need-returns-4
+returns-4 c =
+    let s = c .before .before .before .before .before .before .before .before .before .before in
+    let a = s .args in
+    let pre = s .pre in
+    let e = c .before .before .rewrite .ensures in
+    (e .0, rw (ortc-is (a .table .now) (a .fill) (omega arith) (pre .0 .1) (pre .1 .1 .0)) (e .1 .1))
+
+pub write-spec : {M : Type 1} → statement M
+write-spec =
+    tie.close
+    (tie.spec
+    aggregate-set-requires
+    same-length
+    returns
+    aggregate-consistent-set-requires
+    same-length-2
+    returns-2
+    aggregate-consistent-map-requires
+    same-length-3
+    returns-3
+    rewrite-requires
+    same-length-4
+    returns-4)

@@ -1,6 +1,6 @@
 -- Laws of the calls: judging by a table's rules and then by more, the rooms' tests, the fill of each mode, and the cover query at wide addresses.
 -- Assumes nothing.
-use Prim.Native.Nat.{ℕ, zero, suc, _+_, _-_, _*_, _/_, _%_, _^_, _≤_, _<_}
+use Prim.Native.Nat.{ℕ, zero, suc, _+_, _-_, _*_, _/_, _^_, _≤_, _<_}
 use mathlib.Core.Path.{_≡_, refl, sym, ap, _∙_}
 use mathlib.Core.Bool.{Bool, true, false, not, cond, _||_, _&&_, and-eq-true-iff}
 use mathlib.Core.List.{List, [], _∷_, _++_}
@@ -14,13 +14,13 @@ use mir.Syntax.{w64}
 use mir.Val.{SFits, toZ, ofZ}
 use mir.ValLaws.{toZ-pos, toZ-ofZ}
 use borrow.Author.Tests.{eqb-false, leb-true, leb-false, le-leb, lt-leb, le-ltb, lt-ltb, eq-eqb}
-use Rattle.theory.specs.Results.{startOf, throughout, result, smallest}
-use Rattle.theory.specs.Routes.{Route, held, All, Aligned, Valid}
+use Rattle.theory.specs.Results.{startOf, throughout}
+use Rattle.theory.specs.Routes.{held, All, Aligned, Valid}
 use Rattle.theory.proofs.Maximal.{throughout-agree}
 use Rattle.table.specs.Calls.{checkReply}
 use Rattle.table.specs.Facts.{Lawful}
 use Rattle.table.specs.Nodes.{nodes}
-use Rattle.table.specs.Rules.{Rule, rule, Reply, gives, refuses, judge}
+use Rattle.table.specs.Rules.{Rule, rule, gives, refuses, judge}
 use Rattle.table.specs.Wire.{records, routes, tableRules, Bytes, bytesOf}
 use Rattle.table.proofs.Judging.{gives-any}
 use Rattle.table.proofs.Tables.{accepted-table, set-hops}

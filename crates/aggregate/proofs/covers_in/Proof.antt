@@ -45,8 +45,7 @@ covers-in-aggregate-requires : tie.Need-covers-in-aggregate-requires
 covers-in-aggregate-requires c κs =
     let args = c .before .before .before .before .before .before .before .before .before .args in
     let valid = sym (c .before .before .before .before .before .before .before .check-table .ensures) ∙ ap checkedSays (c .before .before .before .before .before .records .given .1) in
-    let query = c .masked .ensures in
-    (
+    let query = c .masked .ensures in (
       rw (checked-count true _ _ valid) (root-node true _ (checked-lawful true _ _ valid (λ k. omega (arith, c .before .before .before .before .before .before .before .before .shared-slice-known .given k)))),
       (
         (omega arith, c .before .before .before .if1 .left),

@@ -1,5 +1,4 @@
 -- `no_mode` says whether rule 1 is broken. Assumes nothing.
-use mathlib.Core.Bool.{not}
 use borrow.Author.Tests.{le-leb, lt-leb}
 use Rattle.aggregate.proofs.CallLaws.{above-not}
 use Rattle.aggregate.proofs.no_mode.Statement.{statement}

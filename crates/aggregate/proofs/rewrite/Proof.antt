@@ -1,7 +1,6 @@
 -- `rewrite` is `rewrite_in` with the room made zero afterwards. Assumes nothing.
 use Prim.Native.Nat.{ℕ}
 use mathlib.Core.Path.{ap, _∙_}
-use native.Mathlib.Omega.{arith}
 use borrow.Author.Needs.{needs}
 use lib.ListN.{replicate}
 use Rattle.aggregate.proofs.rewrite.Statement.{statement}

@@ -1,11 +1,8 @@
 -- `rewrite_checked` counts the result's records without writing any, refuses an output without room for them, and else writes them.
 -- Assumes nothing.
-use Prim.Native.Nat.{ℕ, _+_, _*_, _/_, _^_, _≤_, _<_}
-use mathlib.Core.Path.{_≡_, sym, ap, _∙_}
+use mathlib.Core.Path.{_∙_}
 use native.Mathlib.Omega.{arith}
 use borrow.Author.Needs.{needs}
-use lib.IntN.{pos, _-ℤ_}
-use lib.ListN.{length}
 use Rattle.aggregate.proofs.CallLaws.{change-fits, change-is, finished-refused, finished-written}
 use Rattle.aggregate.proofs.WalkLaws.{written-count, written-bytes}
 use Rattle.aggregate.proofs.rewrite_checked.Statement.{statement}

@@ -1,6 +1,6 @@
 -- `rewrite_in` refuses by the first rule that is broken, up to the room's, and leaves the rest to `rewrite_checked`. Assumes nothing.
-use Prim.Native.Nat.{ℕ, _*_, _≤_}
-use mathlib.Core.Path.{_≡_, sym, ap, _∙_}
+use Prim.Native.Nat.{_*_, _≤_}
+use mathlib.Core.Path.{sym, ap, _∙_}
 use native.Mathlib.Omega.{arith}
 use borrow.Author.Needs.{needs}
 use borrow.Author.Tests.{not-true, not-false}
@@ -54,8 +54,7 @@ rewrite-checked-requires c κs =
     let lawful = checked-lawful (takesSet (args .mode)) (args .table .now) _ valid (λ k. omega (arith, c .before .before .before .before .before .before .before .before .before .before .before .before .before .before .before .shared-slice-known .given k)) in
     let filled = c .before .before .fill-of .ensures in
     let count = c .before .before .before .before .count-nodes .ensures in
-    let long = c .before .before .before .if3 .left in
-    (
+    let long = c .before .before .before .if3 .left in (
       mode-range _ (not-false _ (sym (c .before .before .before .before .before .before .before .before .before .before .before .before .no-mode .ensures) ∙ c .before .before .before .before .before .before .before .before .before .before .before .if1 .left)),
       (
         lawful .table,

@@ -5,7 +5,7 @@ ghost use mathlib.Core.List.{[], _∷_};
 ghost use Prim.Native.Nat.{_-_, _≤_};
 ghost use lib.ListN.{length};
 ghost use Rattle.nodes.specs.Room.{Pushed};
-ghost use Rattle.writer.specs.Write.{low, high, MayPush, Wrote};
+ghost use Rattle.writer.specs.Write.{low, high, MayPush, DidPush};
 
 // The mask of the positions pushed so far, the first of them its lowest bit, and where the last pushed word begins.
 pub struct NodeWriter {
@@ -25,7 +25,7 @@ fn put_set(work: &mut [u32], top: usize, set: u64)
 // The writer after one position more, and its set laid if it is stored.
 pub fn push_at(writer: NodeWriter, work: &mut [u32], stored: bool, set: u64) -> NodeWriter
     requires { ⌜ MayPush writer (length (now work)) stored ⌝ }
-    ensures { λ r. ⌜ Wrote writer stored set r (now (work .entry)) (now (work .exit)) ⌝ }
+    ensures { λ r. ⌜ DidPush writer stored set r (now (work .entry)) (now (work .exit)) ⌝ }
 {
     let mask = writer.mask;
     let top = writer.top;
@@ -46,7 +46,7 @@ pub fn push_at(writer: NodeWriter, work: &mut [u32], stored: bool, set: u64) -> 
 // The same of a writer that is lent: its mask and top are altered where it stands.
 pub fn push(writer: &mut NodeWriter, work: &mut [u32], stored: bool, set: u64)
     requires { ⌜ MayPush (now writer) (length (now work)) stored ⌝ }
-    ensures { λ _. ⌜ Wrote (now (writer .entry)) stored set (now (writer .exit)) (now (work .entry)) (now (work .exit)) ⌝ }
+    ensures { λ _. ⌜ DidPush (now (writer .entry)) stored set (now (writer .exit)) (now (work .entry)) (now (work .exit)) ⌝ }
 {
     *writer = push_at(*writer, work, stored, set);
 }
@@ -54,7 +54,7 @@ pub fn push(writer: &mut NodeWriter, work: &mut [u32], stored: bool, set: u64)
 // Lends a writer for one push, and hands it back.
 pub fn pushed(writer: NodeWriter, work: &mut [u32], stored: bool, set: u64) -> NodeWriter
     requires { ⌜ MayPush writer (length (now work)) stored ⌝ }
-    ensures { λ r. ⌜ Wrote writer stored set r (now (work .entry)) (now (work .exit)) ⌝ }
+    ensures { λ r. ⌜ DidPush writer stored set r (now (work .entry)) (now (work .exit)) ⌝ }
 {
     let mut lent = writer;
     push(&mut lent, work, stored, set);

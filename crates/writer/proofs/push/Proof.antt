@@ -44,7 +44,7 @@ use denote.Triple.Walked.{says, needs, Stays, stay-ref, stay-none, gave-slice, w
 use denote.Exit.{yes}
 use denote.Signature.{plain}
 use Rattle.writer.specs.declared.NodeWriter.{NodeWriter}
-use Rattle.writer.specs.Write.{MayPush, Wrote}
+use Rattle.writer.specs.Write.{MayPush, DidPush}
 use Rattle.writer.proofs.NodeWriter as T
 use Rattle.writer.proofs.NodeWriter.Laws as T′
 use Rattle.writer.proofs.push_at as push-at
@@ -105,7 +105,7 @@ module _ {M : Type 1} (𝓤 : URA M) (H : Heap 𝓤) (A : Atoms 𝓤) (W : Given
 
   -- what `push_at` ensures of the writer r and of the last list
   abbrev Said : NodeWriter → List ℕ → Type 0
-  Said r zs = Wrote h stored v r ys zs
+  Said r zs = DidPush h stored v r ys zs
 
   exits : (r : NodeWriter) (zs : List ℕ) → Said r zs → length zs ≡ length ys
       → ent 𝓤 (⋆ 𝓤 H A (‵ (fobs γ (T.the-row .coded .code r)) ∷ ‵ (fbor κ (Body (mem T.the-row) b o γ)) ∷ ‵ (flft κ q) ∷ (‵ (flft κ′ q′) ⊛ ‵ ftrue) ∷ ‵ (finally u32 γ′ zs) ∷ [])) (Post vunit)

@@ -46,7 +46,7 @@ use denote.Triple.Walked.{says, needs, Stays, stay-none, gave-slice, walkOf, goe
 use denote.Exit.{yes}
 use denote.Signature.{plain}
 use Rattle.writer.specs.declared.NodeWriter.{NodeWriter}
-use Rattle.writer.specs.Write.{MayPush, Wrote}
+use Rattle.writer.specs.Write.{MayPush, DidPush}
 use Rattle.writer.proofs.NodeWriter as T
 use Rattle.writer.proofs.NodeWriter.Laws as T′
 use Rattle.writer.proofs.push as push
@@ -120,7 +120,7 @@ module _ {M : Type 1} (𝓤 : URA M) (H : Heap 𝓤) (A : Atoms 𝓤) (W : Given
 
   -- what `push` ensures of the last writer and of the last list
   abbrev Said : NodeWriter → List ℕ → Type 0
-  Said r zs = Wrote h stored v r ys zs
+  Said r zs = DidPush h stored v r ys zs
 
   exits : (r : NodeWriter) (zs : List ℕ) → Said r zs → length zs ≡ length ys → ent 𝓤 (⋆ 𝓤 H A (‵ (T.the-row .own r (mach r ∷ [])) ∷ (‵ (flft κ q) ⊛ ‵ ftrue) ∷ ‵ (finally u32 γ zs) ∷ [])) (Post (mach r))
   exits r zs e l =

@@ -38,12 +38,15 @@ abbrev pub isEntry : ℕ → ℕ → ℕ → ℕ → Bool
 isEntry first end hop over = ltb first end && not (eqb hop over)
 
 module _ (first end hop over : ℕ) where
+  -- With a record by another hop it has one,
   pub is-entry : first < end → (hop ≡ over → ⊥) → isEntry first end hop over ≡ true
   is-entry lt ne = rw (lt-ltb first end lt, ne-eqb hop over ne)
 
+  -- by the same hop it has none,
   pub same-no-entry : hop ≡ over → isEntry first end hop over ≡ false
   same-no-entry e = rw (eq-eqb hop over e) (and-false (ltb first end))
 
+  -- and without a record it has none.
   pub bare-no-entry : end ≤ first → isEntry first end hop over ≡ false
   bare-no-entry le = rw (le-ltb first end le)
 
@@ -56,6 +59,7 @@ abbrev pub Marked : (ℕ → Bool) → ℕ → ℕ → Type 0
 Marked test b x = (i : ℕ) → i < 31 → bit x i ≡ (ltb i b && test i)
 
 module _ (test : ℕ → Bool) where
+  -- None yet.
   pub marked-none : Marked test 0 0
   marked-none i lt = bit-zero i ∙ rw (le-ltb i 0 (omega arith))
 

@@ -3,7 +3,7 @@
 use Prim.Native.Nat.{ℕ, zero, suc, _+_, _-_, _*_, _/_, _%_, _^_, _≤_, _<_}
 use mathlib.Core.Path.{_≡_, refl, sym, ap, subst, _∙_}
 use mathlib.Core.Bool.{Bool, true, false, true≢false, cond, not, _&&_, _||_, and-false}
-use mathlib.Core.List.{List, [], _∷_, _++_}
+use mathlib.Core.List.{List, [], _∷_}
 use mathlib.Core.Logic.{_⊎_, inl, inr}
 use native.Mathlib.Nat.{pow-suc, eq-or-lt-of-le}
 use native.Mathlib.Omega.{arith}
@@ -11,7 +11,7 @@ use lib.Dec.{eqb, ltb}
 use lib.ListN.{length, getD, set, length-set}
 use lib.Seq.{getD-set-same, getD-set-other}
 use lib.Pow.{pow-pos, pow-mono}
-use borrow.Author.Tests.{eq-eqb, ne-eqb, eqb-true, eqb-false, lt-ltb, le-ltb, ltb-true, ltb-false}
+use borrow.Author.Tests.{eq-eqb, ne-eqb, ltb-false}
 use Rattle.theory.specs.Routes.{Answer, none, via}
 use Rattle.theory.specs.Results.{Cand, hole, of, sets, combine, leaf, assigned, smallest, allowed, here}
 use Rattle.theory.proofs.Chosen.{smallest-chooses}
@@ -30,9 +30,9 @@ use Rattle.nodes.specs.Node.{wide, slotSize}
 use Rattle.nodes.specs.Gathered.{overAt}
 use Rattle.nodes.specs.Output.{entryAt}
 use Rattle.nodes.specs.Room.{Begins}
-use Rattle.ortc.specs.Packed.{stored, packed}
 use Rattle.ortc.specs.Answers.{ShowsNode, assignedAt, entryOver, Stepped}
-use Rattle.ortc.proofs.PackedLaws.{left-parent, Reading, reading-start, reading-stored, reading-taken, reading-next, reading-end}
+use Rattle.ortc.specs.Packed.{stored, packed}
+use Rattle.ortc.proofs.PackedLaws.{left-parent, Reading, reading-start, reading-stored, reading-taken, reading-next}
 
 -- ---- The sets of a node's positions, from those of its slots.
 
@@ -133,6 +133,7 @@ module _ (f : ℕ → Answer) (m a : ℕ) (g : Answer) where
   state-assigned zero j = refl
   state-assigned (suc l) j = ap (assigned smallest (setAt f m a l (j / 2))) (state-assigned l (j / 2)) ∙ sym (assigned-is l (j / 2))
 
+  -- At each position it goes on with what the position is assigned.
   pub assigned-next : (l j : ℕ) → assignedAt f m a g l j
       ≡ ortcNext smallest f (sizeAt m l) (placeAt m a l j) (stateAt (ortcOut smallest wide f) (ortcNext smallest f) m a g l j)
   assigned-next l j = assigned-is l j ∙ ap (assigned smallest (setAt f m a l j)) (sym (state-assigned l j))

@@ -112,8 +112,10 @@ emit-slot-requires t c κs =
 add-n : (t : ℕ) → lts.Need-add-n (claims t) (at t) reads.Post Inv-loop μ-loop
 add-n t c =
     let l = c .before .before .before .before .before .before .before .before .loop in
-    let small = slots-small (slotSize (c .before .before .before .before .before .before .before .before .before .before .before .before .before .before .before .before .before .before .before .before .before .args .depth)) (l .c) (l .n) (omega arith) (l .inv .1 .0) (l .inv .1 .1 .0) in
-    let e = c .before .before .emit-slot .ensures .0 in search needs
+    let a = c .before .before .before .before .before .before .before .before .before .before .before .before .before .before .before .before .before .before .before .before .before .args in
+    let small = slots-small (slotSize (a .depth)) (l .c) (l .n) (omega arith) (l .inv .1 .0) (l .inv .1 .1 .0) in
+    let e = c .before .before .emit-slot .ensures .0 in
+    search needs
 
 add-from : (t : ℕ) → lts.Need-add-from (claims t) (at t) reads.Post Inv-loop μ-loop
 add-from t c = search needs
@@ -162,15 +164,19 @@ aggregate-consistent-map-requires t c κs =
     let f = c .before .before .before .before .before .before .before .before .before .before .before .loop .inv .0 in
     let lt = c .before .before .before .before .before .before .before .before .before .before .loop-test .taken in
     let falls = c .before .before .before .before .before .before .before .before .before .before .before .before .before .before .before .before .before .before .before .before .before .before .before .before .pre .0 in
-    (omega (arith, falls, f .node .deep), (rw (c .before .before .before .before .before .before .before .before .before .slot-key .ensures) (child-node (f .node) (f .gathered) _ lt (c .before .before .if1 .taken)), slot-le f _ lt))
+    let key = c .before .before .before .before .before .before .before .before .before .slot-key .ensures in
+    let has = c .before .before .if1 .taken in
+    (omega (arith, falls, f .node .deep), (rw key (child-node (f .node) (f .gathered) _ lt has), slot-le f _ lt))
 
 add-n-2 : (t : ℕ) → lts.Need-add-n-2 (claims t) (at t) reads.Post Inv-loop μ-loop
 add-n-2 t c =
     let l = c .before .before .before .before .before .before .before .before .before .before .before .before .before .before .loop in
     let lt = c .before .before .before .before .before .before .before .before .before .before .before .before .before .loop-test .taken in
-    let few = few-child (c .before .before .before .before .before .before .before .before .before .before .before .before .before .before .before .before .before .before .before .before .before .before .before .before .before .before .before .args .depth) (l .c) (l .n) (c .before .before .before .before .before .before .before .before .emit-slot .result) (c .before .before .aggregate-consistent-map .result) (l .inv .0 .node .deep)
-    (l .inv .1 .1 .0) (c .before .before .before .before .before .before .before .before .emit-slot .ensures .0) (c .before .before .aggregate-consistent-map .ensures .0) in
-    let small = slots-small (slotSize (c .before .before .before .before .before .before .before .before .before .before .before .before .before .before .before .before .before .before .before .before .before .before .before .before .before .before .before .args .depth)) (l .c + 1) _ (omega arith) (omega arith) few in
+    let a = c .before .before .before .before .before .before .before .before .before .before .before .before .before .before .before .before .before .before .before .before .before .before .before .before .before .before .before .args in
+    let heads = c .before .before .before .before .before .before .before .before .emit-slot in
+    let child = c .before .before .aggregate-consistent-map in
+    let few = few-child (a .depth) (l .c) (l .n) (heads .result) (child .result) (l .inv .0 .node .deep) (l .inv .1 .1 .0) (heads .ensures .0) (child .ensures .0) in
+    let small = slots-small (slotSize (a .depth)) (l .c + 1) _ (omega arith) (omega arith) few in
     search needs
 
 loop-less : (t : ℕ) → lts.Need-loop-less (claims t) (at t) reads.Post Inv-loop μ-loop
@@ -181,8 +187,10 @@ loop-again t c =
     let l = c .before .before .before .before .before .before .before .before .before .before .before .before .before .before .loop in
     let f = l .inv .0 in
     let lt = c .before .before .before .before .before .before .before .before .before .before .before .before .before .loop-test .taken in
-    let few = few-child (c .before .before .before .before .before .before .before .before .before .before .before .before .before .before .before .before .before .before .before .before .before .before .before .before .before .before .before .args .depth) (l .c) (l .n) (c .before .before .before .before .before .before .before .before .emit-slot .result) (c .before .before .aggregate-consistent-map .result) (l .inv .0 .node .deep)
-    (l .inv .1 .1 .0) (c .before .before .before .before .before .before .before .before .emit-slot .ensures .0) (c .before .before .aggregate-consistent-map .ensures .0) in
+    let a = c .before .before .before .before .before .before .before .before .before .before .before .before .before .before .before .before .before .before .before .before .before .before .before .before .before .before .before .args in
+    let heads = c .before .before .before .before .before .before .before .before .emit-slot in
+    let child = c .before .before .aggregate-consistent-map in
+    let few = few-child (a .depth) (l .c) (l .n) (heads .result) (child .result) (l .inv .0 .node .deep) (l .inv .1 .1 .0) (heads .ensures .0) (child .ensures .0) in
     let key = c .before .before .before .before .before .before .before .before .before .before .before .before .slot-key .ensures in
     let here = c .before .before .before .before .before .before .before .before .before .before .before .past .ensures in
     let then = c .before .before .before .before .past2 .ensures in
@@ -195,8 +203,8 @@ loop-again t c =
           (
             c .before .out2 .given .1 ∙ same ∙ l .inv .1 .1 .1 .0,
             slots-more _ _ _ _ _ _ (l .inv .1 .1 .1 .1) (l .inv .1 .1 .1 .0)
-                (wrote-tail _ _ _ (here .1) (here .0) (rw key at (c .before .before .before .before .before .before .before .before .emit-slot .ensures .1))) same
-                (wrote-tail _ _ _ (then .1) (then .0) (rw (map-child f (l .c) _ key) at (c .before .before .aggregate-consistent-map .ensures .1))),
+                (wrote-tail _ _ _ (here .1) (here .0) (rw key at (heads .ensures .1))) same
+                (wrote-tail _ _ _ (then .1) (then .0) (rw (map-child f (l .c) _ key) at (child .ensures .1))),
           ),
         ),
       ),
@@ -210,7 +218,9 @@ loop-again-2 t c =
     let l = c .before .before .before .before .before .before .before .before .before .loop in
     let f = l .inv .0 in
     let lt = c .before .before .before .before .before .before .before .before .loop-test .taken in
-    let few = few-alone (c .before .before .before .before .before .before .before .before .before .before .before .before .before .before .before .before .before .before .before .before .before .before .args .depth) (l .c) (l .n) (c .before .before .before .emit-slot .result) (l .inv .1 .1 .0) (c .before .before .before .emit-slot .ensures .0) in
+    let a = c .before .before .before .before .before .before .before .before .before .before .before .before .before .before .before .before .before .before .before .before .before .before .args in
+    let heads = c .before .before .before .emit-slot in
+    let few = few-alone (a .depth) (l .c) (l .n) (heads .result) (l .inv .1 .1 .0) (heads .ensures .0) in
     let key = c .before .before .before .before .before .before .before .slot-key .ensures in
     let here = c .before .before .before .before .before .before .past .ensures in
     let same = c .before .before .out .given .1 in (
@@ -222,7 +232,7 @@ loop-again-2 t c =
           (
             same ∙ l .inv .1 .1 .1 .0,
             slots-more _ _ _ _ _ _ (l .inv .1 .1 .1 .1) (l .inv .1 .1 .1 .0)
-                (wrote-tail _ _ _ (here .1) (here .0) (rw key at (c .before .before .before .emit-slot .ensures .1))) same
+                (wrote-tail _ _ _ (here .1) (here .0) (rw key at (heads .ensures .1))) same
                 (rw (map-no-child f (l .c) lt (c .if1 .left)) (wrote-none _ _)),
           ),
         ),
@@ -236,8 +246,9 @@ returns : (t : ℕ) → lts.Need-returns (claims t) (at t) reads.Post Inv-loop �
 returns t c =
     let l = c .before .loop in
     let f = l .inv .0 in
+    let a = c .before .before .before .before .before .before .before .before .before .before .before .before .before .before .args in
     let all : l .c ≡ 32 = omega arith in
-    (few-all (c .before .before .before .before .before .before .before .before .before .before .before .before .before .before .args .depth) (l .c) (l .n) (f .node .deep) all (l .inv .1 .1 .0), rw (map-slots f) (rw all at (l .inv .1 .1 .1 .1)))
+    (few-all (a .depth) (l .c) (l .n) (f .node .deep) all (l .inv .1 .1 .0), rw (map-slots f) (rw all at (l .inv .1 .1 .1 .1)))
 
 pub +aggregate-consistent-map-spec : {M : Type 1} → statement M
 +aggregate-consistent-map-spec =

@@ -1,3 +1,5 @@
+-- `ortc::walks::collect_sets` meets its contract: it calls itself only on a node five bits deeper. The loop's invariant: the slots from c on are
+-- collected. Assumes nothing.
 use Prim.Native.Nat.{ℕ, _+_, _-_, _/_, _≤_, _<_}
 use mathlib.Core.Path.{_≡_, refl, _∙_}
 use native.Mathlib.Omega.{arith}
@@ -23,9 +25,11 @@ use Rattle.ortc.proofs.room.push_sets.Reads as push-sets-reads
 use Rattle.ortc.proofs.walks.+collect_sets.{statement}
 use Rattle.ortc.proofs.walks.+collect_sets.Tie.{close}
 
+-- The bits below the node.
 abbrev μ : Measures 2 kinds.ps ℕ
 μ κs a = 35 - a .1 .1 .1 .0
 
+-- What holds on entry at the measure t, and of a call below it.
 abbrev at-measure : ℕ → In 2 kinds.ps
 at-measure t =
     and 2 kinds.ps (is 2 kinds.ps μ t) collect-sets.Pre
@@ -65,69 +69,69 @@ Inv-loop table lo hi depth key inherited fill work₀ top first end covering slo
 abbrev μ-loop : lts.MeasureT-loop
 μ-loop table lo hi depth key inherited fill work₀ top first end covering slots₀ at₀ c₀ work slots at c = c
 
--- src/walks.rt:48:5
+-- src/walks.rt:53:5
 gather-requires : (t : ℕ) → lts.Need-gather-requires (claims t) (at-measure t) collect-sets.Post Inv-loop μ-loop
 gather-requires t c κs =
     (c .before .before .before .before .pre .1 .0, ((refl, refl), λ b lt. (getD-replicate 63 b 0 0 lt, getD-replicate 63 b 0 0 lt)))
 
--- src/walks.rt:49:20
+-- src/walks.rt:54:20
 covering-values-requires : (t : ℕ) → lts.Need-covering-values-requires (claims t) (at-measure t) collect-sets.Post Inv-loop μ-loop
 covering-values-requires t c κs =
     ends-in (c .before .before .before .before .before .before .before .pre .1 .0) (c .before .before .gather .ensures)
 
--- src/walks.rt:53:5
+-- src/walks.rt:58:5
 loop-holds : (t : ℕ) → lts.Need-loop-holds (claims t) (at-measure t) collect-sets.Post Inv-loop μ-loop
 loop-holds t c =
     let start = c .before .before .before .before .before .before .before .before in
     (omega arith, collecting-start _ _ _ _ (start .pre .1 .0) (start .pre .1 .1 .1 .0) refl)
 
--- src/walks.rt:54:9
+-- src/walks.rt:59:9
 sub-c : (t : ℕ) → lts.Need-sub-c (claims t) (at-measure t) collect-sets.Post Inv-loop μ-loop
 sub-c t c = search needs
 
--- src/walks.rt:55:26
+-- src/walks.rt:60:26
 add-from : (t : ℕ) → lts.Need-add-from (claims t) (at-measure t) collect-sets.Post Inv-loop μ-loop
 add-from t c = search needs
 
--- src/walks.rt:55:20
+-- src/walks.rt:60:20
 mul-from : (t : ℕ) → lts.Need-mul-from (claims t) (at-measure t) collect-sets.Post Inv-loop μ-loop
 mul-from t c = search needs
 
--- src/walks.rt:55:20
+-- src/walks.rt:60:20
 array-read-from : (t : ℕ) → lts.Need-array-read-from (claims t) (at-measure t) collect-sets.Post Inv-loop μ-loop
 array-read-from t c = search needs
 
--- src/walks.rt:56:22
+-- src/walks.rt:61:22
 add-to : (t : ℕ) → lts.Need-add-to (claims t) (at-measure t) collect-sets.Post Inv-loop μ-loop
 add-to t c = search needs
 
--- src/walks.rt:56:18
+-- src/walks.rt:61:18
 mul-to : (t : ℕ) → lts.Need-mul-to (claims t) (at-measure t) collect-sets.Post Inv-loop μ-loop
 mul-to t c = search needs
 
--- src/walks.rt:56:18
+-- src/walks.rt:61:18
 array-read-to : (t : ℕ) → lts.Need-array-read-to (claims t) (at-measure t) collect-sets.Post Inv-loop μ-loop
 array-read-to t c = search needs
 
--- src/walks.rt:57:30
+-- src/walks.rt:62:30
 add-cover : (t : ℕ) → lts.Need-add-cover (claims t) (at-measure t) collect-sets.Post Inv-loop μ-loop
 add-cover t c = search needs
 
--- src/walks.rt:57:21
+-- src/walks.rt:62:21
 array-read-cover : (t : ℕ) → lts.Need-array-read-cover (claims t) (at-measure t) collect-sets.Post Inv-loop μ-loop
 array-read-cover t c = search needs
 
--- src/walks.rt:63:17
+-- src/walks.rt:68:17
 add-collect-sets : (t : ℕ) → lts.Need-add-collect-sets (claims t) (at-measure t) collect-sets.Post Inv-loop μ-loop
 add-collect-sets t c = search needs
 
--- src/walks.rt:64:17
+-- src/walks.rt:69:17
 slot-key-requires : (t : ℕ) → lts.Need-slot-key-requires (claims t) (at-measure t) collect-sets.Post Inv-loop μ-loop
 slot-key-requires t c κs =
     let n = c .before .before .before .before .before .before .before .before .before .before .before .pre .1 .0 in
     (n .deep, (omega arith, n .small))
 
--- src/walks.rt:59:17
+-- src/walks.rt:64:17
 collect-sets-requires : (t : ℕ) → lts.Need-collect-sets-requires (claims t) (at-measure t) collect-sets.Post Inv-loop μ-loop
 collect-sets-requires t c κs =
     let start = c .before .before .before .before .before .before .before .before .before .before .before .before .before in
@@ -136,7 +140,7 @@ collect-sets-requires t c κs =
     let j = lp .c - 1 in
     let g = c .before .before .before .before .before .before .before .before .gather .ensures in
     let e : lp .c ≡ j + 1 = omega arith in
-    let is = c .before .before .before .before .before .covering-values .ensures 4 (j / 2) (omega arith) (omega arith) in
+    let covers = c .before .before .before .before .before .covering-values .ensures 4 (j / 2) (omega arith) (omega arith) in
     let some = c .before .before .if1 .taken in
     let here = c .before .slot-key .ensures in
     let low = covering-le n g (start .args .inherited) 4 (j / 2) (start .pre .1 .1 .0 .0) (omega arith) (omega arith) in (
@@ -144,32 +148,32 @@ collect-sets-requires t c κs =
       (
         rw here (child-node n g j (omega arith) some),
         (
-          (rw is low, start .pre .1 .1 .0 .1),
+          (omega (arith, covers, low, start .pre .1 .1 .0 .0), start .pre .1 .1 .0 .1),
           (
-            collecting-room n g (start .args .inherited) (start .args .fill) j e (lp .inv .0) is (lp .inv .1) (start .pre .1 .1 .1 .1) some _ here,
+            collecting-room n g (start .args .inherited) (start .args .fill) j e (lp .inv .0) covers (lp .inv .1) (start .pre .1 .1 .1 .1) some _ here,
             collecting-within (lp .inv .1) (start .pre .1 .1 .1 .1) .1 .1,
           ),
         ),
       ),
     )
 
--- src/walks.rt:70:19
+-- src/walks.rt:75:19
 add-slots : (t : ℕ) → lts.Need-add-slots (claims t) (at-measure t) collect-sets.Post Inv-loop μ-loop
 add-slots t c = search needs
 
--- src/walks.rt:70:13
+-- src/walks.rt:75:13
 mul-slots : (t : ℕ) → lts.Need-mul-slots (claims t) (at-measure t) collect-sets.Post Inv-loop μ-loop
 mul-slots t c = search needs
 
--- src/walks.rt:70:13
+-- src/walks.rt:75:13
 array-write-slots : (t : ℕ) → lts.Need-array-write-slots (claims t) (at-measure t) collect-sets.Post Inv-loop μ-loop
 array-write-slots t c = search needs
 
--- src/walks.rt:53:5
+-- src/walks.rt:58:5
 loop-less : (t : ℕ) → lts.Need-loop-less (claims t) (at-measure t) collect-sets.Post Inv-loop μ-loop
 loop-less t c = search needs
 
--- src/walks.rt:53:5
+-- src/walks.rt:58:5
 loop-again : (t : ℕ) → lts.Need-loop-again (claims t) (at-measure t) collect-sets.Post Inv-loop μ-loop
 loop-again t c =
     let start = c .before .before .before .before .before .before .before .before .before .before .before .before .before .before .before .before in
@@ -178,36 +182,36 @@ loop-again t c =
     let j = lp .c - 1 in
     let g = c .before .before .before .before .before .before .before .before .before .before .before .gather .ensures in
     let e : lp .c ≡ j + 1 = omega arith in
-    let is = c .before .before .before .before .before .before .before .before .covering-values .ensures 4 (j / 2) (omega arith) (omega arith) in
+    let covers = c .before .before .before .before .before .before .before .before .covering-values .ensures 4 (j / 2) (omega arith) (omega arith) in
     let some = c .before .before .before .before .before .if1 .taken in
     let here = c .before .before .before .before .slot-key .ensures in
     let child = c .before .before .collect-sets in (
       omega arith,
-      collecting-child n g (start .args .inherited) (start .args .fill) j e (lp .inv .0) is (lp .inv .1) (start .pre .1 .1 .1 .1) some _ _ here
+      collecting-child n g (start .args .inherited) (start .args .fill) j e (lp .inv .0) covers (lp .inv .1) (start .pre .1 .1 .1 .1) some _ _ here
           (child .ensures .0) (child .ensures .1),
     )
 
--- src/walks.rt:73:29
+-- src/walks.rt:78:29
 leaf-set-requires : (t : ℕ) → lts.Need-leaf-set-requires (claims t) (at-measure t) collect-sets.Post Inv-loop μ-loop
 leaf-set-requires t c κs = search needs
 
--- src/walks.rt:73:19
+-- src/walks.rt:78:19
 add-slots-2 : (t : ℕ) → lts.Need-add-slots-2 (claims t) (at-measure t) collect-sets.Post Inv-loop μ-loop
 add-slots-2 t c = search needs
 
--- src/walks.rt:73:13
+-- src/walks.rt:78:13
 mul-slots-2 : (t : ℕ) → lts.Need-mul-slots-2 (claims t) (at-measure t) collect-sets.Post Inv-loop μ-loop
 mul-slots-2 t c = search needs
 
--- src/walks.rt:73:13
+-- src/walks.rt:78:13
 array-write-slots-2 : (t : ℕ) → lts.Need-array-write-slots-2 (claims t) (at-measure t) collect-sets.Post Inv-loop μ-loop
 array-write-slots-2 t c = search needs
 
--- src/walks.rt:53:5
+-- src/walks.rt:58:5
 loop-less-2 : (t : ℕ) → lts.Need-loop-less-2 (claims t) (at-measure t) collect-sets.Post Inv-loop μ-loop
 loop-less-2 t c = search needs
 
--- src/walks.rt:53:5
+-- src/walks.rt:58:5
 loop-again-2 : (t : ℕ) → lts.Need-loop-again-2 (claims t) (at-measure t) collect-sets.Post Inv-loop μ-loop
 loop-again-2 t c =
     let start = c .before .before .before .before .before .before .before .before .before .before .before .before in
@@ -216,32 +220,32 @@ loop-again-2 t c =
     let j = lp .c - 1 in
     let g = c .before .before .before .before .before .before .before .gather .ensures in
     let e : lp .c ≡ j + 1 = omega arith in
-    let is = c .before .before .before .before .covering-values .ensures 4 (j / 2) (omega arith) (omega arith) in
+    let covers = c .before .before .before .before .covering-values .ensures 4 (j / 2) (omega arith) (omega arith) in
     let none = c .before .if1 .left in (
       omega arith,
-      collecting-leaf n g (start .args .inherited) (start .args .fill) j e (lp .inv .0) is (lp .inv .1) (start .pre .1 .1 .1 .1) none _ (c .leaf-set .ensures),
+      collecting-leaf n g (start .args .inherited) (start .args .fill) j e (lp .inv .0) covers (lp .inv .1) (start .pre .1 .1 .1 .1) none _ (c .leaf-set .ensures),
     )
 
--- src/walks.rt:76:5
+-- src/walks.rt:81:5
 fold-sets-requires : (t : ℕ) → lts.Need-fold-sets-requires (claims t) (at-measure t) collect-sets.Post Inv-loop μ-loop
 fold-sets-requires t c κs = search needs
 
--- src/walks.rt:77:9
+-- src/walks.rt:82:9
 push-sets-requires : (t : ℕ) → lts.Need-push-sets-requires (claims t) (at-measure t) collect-sets.Post Inv-loop μ-loop
 push-sets-requires t c κs =
     collecting-within (c .before .before .before .before .before .loop .inv .1) (c .before .before .before .before .before .before .before .before .before .before .before .before .before .before .pre .1 .1 .1 .1) .1
 
--- src/walks.rt:79:14
+-- src/walks.rt:84:14
 array-read-t57 : (t : ℕ) → lts.Need-array-read-t57 (claims t) (at-measure t) collect-sets.Post Inv-loop μ-loop
 array-read-t57 t c = search needs
 
--- src/walks.rt:29:1
+-- src/walks.rt:34:1
 same-length : (t : ℕ) → lts.Need-same-length (claims t) (at-measure t) collect-sets.Post Inv-loop μ-loop
 same-length t c =
     let h = collecting-within (c .before .before .before .before .before .before .before .before .loop .inv .1) (c .before .before .before .before .before .before .before .before .before .before .before .before .before .before .before .before .before .pre .1 .1 .1 .1) in
     pushed-length (c .before .before .push-sets .ensures .1) (h .1 .1) ∙ h .0
 
--- src/walks.rt:29:1
+-- src/walks.rt:34:1
 returns : (t : ℕ) → lts.Need-returns (claims t) (at-measure t) collect-sets.Post Inv-loop μ-loop
 returns t c =
     let start = c .before .before .before .before .before .before .before .before .before .before .before .before .before .before .before .before .before in

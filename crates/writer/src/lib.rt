@@ -7,7 +7,7 @@ ghost use lib.ListN.{length};
 ghost use Rattle.nodes.specs.Room.{Pushed};
 ghost use Rattle.writer.specs.Write.{low, high, MayPush, DidPush};
 
-// The mask of the positions pushed so far, the first of them its lowest bit, and where the last pushed word begins.
+// The mask of the positions pushed so far, the latest of them its lowest bit, and where the words pushed so far begin.
 pub struct NodeWriter {
     pub mask: u32,
     pub top: usize,

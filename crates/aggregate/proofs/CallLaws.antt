@@ -89,6 +89,7 @@ module _ (t : List ℕ) (mode default room words : ℕ) where
       not-a-table {n} {i} e = kept-next _ 1 0 _ is ∙ kept-next _ 2 0 _ ok ∙ some-here _ (records t) n i (tableRules (takesSet mode) t) _ e
 
       module _ {k : ℕ} (valid : checkReply (takesSet mode) t ≡ gives k) where
+        -- Past the table's rules the rooms decide.
         past-table : rewriteReply t mode default room words
             ≡ judge (rule 10 0 (leb (160 * nodes 32 (routes t)) words) ∷ rule 11 0 (leb (8 * length (resultOf t mode default)) room) ∷ []) (resultOf t mode default)
         unfolding rewriteReply rewriteRules
@@ -98,12 +99,12 @@ module _ (t : List ℕ) (mode default room words : ℕ) where
         pub short-room : words < 160 * nodes 32 (routes t) → rewriteReply t mode default room words ≡ refuses 10 0
         short-room h = past-table ∙ broken-here _ 10 0 _ (lt-leb (160 * nodes 32 (routes t)) words h)
 
-        -- Past it the output's room decides.
+        -- Past it only the output's room does.
         pub only-output : 160 * nodes 32 (routes t) ≤ words → rewriteReply t mode default room words ≡ lastReply t mode default room
         only-output h = past-table ∙ kept-next _ 10 0 _ (le-leb (160 * nodes 32 (routes t)) words h)
 
--- A refusal leaves the output.
 module _ (t : List ℕ) (mode default : ℕ) (o : List ℕ) (words : ℕ) where
+  -- A refusal leaves the output.
   pub refused-in : {n i : ℕ} → rewriteReply t mode default (length o) words ≡ refuses n i → RewritesIn t mode default o words (Refused n i) o
   refused-in e = record { answer = sym (ap (writtenOf (records t)) e); output = sym (ap (outputOf o) e) }
 
@@ -162,6 +163,7 @@ module _ (s : Bool) (t : List ℕ) (k : ℕ) (valid : checkReply s t ≡ gives k
   pub checked-count : k ≡ records t
   checked-count = let e = gives-any (tableRules s t) (records t) k (records t) valid in cc
 
+  -- Its routes are lawful.
   pub checked-lawful : Bytes t → Lawful s (routes t)
   checked-lawful bytes = accepted-table (records t) k s t bytes valid .0
 
@@ -176,7 +178,7 @@ ready mode t lawful =
 -- ---- The end of a rewrite.
 
 -- The difference of two small numbers fits,
-pub change-small : (a b : ℕ) → a < 2 ^ 62 → b < 2 ^ 62 → mag (pos a -ℤ pos b) < 2 ^ 63
+change-small : (a b : ℕ) → a < 2 ^ 62 → b < 2 ^ 62 → mag (pos a -ℤ pos b) < 2 ^ 63
 change-small a zero h k = omega arith
 change-small a (suc b) h k = go (ltb a (suc b))
   where
@@ -220,6 +222,7 @@ module _ (t : List ℕ) (address len words : ℕ) where
   query-table {n} {i} e = some-here _ (records t) n i (tableRules true t) _ e
 
   module _ {k : ℕ} (valid : checkReply true t ≡ gives k) where
+    -- Past the set's rules the query's length and the room decide.
     query-next : coverReply t address len words
         ≡ judge (rule 9 0 (leb len 32) ∷ rule 10 0 (leb (160 * nodes 32 (routes t)) words) ∷ []) (coveredBy t address len)
     unfolding coverRules

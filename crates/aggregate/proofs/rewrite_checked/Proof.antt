@@ -1,5 +1,6 @@
 -- `rewrite_checked` counts the result's records without writing any, refuses an output without room for them, and else writes them.
 -- Assumes nothing.
+use Prim.Native.Nat.{_^_, _<_}
 use mathlib.Core.Path.{_∙_}
 use native.Mathlib.Omega.{arith}
 use borrow.Author.Needs.{needs}
@@ -40,7 +41,9 @@ sub-t26 : tie.Need-sub-t26
 sub-t26 c =
     let pre = c .before .before .before .before .before .before .before .before .before .before .before .before .before .before .before .before .before .pre in
     let few = c .before .before .write2 .ensures .0 in
-    change-fits (c .before .before .write2 .result) (c .before .before .before .before .before .before .before .before .before .before .before .before .before .before .before .before .before .args .before) (omega arith) (omega arith)
+    let small : c .before .before .write2 .result < 2 ^ 62 = omega arith in
+    let least : c .before .before .before .before .before .before .before .before .before .before .before .before .before .before .before .before .before .args .before < 2 ^ 62 = omega arith in
+    search (change-fits, small, least)
 
 same-length-2 : tie.Need-same-length-2
 same-length-2 c = search needs

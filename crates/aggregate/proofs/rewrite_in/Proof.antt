@@ -84,11 +84,11 @@ returns-5 : tie.Need-returns-5
 returns-5 c =
     let args = c .before .before .before .before .before .before .before .before .before .before .before .before .before .before .before .before .before .before .before .before .before .args in
     let valid = sym (c .before .before .before .before .before .before .before .before .before .before .before .before .before .check-table .ensures) ∙ ap checkedSays (c .before .before .before .before .before .before .before .before .before .before .before .records .given .1) in
-    let is = not-false _ (sym (c .before .before .before .before .before .before .before .before .before .before .before .before .before .before .before .before .before .no-mode .ensures) ∙ c .before .before .before .before .before .before .before .before .before .before .before .before .before .before .before .before .if1 .left) in
-    let hop = not-false _ (sym (c .before .before .before .before .before .before .before .before .before .before .before .before .before .before .before .no-hop .ensures) ∙ c .before .before .before .before .before .before .before .before .before .before .before .before .before .before .if2 .left) in
     let count = c .before .before .before .before .before .before .before .before .before .count-nodes .ensures in
     let long = c .before .before .before .before .before .before .before .before .if3 .left in
     let room : 160 * nodes 32 (routes (args .table .now)) ≤ length (args .work .now) = omega arith in
+    let is = not-false _ (sym (c .before .before .before .before .before .before .before .before .before .before .before .before .before .before .before .before .before .no-mode .ensures) ∙ c .before .before .before .before .before .before .before .before .before .before .before .before .before .before .before .before .if1 .left) in
+    let hop = not-false _ (sym (c .before .before .before .before .before .before .before .before .before .before .before .before .before .before .before .no-hop .ensures) ∙ c .before .before .before .before .before .before .before .before .before .before .before .before .before .before .if2 .left) in
     finished-in _ _ _ _ _
     (only-output _ _ _ _ _ is hop valid room
     ∙ same-last _ _ _ _ _ (mode-range _ is) (λ five. c .before .before .before .before .before .before .before .fill-of .ensures .0 five (default-hop _ _ hop five)))

@@ -1,2 +1,3 @@
 -- The laws of aggregate.
 pub mod WalkLaws
+pub mod CallLaws

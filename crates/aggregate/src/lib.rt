@@ -17,6 +17,8 @@ ghost use Prim.Native.Nat.{_-_, _*_, _^_, _≤_};
 ghost use lib.Dec.{eqb, leb};
 ghost use lib.ListN.{length, replicate};
 ghost use Rattle.theory.specs.Results.{startOf};
+ghost use Rattle.theory.specs.Routes.{Table};
+ghost use Rattle.table.specs.Wire.{records, routes};
 ghost use Rattle.nodes.specs.Node.{spare};
 ghost use Rattle.nodes.specs.Room.{nodesBelow};
 ghost use Rattle.calls.specs.Rewriting.{RewritesIn, Rewrites};
@@ -63,10 +65,18 @@ fn rewrite_checked(
     table: &[u8],
     mode: u32,
     fill: u8,
-    records: usize,
+    before: usize,
     output: &mut [u8],
     work: &mut [u32],
-) -> Rewritten {
+) -> Rewritten
+    requires { ⌜ (1 ≤ mode) × (mode ≤ 5) ⌝ }
+    requires { ⌜ Table 32 (routes (now table)) ⌝ }
+    requires { ⌜ Ready (now table) mode ⌝ }
+    requires { ⌜ Fills mode fill ⌝ }
+    requires { ⌜ before ≡ records (now table) ⌝ }
+    requires { ⌜ 160 * nodesBelow 7 0 (whole (now table)) ≤ length (now work) ⌝ }
+    ensures { λ r. ⌜ Finished (now (table .entry)) mode fill (now (output .entry)) r (now (output .exit)) ⌝ }
+{
     let top = prepare(table, mode, fill, work);
     let mut nothing = [0u8; 0];
     let count = write(table, mode, fill, work, top, &mut nothing);
@@ -79,7 +89,7 @@ fn rewrite_checked(
     let written = write(table, mode, fill, work, top, output);
     Rewritten::Records {
         count: written,
-        change: (written as i64) - (records as i64),
+        change: (written as i64) - (before as i64),
     }
 }
 

@@ -7,7 +7,7 @@ use native.Mathlib.Omega.{arith}
 use lib.ListN.{getD}
 use Rattle.theory.specs.Routes.{Route, Answer, none, via, All, nil, cons}
 use Rattle.theory.proofs.Parts.{all-part}
-use Rattle.theory.proofs.Routed.{routed}
+use Rattle.theory.specs.Shapes.{routed}
 use Rattle.table.specs.Wire.{route}
 use Rattle.words.specs.Bits.{bit}
 use Rattle.words.specs.Coverage.{UnderMembers, Kept}

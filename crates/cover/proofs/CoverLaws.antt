@@ -13,8 +13,7 @@ use borrow.Author.Tests.{lt-ltb, le-ltb, le-leb, lt-leb}
 use Rattle.theory.specs.Results.{In, throughout}
 use Rattle.theory.specs.Routes.{Route, held, Aligned}
 use Rattle.theory.proofs.Blocks.{pow-pos}
-use Rattle.theory.proofs.Preserve.{Within}
-use Rattle.theory.proofs.Routed.{routed}
+use Rattle.theory.specs.Shapes.{Within, routed}
 use Rattle.words.specs.Bits.{bit}
 use Rattle.words.specs.Coverage.{WhollyCovered}
 use Rattle.words.specs.Positions.{position, member, whole}

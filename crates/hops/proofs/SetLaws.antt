@@ -11,10 +11,11 @@ use lib.Count.{trailingZeros}
 use lib.Dec.{eqb}
 use lib.Pow.{pow-pos}
 use borrow.Author.Tests.{ne-eqb}
+use Rattle.theory.specs.Shapes.{Some}
 use Rattle.theory.specs.Routes.{Answer, none, via}
 use Rattle.theory.specs.Results.{In, has, union, common, Cand, hole, of, leaf, combine, sets, smallest}
 use Rattle.theory.proofs.Blocks.{in-left, in-right}
-use Rattle.theory.proofs.Hops.{Some, has-union, has-common, some-union, or-cases, and-left}
+use Rattle.theory.proofs.Hops.{has-union, has-common, some-union, or-cases, and-left}
 use Rattle.theory.proofs.Chosen.{sorted-union, sorted-common, sorted-unique, smallest-chooses, smallest-least}
 use Rattle.theory.proofs.Preserve.{has-one}
 use Rattle.words.specs.Bits.{bit}

@@ -4,8 +4,7 @@ use mathlib.Core.Path.{_≡_}
 use mathlib.Core.Bool.{true}
 use mathlib.Core.List.{List}
 use Rattle.theory.specs.Results.{Cand, hole, of, has}
-use Rattle.theory.proofs.Chosen.{Sorted}
-use Rattle.theory.proofs.Hops.{Some}
+use Rattle.theory.specs.Shapes.{Sorted, Some}
 use Rattle.words.specs.Bits.{bit}
 
 -- The word x shows the hops s: ascending, each below 64, and hop h is in s exactly where bit h of x is set.

@@ -14,8 +14,7 @@ use Rattle.theory.proofs.Blocks.{aligned-zero}
 use Rattle.theory.proofs.Lists.{all-map, all-member}
 use Rattle.theory.proofs.Order.{valid-within}
 use Rattle.theory.proofs.Parts.{all-part, table-part, part-agree}
-use Rattle.theory.proofs.Preserve.{Within}
-use Rattle.theory.proofs.Routed.{routed}
+use Rattle.theory.specs.Shapes.{Within, routed}
 use Rattle.table.specs.Rules.{gives, judge}
 use Rattle.table.specs.Wire.{records, routeAt, routes, Bytes, topHop, tableRules}
 use Rattle.table.specs.Facts.{Lawful}

@@ -12,7 +12,7 @@ use borrow.Author.Tests.{lt-ltb, le-ltb}
 use Rattle.theory.specs.Results.{In}
 use Rattle.theory.specs.Routes.{Route, Aligned, Before}
 use Rattle.theory.proofs.Blocks.{pow-pos, in→block, block→in, same-start, aligned-down}
-use Rattle.theory.proofs.Preserve.{Within}
+use Rattle.theory.specs.Shapes.{Within}
 use Rattle.words.specs.Positions.{position}
 use Rattle.words.proofs.BitLaws.{if-lt, if-eq}
 use Rattle.positions.specs.Runs.{isAt, isIn, sizeAt, placeAt}

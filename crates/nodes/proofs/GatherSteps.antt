@@ -14,7 +14,7 @@ use borrow.Author.Tests.{lt-ltb, le-ltb, eq-eqb, ne-eqb}
 use Rattle.theory.specs.Results.{part}
 use Rattle.theory.specs.Routes.{Before}
 use Rattle.theory.proofs.Lists.{all-member}
-use Rattle.theory.proofs.Preserve.{Within}
+use Rattle.theory.specs.Shapes.{Within}
 use Rattle.words.specs.Bits.{bit}
 use Rattle.words.specs.Positions.{position}
 use Rattle.words.proofs.BitLaws.{if-lt, if-eq, bit-zero}

@@ -4,7 +4,7 @@ use mathlib.Core.Path.{_≡_, refl, ap₂, _∙_}
 use mathlib.Core.Bool.{not, _&&_, _||_, and-true}
 use mathlib.Core.List.{List}
 use native.Mathlib.Omega.{arith}
-use Rattle.theory.proofs.Routed.{routed}
+use Rattle.theory.specs.Shapes.{routed}
 use Rattle.words.specs.Bits.{bit}
 use Rattle.words.specs.Coverage.{UnderMembers, Kept}
 use Rattle.words.specs.Positions.{position, under}

@@ -3,7 +3,7 @@ use Prim.Native.Nat.{ℕ, _+_, _-_, _*_, _^_, _≤_, _<_}
 use mathlib.Core.Path.{_≡_}
 use mathlib.Core.List.{List}
 use Rattle.theory.specs.Routes.{Route, All, Table, Aligned}
-use Rattle.theory.proofs.Preserve.{Within}
+use Rattle.theory.specs.Shapes.{Within}
 use Rattle.table.specs.Wire.{records, routesFrom, routeAt}
 use Rattle.positions.specs.Wide.{widen, widened}
 

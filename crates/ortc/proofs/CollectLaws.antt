@@ -22,8 +22,9 @@ use Rattle.nodes.proofs.RoomLaws.{pushed-length}
 use Rattle.nodes.proofs.RoomBlocks.{block-deep}
 use Rattle.nodes.proofs.RoomSizes.{Sized, nodes-below-deep, block-length, room-child}
 use Rattle.nodes.proofs.RoomWalk.{laid-start, laid-next, laid-skip, laid-own}
+use Rattle.writer.specs.Write.{low, high}
 use Rattle.ortc.specs.Answers.{answerIn, ShowsNode, setWords}
-use Rattle.ortc.specs.Packed.{stored, low, high, wordsOf, packed}
+use Rattle.ortc.specs.Packed.{stored, wordsOf, packed}
 use Rattle.ortc.proofs.SlotLaws.{slot-alike, slot-some-routes, slot-block}
 
 -- ---- The words of a node.

@@ -2,7 +2,7 @@
 use Prim.Native.Nat.{ℕ, zero, suc, _+_, _-_, _*_, _/_, _%_, _^_, _≤_, _<_}
 use mathlib.Core.Path.{_≡_, refl, _∙_}
 use mathlib.Core.Bool.{Bool, true, false, true≢false, cond, not}
-use mathlib.Core.List.{List, [], _∷_}
+use mathlib.Core.List.{List, [], _∷_, _++_}
 use native.Mathlib.Nat.{pow-suc, lt-of-lt-of-le, add-zero}
 use native.Mathlib.Omega.{arith}
 use lib.Dec.{eqb}
@@ -11,7 +11,8 @@ use lib.Pow.{pow-pos, pow-mono}
 use borrow.Author.Tests.{eq-eqb, ne-eqb, eqb-true, eqb-false, not-false}
 use Rattle.nodes.specs.Room.{Begins}
 use Rattle.nodes.proofs.RoomLaws.{Read, begins-word}
-use Rattle.ortc.specs.Packed.{stored, low, high, maskOf, wordsOf, packed}
+use Rattle.writer.specs.Write.{low, high, storedWords}
+use Rattle.ortc.specs.Packed.{stored, maskOf, wordsOf, packed}
 
 -- ---- The mask and the words of the last positions.
 
@@ -26,23 +27,37 @@ words-none xs = refl
 
 -- Of k positions, of which position b is the first, by the k′ after it:
 module _ (xs : List ℕ) (b k k′ : ℕ) (more : k ≡ suc k′) (at : 30 - k′ ≡ b) where
-  -- one that is stored adds a bit and two words,
-  pub mask-stored : stored xs b ≡ true → maskOf xs k ≡ maskOf xs k′ * 2 + 1
+  -- it adds a bit, and the words of its set below the others:
+  pub mask-more : maskOf xs k ≡ maskOf xs k′ * 2 + cond (stored xs b) 1 0
   unfolding maskOf
-  mask-stored e = rw (more, at, e)
+  mask-more = rw (more, at)
+
+  pub words-more : wordsOf xs k ≡ storedWords (stored xs b) (getD xs b 0) ++ wordsOf xs k′
+  unfolding wordsOf
+  words-more = rw (more, at) (go (stored xs b))
+    where
+      go : (s : Bool) → cond s (low (getD xs b 0) ∷ high (getD xs b 0) ∷ wordsOf xs k′) (wordsOf xs k′) ≡ storedWords s (getD xs b 0) ++ wordsOf xs k′
+      go true = refl
+      go false = refl
+
+  -- one that is stored a bit that is set and two words,
+  pub mask-stored : stored xs b ≡ true → maskOf xs k ≡ maskOf xs k′ * 2 + 1
+  mask-stored e = mask-more ∙ rw e
 
   pub words-stored : stored xs b ≡ true → wordsOf xs k ≡ low (getD xs b 0) ∷ high (getD xs b 0) ∷ wordsOf xs k′
-  unfolding wordsOf
-  words-stored e = rw (more, at, e)
+  words-stored e = words-more ∙ rw e
 
   -- and one that is not a bit that is clear.
   pub mask-left : stored xs b ≡ false → maskOf xs k ≡ maskOf xs k′ * 2
-  unfolding maskOf
-  mask-left e = rw (more, at, e) (omega arith)
+  mask-left e = mask-more ∙ rw e (omega arith)
 
   pub words-left : stored xs b ≡ false → wordsOf xs k ≡ wordsOf xs k′
-  unfolding wordsOf
-  words-left e = rw (more, at, e)
+  words-left e = words-more ∙ rw e
+
+-- A position has two words at most.
+pub words-two : (s : Bool) (x : ℕ) → length (storedWords s x) ≤ 2
+words-two true x = omega arith
+words-two false x = omega arith
 
 -- The mask has a bit for each position.
 pub mask-small : (xs : List ℕ) (k : ℕ) → maskOf xs k < 2 ^ k

@@ -1,21 +1,15 @@
 -- A node's candidate sets packed into words: a mask of the positions that are stored, then two words for each of these, by rising position.
 -- A position is stored unless its set is that of its parent; position 0 always is.
-use Prim.Native.Nat.{ℕ, zero, suc, _+_, _-_, _*_, _/_, _%_}
+use Prim.Native.Nat.{ℕ, zero, suc, _+_, _-_, _*_, _/_}
 use mathlib.Core.Bool.{Bool, true, cond, not}
 use mathlib.Core.List.{List, [], _∷_}
 use lib.Dec.{eqb}
 use lib.ListN.{getD}
+use Rattle.writer.specs.Write.{low, high}
 
 -- Is position b stored, by the sets of the positions?
 abbrev pub stored : List ℕ → ℕ → Bool
 stored sets b = cond (eqb b 0) true (not (eqb (getD sets b 0) (getD sets ((b - 1) / 2) 0)))
-
--- The low and the high half of a 64-bit word.
-abbrev pub low : ℕ → ℕ
-low x = x % 4294967296
-
-abbrev pub high : ℕ → ℕ
-high x = x / 4294967296
 
 -- The mask of the last k of the 31 positions, the first of them its lowest bit.
 unfoldable pub maskOf : List ℕ → ℕ → ℕ

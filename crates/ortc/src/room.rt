@@ -1,21 +1,13 @@
 // The room of candidate sets. From its start a node's own words are a mask of its stored positions, then their sets by rising position.
 
+use writer::NodeWriter;
+use writer::pushed;
 ghost use mathlib.Core.Path.{_≡_};
-ghost use mathlib.Core.List.{List, [], _∷_};
 ghost use Prim.Native.Nat.{ℕ, _+_, _-_, _*_, _/_, _%_, _≤_, _<_};
 ghost use lib.Dec.{eqb};
 ghost use lib.ListN.{length, getD};
 ghost use Rattle.nodes.specs.Room.{Pushed};
-ghost use Rattle.ortc.specs.Packed.{stored, low, high, packed};
-
-// Lays a set below `top`: two words.
-fn put_set(work: &mut [u32], top: usize, set: u64)
-    requires { ⌜ (2 ≤ top) × (top ≤ length (now work)) ⌝ }
-    ensures { λ _. ⌜ Pushed (low set ∷ high set ∷ []) top (top - 2) (now (work .entry)) (now (work .exit)) ⌝ }
-{
-    work[top - 2] = (set % 4294967296) as u32;
-    work[top - 1] = (set / 4294967296) as u32;
-}
+ghost use Rattle.ortc.specs.Packed.{stored, packed};
 
 // Is position b stored?
 fn is_stored(sets: &[u64; 63], b: usize) -> bool
@@ -34,21 +26,14 @@ pub fn push_sets(sets: &[u64; 63], work: &mut [u32], top: usize) -> usize
     ensures { λ r. ⌜ (r ≤ top) × (top ≤ r + 63) ⌝ }
     ensures { λ r. ⌜ Pushed (packed (now (sets .entry))) top r (now (work .entry)) (now (work .exit)) ⌝ }
 {
-    let mut at = top;
-    let mut mask: u32 = 0;
+    let mut node = NodeWriter { mask: 0, top };
     let mut b: usize = 31;
     while 0 < b {
         b -= 1;
-        if is_stored(sets, b) {
-            put_set(work, at, sets[b]);
-            at -= 2;
-            mask = mask * 2 + 1;
-        } else {
-            mask = mask * 2;
-        }
+        node = pushed(node, work, is_stored(sets, b), sets[b]);
     }
-    work[at - 1] = mask;
-    at - 1
+    work[node.top - 1] = node.mask;
+    node.top - 1
 }
 
 // The reader of a node's stored sets: the mask of the positions that are still to come, and where the next set stands.

@@ -8,6 +8,7 @@ use native.Mathlib.Nat.{le-refl}
 use native.Mathlib.Omega.{arith}
 use lib.Dec.{eqb}
 use borrow.Author.Tests.{lt-ltb, le-ltb, ltb-true, ltb-false}
+use Rattle.theory.specs.Shapes.{routed}
 use Rattle.theory.specs.Longest.{IsLongest}
 use Rattle.theory.specs.Results.{In, throughout, prefix, maximal, sets, assigned, here, ortc, part, nearest, isMiss, isOther, result, aggregateSet, aggregateConsistentSet, aggregateConsistentMap, aggregateMapDrop, aggregateMapFill}
 use Rattle.theory.specs.Routes.{Route, Match, miss, hit, lookup, Answer, none, via, under, Aligned, held, answer, filled, Table, Member, head, Valid, matches, nil}
@@ -17,7 +18,7 @@ use Rattle.theory.proofs.Lists.{all-member, member-all}
 use Rattle.theory.proofs.LongestMatch.{lookup-none, lookup-is, lookup-bits}
 use Rattle.theory.proofs.Parts.{table-part, rest, lookup-part, member-part, member-rest, part-twice, part-whole, part-none, part-append}
 use Rattle.theory.proofs.Preserve.{back}
-use Rattle.theory.proofs.Routed.{matches-in, routed}
+use Rattle.theory.proofs.Routed.{matches-in}
 use Rattle.positions.specs.Runs.{isAt, isIn, inside, own, orElse, sizeAt, placeAt, coverOver, memberOver}
 use Rattle.positions.specs.Walk.{walk, stateOf, stateAt}
 use Rattle.positions.specs.Walks.{ortcOut, ortcNext, maximalOut, maximalNext, entryUnless, keptOut, keptNext, isBelow, orRouted, consistentSetOut, consistentSetNext, isSame, consistentMapOut, consistentMapNext}

@@ -10,14 +10,15 @@ use native.Mathlib.Decide.{decLt}
 use native.Mathlib.Omega.{arith}
 use lib.Dec.{eqb, leb, ltb}
 use borrow.Author.Tests.{eq-eqb, eqb-true, le-leb, leb-true, lt-ltb, ltb-true}
+use Rattle.theory.specs.Shapes.{Within, routed}
 use Rattle.theory.specs.Results.{In, part, throughout}
 use Rattle.theory.specs.Routes.{Route, matches, held, Match, miss, hit, lookup, Answer, none, via, under, Aligned, Valid, All, nil, cons, Before, Ascending, empty, first, Table}
 use Rattle.theory.proofs.Blocks.{pow-pos, aligned-left, aligned-right, aligned-down, aligned-next, next-block, same-start, in→block}
 use Rattle.theory.proofs.Lists.{all-member}
 use Rattle.theory.proofs.Maximal.{throughout-each, throughout-agree}
 use Rattle.theory.proofs.Parts.{all-part, under-longer, ascending-part, table-part, part-whole, part-twice, part-either}
-use Rattle.theory.proofs.Preserve.{Within, Deep, lookup-outside, lookup-deep, lookup-append-left, lookup-append-right}
-use Rattle.theory.proofs.Routed.{routed, held-answer}
+use Rattle.theory.proofs.Preserve.{Deep, lookup-outside, lookup-deep, lookup-append-left, lookup-append-right}
+use Rattle.theory.proofs.Routed.{held-answer}
 use Rattle.positions.specs.Runs.{isAt, isIn, inside, headHop, own, orElse}
 use Rattle.positions.specs.Walk.{walk}
 

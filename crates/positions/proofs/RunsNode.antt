@@ -8,10 +8,11 @@ use mathlib.Core.Logic.{inl, inr}
 use native.Mathlib.Nat.{pow-suc, add-zero, add-mul, suc-mul, mul-le-mul-right}
 use native.Mathlib.Omega.{arith}
 use lib.Pow.{pow-add}
+use Rattle.theory.specs.Shapes.{routed}
 use Rattle.theory.specs.Results.{In, throughout}
 use Rattle.theory.specs.Routes.{Route, held, lookup, Answer, none, under, Aligned}
 use Rattle.theory.proofs.Blocks.{aligned-down}
-use Rattle.theory.proofs.Routed.{routed, held-answer}
+use Rattle.theory.proofs.Routed.{held-answer}
 use Rattle.positions.specs.Runs.{inside, own, orElse, sizeAt, placeAt, cover, coverOver, memberOver}
 use Rattle.positions.proofs.Runs.{Nested, Run, inside-run, inside-all, Half, half-nested, routed-under, routed-else, throughout-under, inside-answer, inside-covered}
 

@@ -17,7 +17,7 @@ use Rattle.theory.proofs.Chosen.{smallest-chooses}
 use Rattle.theory.proofs.Kept.{isShorter, passes, kept, noneAbove}
 use Rattle.theory.proofs.Maximal.{maximal-agree, maximal-is-ortc}
 use Rattle.theory.proofs.Parts.{all-part}
-use Rattle.theory.proofs.Preserve.{Within}
+use Rattle.theory.specs.Shapes.{Within}
 use Rattle.theory.proofs.Quick.{ortc-uniform}
 use Rattle.theory.proofs.Routed.{marked}
 use Rattle.theory.proofs.Uniform.{sets-uniform}

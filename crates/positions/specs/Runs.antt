@@ -6,7 +6,7 @@ use mathlib.Core.List.{List, [], _∷_}
 use lib.Dec.{eqb, leb, ltb}
 use Rattle.theory.specs.Routes.{Route, Answer, none, via}
 use Rattle.theory.specs.Results.{part}
-use Rattle.theory.proofs.Routed.{routed}
+use Rattle.theory.specs.Shapes.{routed}
 
 -- Does the route stand at the position: is it the position's own?
 abbrev pub isAt : ℕ → ℕ → ℕ → Route → Bool

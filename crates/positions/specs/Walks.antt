@@ -5,7 +5,7 @@ use mathlib.Core.List.{List, [], _∷_}
 use lib.Dec.{eqb}
 use Rattle.theory.specs.Results.{throughout, prefix, sets, assigned, here}
 use Rattle.theory.specs.Routes.{Route, Answer, none, via}
-use Rattle.theory.proofs.Routed.{routed}
+use Rattle.theory.specs.Shapes.{routed}
 use Rattle.positions.specs.Runs.{own, orElse}
 
 -- ---- Modes 4 and 5, of the answers f. The state is the hop assigned above.

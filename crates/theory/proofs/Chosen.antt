@@ -7,21 +7,13 @@ use mathlib.Core.Logic.{_⊎_, ⊎-elim}
 use native.Mathlib.Omega.{arith}
 use lib.Dec.{eqb, ltb}
 use borrow.Author.Tests.{eq-eqb, eqb-true, eqb-false, ltb-true, ltb-false}
+use Rattle.theory.specs.Shapes.{Above, Sorted}
 use Rattle.theory.specs.Results.{has, insert, union, common, Cand, hole, of, leaf, orUnion, combine, sets, smallest, Chooses}
 use Rattle.theory.specs.Routes.{Answer, none, via}
 use Rattle.theory.proofs.Hops.{or-cases}
 
 pub smallest-chooses : Chooses smallest
 smallest-chooses h s = rw (eq-eqb h h refl)
-
--- Every hop of s is above h; ascending, with no hop twice.
-abbrev pub Above : ℕ → List ℕ → Type 0
-Above h [] = Unit {0}
-Above h (k ∷ s) = (h < k) × Above h s
-
-abbrev pub Sorted : List ℕ → Type 0
-Sorted [] = Unit {0}
-Sorted (h ∷ s) = Above h s × Sorted s
 
 above-less : (h k : ℕ) (s : List ℕ) → h ≤ k → Above k s → Above h s
 above-less h k [] le p = tt

@@ -8,12 +8,13 @@ use native.Mathlib.Omega.{arith}
 use mathlib.Core.Logic.{_⊎_, inl, inr}
 use lib.Dec.{ltb}
 use borrow.Author.Tests.{ltb-true, ltb-false, eqb-true, eqb-false, eq-eqb}
+use Rattle.theory.specs.Shapes.{Within}
 use Rattle.theory.specs.Results.{In, part}
 use Rattle.theory.specs.Routes.{Route, matches, Match, lookup, Answer, under, Aligned, All}
 use Rattle.theory.proofs.Blocks.{pow-pos, aligned-right, in→block, in-left, in-right, aligned-down, next-block}
 use Rattle.theory.proofs.Lists.{all-map}
 use Rattle.theory.proofs.Parts.{rest, all-part, all-rest, lookup-shallow, under-longer, lookup-part, lookup-rest, lookup-alike, ofLen, part-len, lookup-lens}
-use Rattle.theory.proofs.Preserve.{Within, lookup-outside, lookup-deep}
+use Rattle.theory.proofs.Preserve.{lookup-outside, lookup-deep}
 
 -- A position's routes: those at its top, those of its left half and those of its right half; and what those at its top hand down.
 abbrev pub isLow : ℕ → ℕ → Route → Bool

@@ -7,6 +7,7 @@ use mathlib.Core.Logic.{_⊎_, inl, inr, ⊎-elim}
 use native.Mathlib.Omega.{arith}
 use lib.Dec.{eqb, ltb}
 use borrow.Author.Tests.{eqb-true}
+use Rattle.theory.specs.Shapes.{Some}
 use Rattle.theory.specs.Results.{In, has, insert, union, common, Cand, hole, of, leaf, orUnion, combine, sets, Chooses}
 use Rattle.theory.specs.Routes.{Answer, none, via}
 use Rattle.theory.proofs.Blocks.{in-left, in-right}
@@ -56,10 +57,6 @@ has-common x (h ∷ s) t = go (has h t) refl (eqb x h) refl (has-common x s t)
         let n : has x t ≡ false = rw (eqb-true x h q) e in
         ih ∙ rw n (and-false (has x s))
     go false e false q ih = ih
-
-abbrev pub Some : List ℕ → Type 0
-Some [] = ⊥
-Some (h ∷ s) = Unit {0}
 
 pub some-chosen : (choose : List ℕ → ℕ) → Chooses choose → (s : List ℕ) → Some s → has (choose s) s ≡ true
 some-chosen choose law [] p = absurd p

@@ -8,6 +8,7 @@ use native.Mathlib.Nat.{le-refl, eq-or-lt-of-le}
 use mathlib.Core.HLevel.{hedberg}
 use native.Mathlib.Decide.{ℕ-discrete}
 use native.Mathlib.Omega.{arith}
+use Rattle.theory.specs.Shapes.{routed}
 use Rattle.theory.specs.Results.{In, throughout, prefix, maximal, startOf, Maximal, unhopped, leaf, combine, sets, smallest, Chooses, here, ortc, whole, aggregateSet, aggregateMapDrop, result}
 use Rattle.theory.specs.Routes.{Route, matches, held, Answer, none, via, answer, Aligned, Valid, All, nil, cons, Table, Member, head}
 use Rattle.theory.proofs.Agree.{ortc-agree}
@@ -17,7 +18,7 @@ use Rattle.theory.proofs.Lists.{all-append, all-map, all-member, member
 use Rattle.theory.proofs.Order.{hops, whole-valid, whole-ascending}
 use Rattle.theory.proofs.Preserve.{has-one, back, answers}
 use Rattle.theory.proofs.Quick.{ortc-uniform}
-use Rattle.theory.proofs.Routed.{valid-prop, matches-in, routed, held-answer, marked, routed-marked, Bare, answer-bare, all-unhopped, unhopped-bare, held-unhopped}
+use Rattle.theory.proofs.Routed.{valid-prop, matches-in, held-answer, marked, routed-marked, Bare, answer-bare, all-unhopped, unhopped-bare, held-unhopped}
 
 -- ---- Covered: each of the position's addresses.
 

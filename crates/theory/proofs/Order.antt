@@ -7,12 +7,13 @@ use mathlib.Core.Logic.{_⊎_, inl, inr}
 use native.Mathlib.Nat.{eq-or-lt-of-le}
 use native.Mathlib.Omega.{arith}
 use native.Mathlib.Nat.{le-refl}
+use Rattle.theory.specs.Shapes.{Within}
 use Rattle.theory.specs.Results.{In, Cand, hole, of, sets, allowed, Chooses, assigned, here, ortc, whole}
 use Rattle.theory.specs.Routes.{Route, Answer, none, via, Aligned, Valid, All, nil, cons, Before, Ascending, empty, first}
 use Rattle.theory.proofs.Blocks.{pow-pos, aligned-zero, aligned-left, aligned-right, in-left, in-right, aligned-down, next-block}
 use Rattle.theory.proofs.Hops.{some-chosen, Held, sets-held}
 use Rattle.theory.proofs.Lists.{all-append, all-map}
-use Rattle.theory.proofs.Preserve.{Within, ortc-within}
+use Rattle.theory.proofs.Preserve.{ortc-within}
 
 pub valid-within : (w : ℕ) (r : Route) → Valid w r → Within w w 0 r
 valid-within w r v =

@@ -8,19 +8,12 @@ use native.Mathlib.Decide.{decLt}
 use native.Mathlib.Omega.{arith}
 use lib.Dec.{eqb, ltb}
 use borrow.Author.Tests.{eq-eqb, eqb-true, le-ltb}
+use Rattle.theory.specs.Shapes.{Within}
 use Rattle.theory.specs.Results.{In, has, Cand, hole, of, leaf, combine, sets, allowed, Chooses, assigned, here, ortc}
 use Rattle.theory.specs.Routes.{Route, matches, Match, miss, hit, longer, tried, lookup, Answer, none, via, under, answer, Aligned, All, nil, cons}
 use Rattle.theory.proofs.Blocks.{aligned-zero, aligned-left, aligned-right, in→block, block→in}
 use Rattle.theory.proofs.Lists.{all-append, all-map}
 use Rattle.theory.proofs.Routed.{Every, lookup-every}
-
--- A route that is well formed, and whose addresses all lie in the position (n, a).
-pub record Within (w n a : ℕ) (r : Route) : Type 0 where
-  pub low : a ≤ r .addr
-  pub high : r .addr + 2 ^ (w - r .len) ≤ a + 2 ^ n
-  pub deep : w - n ≤ r .len
-  pub short : r .len ≤ w
-  pub aligned : Aligned (w - r .len) (r .addr)
 
 pub within-left : (w n a : ℕ) (r : Route) → Within w n a r → Within w (suc n) a r
 within-left w n a r i =

@@ -4,11 +4,12 @@ use mathlib.Core.Path.{_≡_, refl, sym, ap, ap₂}
 use mathlib.Core.List.{List, [], _∷_, _++_, append-nil}
 use native.Mathlib.Omega.{arith}
 use borrow.Author.Tests.{eq-eqb}
+use Rattle.theory.specs.Shapes.{Within}
 use Rattle.theory.specs.Results.{In, Cand, leaf, combine, sets, Chooses, assigned, here, ortc}
 use Rattle.theory.specs.Routes.{Route, lookup, Answer, none, via, under, Aligned, All}
 use Rattle.theory.proofs.Blocks.{aligned-left, aligned-right, in-left, in-right}
 use Rattle.theory.proofs.Halves.{lefts, rights, handed, left, right, left-sem, right-sem}
-use Rattle.theory.proofs.Preserve.{Within, leaf-assigned}
+use Rattle.theory.proofs.Preserve.{leaf-assigned}
 use Rattle.theory.proofs.Uniform.{sets-uniform}
 
 -- The candidates of a position with the routes t in it, where `cover` answers for the rest.

@@ -8,6 +8,7 @@ use lib.Dec.{ltb}
 use borrow.Author.Tests.{eq-eqb, eqb-true}
 use native.Mathlib.Bridge.{le-prop}
 use native.Mathlib.Omega.{arith}
+use Rattle.theory.specs.Shapes.{routed}
 use Rattle.theory.specs.Results.{In, unhopped}
 use Rattle.theory.specs.Routes.{Route, matches, held, Match, miss, hit, longer, tried, lookup, Answer, none, via, under, answer, Valid, All, nil, cons}
 use Rattle.theory.proofs.Blocks.{aligned-prop, in→block, block→in}
@@ -58,11 +59,6 @@ module _ (P : ℕ → ℕ → Type 0) where
       go false = tt
 
 -- ---- Held: a hop is said.
-
--- Is a hop said?
-abbrev pub routed : Answer → Bool
-routed none = false
-routed (via h) = true
 
 routed-longer : (m l : Match) → routed (under none (longer m l)) ≡ (routed (under none m) || routed (under none l))
 routed-longer miss l = refl

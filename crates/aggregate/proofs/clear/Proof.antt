@@ -10,8 +10,6 @@ use lib.ListN.{length, getD, set, replicate, length-set, length-replicate, getD-
 use lib.Seq.{getD-set-same, getD-set-other, ext-getD}
 use Rattle.aggregate.proofs.clear.Statement.{statement}
 use Rattle.aggregate.proofs.clear.Tie as tie
-use Rattle.aggregate.proofs.clear.Reads as reads
-use Rattle.aggregate.proofs.clear.Lts as lts
 
 abbrev Inv-loop : tie.InvT-loop
 Inv-loop work₀ i₀ work i = (i ≤ length work) × (length work ≡ length work₀) × ((k : ℕ) → k < i → getD work k 0 ≡ 0)

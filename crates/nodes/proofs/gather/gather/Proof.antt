@@ -5,7 +5,7 @@ use native.Mathlib.Omega.{arith}
 use lib.Pow.{pow-pos}
 use borrow.Author.Needs.{needs}
 use Rattle.theory.specs.Routes.{Route}
-use Rattle.theory.proofs.Preserve.{Within}
+use Rattle.theory.specs.Shapes.{Within}
 use Rattle.nodes.specs.Node.{wide, wideAt}
 use Rattle.nodes.proofs.GatherPlaces.{heapOf, heap-is}
 use Rattle.nodes.proofs.GatherSteps.{Gathering, gathering-start, gathering-next, gathering-done, node-within, node-heap}

@@ -1,10 +1,10 @@
--- `ortc::room::put_set` meets its contract. Assumes nothing.
+-- `writer::put_set` meets its contract. Assumes nothing.
 use borrow.Author.Needs.{needs}
 use native.Mathlib.Omega.{arith}
 use lib.ListN.{length-set}
 use Rattle.nodes.proofs.RoomLaws.{pushed-two}
-use Rattle.ortc.proofs.room.put_set.Statement.{statement}
-use Rattle.ortc.proofs.room.put_set.Tie as tie
+use Rattle.writer.proofs.put_set.Statement.{statement}
+use Rattle.writer.proofs.put_set.Tie as tie
 
 cast-work : tie.Need-cast-work
 cast-work c = search needs

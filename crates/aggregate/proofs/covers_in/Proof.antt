@@ -1,0 +1,95 @@
+-- `covers_in` refuses by the first rule that is broken, and else answers by the walk from the root, at wide addresses. Assumes nothing.
+use Prim.Native.Nat.{ℕ, _-_, _*_, _^_, _≤_}
+use mathlib.Core.Path.{_≡_, sym, ap, _∙_}
+use mathlib.Core.Bool.{Bool, true}
+use mathlib.Core.List.{List}
+use native.Mathlib.Omega.{arith}
+use borrow.Author.Needs.{needs}
+use Rattle.theory.specs.Results.{startOf, throughout}
+use Rattle.theory.specs.Routes.{held}
+use Rattle.table.specs.Calls.{checkedSays, checkReply}
+use Rattle.table.specs.Nodes.{nodes}
+use Rattle.table.specs.Rules.{gives}
+use Rattle.table.specs.Wire.{routes, Bytes}
+use Rattle.nodes.specs.Node.{wide, spare, run}
+use Rattle.nodes.proofs.GatherLaws.{root-node}
+use Rattle.calls.specs.Covering.{coverReply}
+use Rattle.aggregate.proofs.CallLaws.{checked-count, checked-lawful, query-table, query-long, query-room, query-answered, query-aligned, query-within, covered-wide}
+use Rattle.aggregate.proofs.covers_in.Statement.{statement}
+use Rattle.aggregate.proofs.covers_in.Tie as tie
+
+check-table-requires : tie.Need-check-table-requires
+check-table-requires c κs = search needs
+
+enum-known-number : tie.Need-enum-known-number
+enum-known-number c = search needs
+
+enum-known-records : tie.Need-enum-known-records
+enum-known-records c = search needs
+
+returns : tie.Need-returns
+returns c = sym (query-long _ _ _ _ (sym (c .before .before .before .before .check-table .ensures) ∙ ap checkedSays (c .before .before .records .given .1)) (c .if1 .taken))
+
+count-nodes-requires : tie.Need-count-nodes-requires
+count-nodes-requires c κs = checked-lawful true _ _ (sym (c .before .before .before .before .check-table .ensures) ∙ ap checkedSays (c .before .before .records .given .1)) (λ k. omega (arith, c .before .before .before .before .before .shared-slice-known .given k)) .table
+
+returns-2 : tie.Need-returns-2
+returns-2 c =
+    let short = c .if2 .taken in
+    sym (query-room _ _ _ _ (sym (c .before .before .before .before .before .before .check-table .ensures) ∙ ap checkedSays (c .before .before .before .before .records .given .1)) (c .before .before .if1 .left) (omega (arith, c .before .count-nodes .ensures)))
+
+masked-requires : tie.Need-masked-requires
+masked-requires c κs = search needs
+
+covers-in-aggregate-requires : tie.Need-covers-in-aggregate-requires
+covers-in-aggregate-requires c κs =
+    let args = c .before .before .before .before .before .before .before .before .before .args in
+    let valid = sym (c .before .before .before .before .before .before .before .check-table .ensures) ∙ ap checkedSays (c .before .before .before .before .before .records .given .1) in
+    let query = c .masked .ensures in (
+      rw (checked-count true _ _ valid) (root-node true _ (checked-lawful true _ _ valid (λ k. omega (arith, c .before .before .before .before .before .before .before .before .shared-slice-known .given k)))),
+      (
+        (omega arith, c .before .before .before .if1 .left),
+        (
+          rw query (query-aligned (args .table .now) (args .address) (args .len) (c .before .before .before .if1 .left)),
+          (omega arith, rw query (query-within (args .address) (args .len) (omega arith))),
+        ),
+      ),
+    )
+
+returns-3 : tie.Need-returns-3
+returns-3 c = sym (query-table _ _ _ _ (sym (c .before .before .before .check-table .ensures) ∙ ap checkedSays (c .before .number .given .1)))
+
+-- The walk's answer is the reply.
+replied : (t : List ℕ) (address len words k query : ℕ) {b : Bool} → checkReply true t ≡ gives k → Bytes t → len ≤ 32
+    → 160 * nodes 32 (routes t) ≤ words → query ≡ startOf (32 - len) address * 2 ^ spare
+    → b ≡ throughout (held wide (run t 0 k)) (wide - len) query → gives b ≡ coverReply t address len words
+replied t address len words k query valid bytes short room start walked =
+    ap gives
+    (walked ∙ rw (start, checked-count true t k valid) (covered-wide t address len short (checked-lawful true t k valid bytes .table .valid)))
+    ∙ sym (query-answered t address len words valid short room)
+
+returns-4 : tie.Need-returns-4
+returns-4 c =
+    replied _ _ _ _ _ _ (sym (c .before .before .before .before .before .before .before .before .before .check-table .ensures) ∙ ap checkedSays (c .before .before .before .before .before .before .before .records .given .1)) (λ k. omega (arith, c .before .before .before .before .before .before .before .before .before .before .shared-slice-known .given k)) (c .before .before .before .before .before .if1 .left)
+    (omega (arith, c .before .before .before .before .count-nodes .ensures)) (c .before .before .masked .ensures) (sym (c .if3 .taken) ∙ c .before .covers-in-aggregate .ensures)
+
+returns-5 : tie.Need-returns-5
+returns-5 c =
+    replied _ _ _ _ _ _ (sym (c .before .before .before .before .before .before .before .before .before .check-table .ensures) ∙ ap checkedSays (c .before .before .before .before .before .before .before .records .given .1)) (λ k. omega (arith, c .before .before .before .before .before .before .before .before .before .before .shared-slice-known .given k)) (c .before .before .before .before .before .if1 .left)
+    (omega (arith, c .before .before .before .before .count-nodes .ensures)) (c .before .before .masked .ensures) (sym (c .if3 .left) ∙ c .before .covers-in-aggregate .ensures)
+
+pub covers-in-spec : {M : Type 1} → statement M
+covers-in-spec =
+    tie.close
+    (tie.spec
+    check-table-requires
+    enum-known-number
+    enum-known-records
+    returns
+    count-nodes-requires
+    returns-2
+    masked-requires
+    covers-in-aggregate-requires
+    returns-3
+    returns-4
+    returns-5)

@@ -1,0 +1,2 @@
+-- What the contracts of writer say.
+pub mod Write

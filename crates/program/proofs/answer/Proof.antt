@@ -1,10 +1,9 @@
 -- `program::answer` meets its contract: a right answer's text is the right reply's. Assumes nothing.
 use mathlib.Core.Path.{ap₂, _∙_}
-use mathlib.Core.List.{List}
 use Prim.Native.Nat.{ℕ}
 use native.Mathlib.Omega.{arith}
 use lib.Dec.{ltb}
-use lib.ListN.{length, replicate, length-replicate}
+use lib.ListN.{length-replicate}
 use Rattle.table.specs.Wire.{records}
 use Rattle.calls.specs.Rewriting.{rewriteReply}
 use Rattle.text.specs.Answers.{replyText}

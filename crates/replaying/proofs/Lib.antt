@@ -1,0 +1,2 @@
+-- The laws of the rooms.
+pub mod RoomLaws

@@ -1,0 +1,2 @@
+-- What is asked of the rooms.
+pub mod Rooms

@@ -8,7 +8,7 @@ use text::answers::put_held;
 use text::answers::put_lookup;
 use text::put_bytes;
 ghost use mathlib.Core.Path.{_≡_};
-ghost use Prim.Native.Nat.{_+_, _*_, _≤_};
+ghost use Prim.Native.Nat.{_+_, _*_, _≤_, _<_};
 ghost use lib.ListN.{length, drop, replicate};
 ghost use Rattle.replaying.specs.Rooms.{allAre};
 
@@ -18,9 +18,18 @@ pub struct Turn {
     pub more: bool,
 }
 
+// The turns that are left: one less, or none if there is no more to do.
+pub fn turns_left(turns: u64, more: bool) -> u64
+    requires { ⌜ 0 < turns ⌝ }
+    ensures { λ r. ⌜ r < turns ⌝ }
+{
+    if more { turns - 1 } else { 0 }
+}
+
 // Two bytes as a number, the first the most significant.
 pub fn join2(a: u8, b: u8) -> usize
     ensures { λ r. ⌜ r ≡ a * 256 + b ⌝ }
+    ensures { λ r. ⌜ r ≤ 65535 ⌝ }
 {
     (a as usize) * 256 + (b as usize)
 }

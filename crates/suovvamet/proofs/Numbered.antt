@@ -48,7 +48,9 @@ cover-number (long-query h) = omega arith
 cover-number (short-room h) = omega arith
 
 -- ---- Any reply: N says when it gives a value, F when it refuses, and no refusal has the number 0.
-module _ {A : Type 0} (q : Reply A) {N : Type 0} (given : ((a : A) × (q ≡ gives a)) ↔ N) {F : ℕ → ℕ → Type 0} (refused : (n i : ℕ) → q ≡ refuses n i ↔ F n i) (above : (n i : ℕ) → F n i → 1 ≤ n) {number index : ℕ} (number-is : number ≡ numberOf q) (index-is : index ≡ indexOf q) where
+module _ {A : Type 0} (q : Reply A) {N : Type 0} (given : ((a : A) × (q ≡ gives a)) ↔ N)
+    {F : ℕ → ℕ → Type 0} (refused : (n i : ℕ) → q ≡ refuses n i ↔ F n i) (above : (n i : ℕ) → F n i → 1 ≤ n)
+    {number index : ℕ} (number-is : number ≡ numberOf q) (index-is : index ≡ indexOf q) where
   zero-given : (p : Reply A) → q ≡ p → numberOf p ≡ 0 → N
   zero-given (gives a) e z = given .0 (a, e)
   zero-given (refuses n i) e z = let f = above n i (refused n i .0 e) in absurd (omega arith)
@@ -69,7 +71,8 @@ module _ {A : Type 0} (q : Reply A) {N : Type 0} (given : ((a : A) × (q ≡ giv
   )
 
 -- ---- A rewrite.
-module _ (t : List ℕ) (mode default : ℕ) (o work : List ℕ) {number count : ℕ} {change : ℤ} {index : ℕ} {o′ w′ : List ℕ} (ok : RewriteInC t mode default o work number count change index o′ w′) where
+module _ (t : List ℕ) (mode default : ℕ) (o work : List ℕ) {number count : ℕ} {change : ℤ} {index : ℕ} {o′ w′ : List ℕ}
+    (ok : RewriteInC t mode default o work number count change index o′ w′) where
   abbrev Refusing : ℕ → ℕ → Type 0
   Refusing = RewriteCondition t mode default (length o) (length work)
 
@@ -98,7 +101,8 @@ module _ (t : List ℕ) (mode default : ℕ) (o work : List ℕ) {number count :
   rewrite-in-c-refused = numbered (rewrittenSays (ok .answer)) given refused (λ n i f. rewrite-number (f .0)) (ok .number-is) (ok .index-is)
 
 -- ---- The cover query.
-module _ (t : List ℕ) (address len : ℕ) (work : List ℕ) {number covered index : ℕ} {w′ : List ℕ} (ok : CoversInC t address len work number covered index w′) where
+module _ (t : List ℕ) (address len : ℕ) (work : List ℕ) {number covered index : ℕ} {w′ : List ℕ}
+    (ok : CoversInC t address len work number covered index w′) where
   given-cover : ((b : Bool) × (coversSays (ok .answer) ≡ gives b)) ↔ None (CoverCondition t len (length work))
   given-cover =
       let exactly = covers-answered t address len (length work) (ok .answer) w′ (ok .queried) in
@@ -135,18 +139,26 @@ module _ {A : Type 0} (t : List ℕ) (v : A) (q : Reply A) (judged : q ≡ judge
 module _ (t : List ℕ) (address : ℕ) {number found hop len index : ℕ} (ok : LookupInC t address number found hop len index) where
   -- The result is 0 exactly when no condition of document 01 holds.
   pub lookup-in-c-answered : number ≡ 0 ↔ None (TableCondition false t)
-  lookup-in-c-answered = answered (lookupSays (ok .answer)) (given-table t _ _ (ok .looked)) (refused-table t _ _ (ok .looked)) (λ n i f. table-number (f .0)) (ok .number-is) (ok .index-is)
+  lookup-in-c-answered =
+      answered (lookupSays (ok .answer)) (given-table t _ _ (ok .looked)) (refused-table t _ _ (ok .looked))
+      (λ n i f. table-number (f .0)) (ok .number-is) (ok .index-is)
 
   -- Else it is, with the index, the first that holds.
   pub lookup-in-c-refused : (n i : ℕ) → ((1 ≤ n) × (number ≡ n) × (index ≡ i)) ↔ First (TableCondition false t) n i
-  lookup-in-c-refused = numbered (lookupSays (ok .answer)) (given-table t _ _ (ok .looked)) (refused-table t _ _ (ok .looked)) (λ n i f. table-number (f .0)) (ok .number-is) (ok .index-is)
+  lookup-in-c-refused =
+      numbered (lookupSays (ok .answer)) (given-table t _ _ (ok .looked)) (refused-table t _ _ (ok .looked))
+      (λ n i f. table-number (f .0)) (ok .number-is) (ok .index-is)
 
 -- ---- Addresses held.
 module _ (t : List ℕ) {number addresses index : ℕ} (ok : HeldInC t number addresses index) where
   -- The result is 0 exactly when no condition of document 01 holds.
   pub held-in-c-answered : number ≡ 0 ↔ None (TableCondition false t)
-  held-in-c-answered = answered (heldSays (ok .answer)) (given-table t _ _ (ok .held)) (refused-table t _ _ (ok .held)) (λ n i f. table-number (f .0)) (ok .number-is) (ok .index-is)
+  held-in-c-answered =
+      answered (heldSays (ok .answer)) (given-table t _ _ (ok .held)) (refused-table t _ _ (ok .held))
+      (λ n i f. table-number (f .0)) (ok .number-is) (ok .index-is)
 
   -- Else it is, with the index, the first that holds.
   pub held-in-c-refused : (n i : ℕ) → ((1 ≤ n) × (number ≡ n) × (index ≡ i)) ↔ First (TableCondition false t) n i
-  held-in-c-refused = numbered (heldSays (ok .answer)) (given-table t _ _ (ok .held)) (refused-table t _ _ (ok .held)) (λ n i f. table-number (f .0)) (ok .number-is) (ok .index-is)
+  held-in-c-refused =
+      numbered (heldSays (ok .answer)) (given-table t _ _ (ok .held)) (refused-table t _ _ (ok .held))
+      (λ n i f. table-number (f .0)) (ok .number-is) (ok .index-is)

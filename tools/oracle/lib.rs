@@ -13,14 +13,15 @@ pub use prefix::Prefix;
 
 use aggregate::Aggregation;
 use allocator::Loc;
+use node::LexIterElem;
 use table::{reconstruct_prefix, DataIdx, Table, K};
 
 /// A route: address, length, hop. Sets have hop 0.
 pub type Route = (u32, u8, u8);
 
-fn filled<T>(routes: &[Route], value: impl Fn(u8) -> T) -> Table<T> {
+fn filled<T>(routes: impl IntoIterator<Item = Route>, value: impl Fn(u8) -> T) -> Table<T> {
     let mut table = Table::default();
-    for &(address, length, hop) in routes {
+    for (address, length, hop) in routes {
         match table.find_or_insert_mut(address, length as u32) {
             Ok(present) => {
                 present.replace(value(hop));
@@ -63,7 +64,7 @@ fn entries<T>(table: &Table<T>, hop: impl Fn(&T) -> u8) -> Vec<Route> {
 /// The number of nodes of the trie that holds `routes`.
 pub fn nodes(routes: &[Route]) -> usize {
     let mut count = 0;
-    walk(&filled(routes, |hop| hop), Loc::root(), 0, 0, &mut |_, _, value| {
+    walk(&filled(routes.iter().copied(), |hop| hop), Loc::root(), 0, 0, &mut |_, _, value| {
         if value.is_none() {
             count += 1;
         }
@@ -73,8 +74,8 @@ pub fn nodes(routes: &[Route]) -> usize {
 
 /// Modes 1 to 5: the entries afterwards, sorted, and the change that the crate's method answers.
 pub fn rewrite(mode: u8, default: u8, routes: &[Route]) -> (Vec<Route>, i64) {
-    let set = || filled(routes, |_| ());
-    let map = || filled(routes, |hop| hop);
+    let set = || filled(routes.iter().copied(), |_| ());
+    let map = || filled(routes.iter().copied(), |hop| hop);
     // SAFETY: the root is always a live node.
     match mode {
         1 => {
@@ -106,14 +107,91 @@ pub fn rewrite(mode: u8, default: u8, routes: &[Route]) -> (Vec<Route>, i64) {
     }
 }
 
+/// How far `rewrite_records` goes.
+#[derive(Clone, Copy, PartialEq)]
+pub enum Stage {
+    Filled,
+    Aggregated,
+    Written,
+}
+
+/// The record of an entry (docs/WIRE.md), in its place of the output.
+fn write_record(output: &mut [u8], at: usize, (address, length, hop): Route) {
+    let record = &mut output[8 * at..8 * at + 8];
+    record[..4].copy_from_slice(&address.to_be_bytes());
+    record[4..].copy_from_slice(&[length, hop, 0, 0]);
+}
+
+/// Writes the entries in table order, by the crate's own iterator over a node and its children, and says how many they are.
+fn write_entries<T>(table: &Table<T>, hop: impl Fn(&T) -> u8, output: &mut [u8]) -> usize {
+    let mut count = 0;
+    // SAFETY: the table is not changed while it is read, and the iterators hand out live nodes of it.
+    let mut open = vec![unsafe { table.lex_iter(Loc::root(), 0, 0u32) }];
+    while let Some(node) = open.last_mut() {
+        let key = *node.key();
+        match node.next() {
+            None => {
+                open.pop();
+            }
+            Some(LexIterElem::Child(child, depth, key)) => open.push(unsafe { table.lex_iter(child, depth, key) }),
+            Some(LexIterElem::Data(index)) => {
+                let (address, length): (u32, u8) = reconstruct_prefix(key, index.depth, index.bit as usize);
+                let present = unsafe { index.resolve(table) }.expect("the bit is set");
+                write_record(output, count, (address, length, hop(present.get())));
+                count += 1;
+            }
+        }
+    }
+    count
+}
+
+/// Modes 1 to 5 from records to records: fills a table, aggregates it, and writes its entries. Says how many there are, 0 where it stops
+/// at an earlier stage.
+pub fn rewrite_records(mode: u8, default: u8, records: &[u8], output: &mut [u8], stage: Stage) -> usize {
+    if mode <= 2 {
+        rewrite_in(records, |_| (), |_| 0, output, stage, |table| match mode {
+            // SAFETY: the root is always a live node.
+            1 => unsafe { table.aggregate_set(Loc::root(), 0) }.1,
+            _ => unsafe { table.aggregate_consistent_set(Loc::root(), 0) },
+        })
+    } else {
+        rewrite_in(records, |hop| hop, |hop| *hop, output, stage, |table| match mode {
+            // SAFETY: the root is always a live node.
+            3 => unsafe { table.aggregate_consistent_map(Loc::root(), 0, None) }.1,
+            4 => table.aggregate_map::<u32, fn() -> u8>(Aggregation::Drop),
+            _ => table.aggregate_map::<u32, _>(Aggregation::Fill(|| default)),
+        })
+    }
+}
+
+fn rewrite_in<T>(
+    records: &[u8],
+    value: impl Fn(u8) -> T,
+    hop: impl Fn(&T) -> u8,
+    output: &mut [u8],
+    stage: Stage,
+    aggregate: impl Fn(&mut Table<T>) -> i64,
+) -> usize {
+    let routes = records.chunks_exact(8).map(|r| (u32::from_be_bytes([r[0], r[1], r[2], r[3]]), r[4], r[5]));
+    let mut table = filled(routes, value);
+    if stage != Stage::Filled {
+        std::hint::black_box(aggregate(&mut table));
+    }
+    if stage != Stage::Written {
+        std::hint::black_box(&table);
+        return 0;
+    }
+    write_entries(&table, hop, output)
+}
+
 /// Does the set cover every address of the prefix? The crate passes over address bits past the length.
 pub fn covers(routes: &[Route], address: u32, length: u8) -> bool {
-    filled(routes, |_| ()).covers_in_aggregate(address, length as u32)
+    filled(routes.iter().copied(), |_| ()).covers_in_aggregate(address, length as u32)
 }
 
 /// The crate's longest match of an address: hop and length.
 pub fn lookup(routes: &[Route], address: u32) -> Option<(u8, u8)> {
-    let table = filled(routes, |hop| hop);
+    let table = filled(routes.iter().copied(), |hop| hop);
     let present = table.find_lpm(address, 32)?;
     let (_, length): (u32, u8) = present.prefix(address);
     Some((*present.get(), length))

@@ -1,0 +1,3 @@
+-- The laws of the functions for C. Settled: no second result satisfies a statement. Numbered: when the result is 0, and which refusal it names else.
+pub mod Settled
+pub mod Numbered

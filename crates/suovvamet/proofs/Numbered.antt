@@ -1,0 +1,164 @@
+-- What the result of a function for C says: it is 0 exactly when the call is answered, and else it is, with the index, the first refusal of document
+-- 01's order. Assumes nothing.
+use mathlib.Core.Path.{_≡_, refl, sym, ap, ap₂, _∙_}
+use mathlib.Core.Bool.{Bool, false}
+use mathlib.Core.List.{List}
+use mathlib.Core.Logic.{_↔_}
+use Prim.Native.Nat.{ℕ, _≤_}
+use native.Mathlib.Omega.{arith}
+use lib.IntN.{ℤ}
+use lib.ListN.{length}
+use Rattle.table.specs.Calls.{lookupSays, heldSays}
+use Rattle.table.specs.Rules.{Reply, gives, refuses, judge}
+use Rattle.table.specs.Wire.{tableRules}
+use Rattle.table.proofs.Accepted.{not-refused, accepted, refused-exactly}
+use Rattle.calls.specs.Conditions.{RecordCondition, too-long, host-bits, bad-tail, not-after, TableCondition, not-whole, too-many, of-record, RewriteCondition, no-mode, large-default, of-table, short-work, short-output, CoverCondition, of-set, long-query, short-room, First, None}
+use Rattle.calls.specs.Covering.{coveredBy, coversSays}
+use Rattle.calls.specs.Rewriting.{Written, rewrittenSays}
+use Rattle.calls.specs.declared.Rewritten.{Rewritten}
+use Rattle.calls.specs.declared.Rewritten.the-variants.{Records, Refused}
+use Rattle.calls.specs.declared.Covers.the-variants.{Refused as NotAnswered}
+use Rattle.calls.proofs.Refusals.{accepted-exactly, refused-first, rewrite-refused, rewrite-accepted, covers-refused, covers-answered}
+use Rattle.calls.proofs.Settled.{rewritten-same, covers-same}
+use Rattle.suovvamet.specs.Numbers.{numberOf, indexOf}
+use Rattle.suovvamet.specs.Calls.{RewriteInC, CoversInC, LookupInC, HeldInC}
+
+-- ---- No condition has the number 0.
+record-number : {s : Bool} {t : List ℕ} {i n : ℕ} → RecordCondition s t i n → 1 ≤ n
+record-number (too-long f) = omega arith
+record-number (host-bits f) = omega arith
+record-number (bad-tail f) = omega arith
+record-number (not-after f) = omega arith
+
+table-number : {s : Bool} {t : List ℕ} {n i : ℕ} → TableCondition s t n i → 1 ≤ n
+table-number (not-whole f) = omega arith
+table-number (too-many h) = omega arith
+table-number (of-record h c) = record-number c
+
+rewrite-number : {t : List ℕ} {mode default room words n i : ℕ} → RewriteCondition t mode default room words n i → 1 ≤ n
+rewrite-number (no-mode f) = omega arith
+rewrite-number (large-default e h) = omega arith
+rewrite-number (of-table c) = table-number c
+rewrite-number (short-work h) = omega arith
+rewrite-number (short-output h) = omega arith
+
+cover-number : {t : List ℕ} {len words n i : ℕ} → CoverCondition t len words n i → 1 ≤ n
+cover-number (of-set c) = table-number c
+cover-number (long-query h) = omega arith
+cover-number (short-room h) = omega arith
+
+-- ---- Any reply: N says when it gives a value, F when it refuses, and no refusal has the number 0.
+module _ {A : Type 0} (q : Reply A) {N : Type 0} (given : ((a : A) × (q ≡ gives a)) ↔ N)
+    {F : ℕ → ℕ → Type 0} (refused : (n i : ℕ) → q ≡ refuses n i ↔ F n i) (above : (n i : ℕ) → F n i → 1 ≤ n)
+    {number index : ℕ} (number-is : number ≡ numberOf q) (index-is : index ≡ indexOf q) where
+  zero-given : (p : Reply A) → q ≡ p → numberOf p ≡ 0 → N
+  zero-given (gives a) e z = given .0 (a, e)
+  zero-given (refuses n i) e z = let f = above n i (refused n i .0 e) in absurd (omega arith)
+
+  numbered-refused : (p : Reply A) → q ≡ p → (n i : ℕ) → 1 ≤ n → numberOf p ≡ n → indexOf p ≡ i → F n i
+  numbered-refused (gives a) e n i p d f = absurd (omega arith)
+  numbered-refused (refuses m j) e n i p d f = refused n i .0 (e ∙ ap₂ refuses d f)
+
+  -- The number is 0 exactly when a value is given.
+  answered : number ≡ 0 ↔ N
+  answered = (λ e. zero-given q refl (sym number-is ∙ e), λ f. number-is ∙ ap numberOf (given .1 f .1))
+
+  -- The number, not 0, and the index are those of the refusal.
+  numbered : (n i : ℕ) → ((1 ≤ n) × (number ≡ n) × (index ≡ i)) ↔ F n i
+  numbered n i = (
+    λ f. numbered-refused q refl n i (f .0) (sym number-is ∙ f .1) (sym index-is ∙ f .2),
+    λ f. let e = refused n i .1 f in (above n i f, number-is ∙ ap numberOf e, index-is ∙ ap indexOf e),
+  )
+
+-- ---- A rewrite.
+module _ (t : List ℕ) (mode default : ℕ) (o work : List ℕ) {number count : ℕ} {change : ℤ} {index : ℕ} {o′ w′ : List ℕ}
+    (ok : RewriteInC t mode default o work number count change index o′ w′) where
+  abbrev Refusing : ℕ → ℕ → Type 0
+  Refusing = RewriteCondition t mode default (length o) (length work)
+
+  gave : (r : Rewritten) → ((w : Written) × (rewrittenSays r ≡ gives w)) ↔ ((count : ℕ) × ((change : ℤ) × (r ≡ Records count change)))
+  gave r = (
+    λ (w, e). (w .count, (w .change, rewritten-same r (Records _ _) e)),
+    λ (count, (change, e)). (_, ap rewrittenSays e),
+  )
+
+  given : ((w : Written) × (rewrittenSays (ok .answer) ≡ gives w)) ↔ None Refusing
+  given =
+      let exactly = rewrite-accepted t mode default o (length work) (ok .answer) o′ w′ (ok .rewrites) in
+      (λ f. exactly .0 (gave (ok .answer) .0 f), λ none. gave (ok .answer) .1 (exactly .1 none))
+
+  refused : (n i : ℕ) → rewrittenSays (ok .answer) ≡ refuses n i ↔ First Refusing n i
+  refused n i =
+      let exactly = rewrite-refused t mode default o (length work) (ok .answer) o′ w′ (ok .rewrites) n i in
+      (λ e. exactly .0 (rewritten-same (ok .answer) (Refused n i) e), λ f. ap rewrittenSays (exactly .1 f))
+
+  -- The result is 0 exactly when no condition of document 01 holds.
+  pub rewrite-in-c-answered : number ≡ 0 ↔ None (RewriteCondition t mode default (length o) (length work))
+  rewrite-in-c-answered = answered (rewrittenSays (ok .answer)) given refused (λ n i f. rewrite-number (f .0)) (ok .number-is) (ok .index-is)
+
+  -- Else it is, with the index, the first that holds.
+  pub rewrite-in-c-refused : (n i : ℕ) → ((1 ≤ n) × (number ≡ n) × (index ≡ i)) ↔ First (RewriteCondition t mode default (length o) (length work)) n i
+  rewrite-in-c-refused = numbered (rewrittenSays (ok .answer)) given refused (λ n i f. rewrite-number (f .0)) (ok .number-is) (ok .index-is)
+
+-- ---- The cover query.
+module _ (t : List ℕ) (address len : ℕ) (work : List ℕ) {number covered index : ℕ} {w′ : List ℕ}
+    (ok : CoversInC t address len work number covered index w′) where
+  given-cover : ((b : Bool) × (coversSays (ok .answer) ≡ gives b)) ↔ None (CoverCondition t len (length work))
+  given-cover =
+      let exactly = covers-answered t address len (length work) (ok .answer) w′ (ok .queried) in
+      (λ (b, e). exactly b .0 e .0, λ none. (coveredBy t address len, exactly _ .1 (none, refl)))
+
+  refused-cover : (n i : ℕ) → coversSays (ok .answer) ≡ refuses n i ↔ First (CoverCondition t len (length work)) n i
+  refused-cover n i =
+      let exactly = covers-refused t address len (length work) (ok .answer) w′ (ok .queried) n i in
+      (λ e. exactly .0 (covers-same (ok .answer) (NotAnswered n i) e), λ f. ap coversSays (exactly .1 f))
+
+  -- The result is 0 exactly when no condition of document 01 holds.
+  pub covers-in-c-answered : number ≡ 0 ↔ None (CoverCondition t len (length work))
+  covers-in-c-answered = answered (coversSays (ok .answer)) given-cover refused-cover (λ n i f. cover-number (f .0)) (ok .number-is) (ok .index-is)
+
+  -- Else it is, with the index, the first that holds.
+  pub covers-in-c-refused : (n i : ℕ) → ((1 ≤ n) × (number ≡ n) × (index ≡ i)) ↔ First (CoverCondition t len (length work)) n i
+  covers-in-c-refused = numbered (coversSays (ok .answer)) given-cover refused-cover (λ n i f. cover-number (f .0)) (ok .number-is) (ok .index-is)
+
+-- ---- A call that judges a map's table and nothing else.
+module _ {A : Type 0} (t : List ℕ) (v : A) (q : Reply A) (judged : q ≡ judge (tableRules false t) v) where
+  given-table : ((a : A) × (q ≡ gives a)) ↔ None (TableCondition false t)
+  given-table = (
+    λ (a, e). accepted-exactly false t .0 (accepted false t v (sym judged ∙ e)),
+    λ none. (v, judged ∙ not-refused false t v (accepted-exactly false t .1 none)),
+  )
+
+  refused-table : (n i : ℕ) → q ≡ refuses n i ↔ First (TableCondition false t) n i
+  refused-table n i = (
+    λ e. refused-first false t n i .0 (refused-exactly false t v .0 (sym judged ∙ e)),
+    λ f. judged ∙ refused-exactly false t v .1 (refused-first false t n i .1 f),
+  )
+
+-- ---- A lookup.
+module _ (t : List ℕ) (address : ℕ) {number found hop len index : ℕ} (ok : LookupInC t address number found hop len index) where
+  -- The result is 0 exactly when no condition of document 01 holds.
+  pub lookup-in-c-answered : number ≡ 0 ↔ None (TableCondition false t)
+  lookup-in-c-answered =
+      answered (lookupSays (ok .answer)) (given-table t _ _ (ok .looked)) (refused-table t _ _ (ok .looked))
+      (λ n i f. table-number (f .0)) (ok .number-is) (ok .index-is)
+
+  -- Else it is, with the index, the first that holds.
+  pub lookup-in-c-refused : (n i : ℕ) → ((1 ≤ n) × (number ≡ n) × (index ≡ i)) ↔ First (TableCondition false t) n i
+  lookup-in-c-refused =
+      numbered (lookupSays (ok .answer)) (given-table t _ _ (ok .looked)) (refused-table t _ _ (ok .looked))
+      (λ n i f. table-number (f .0)) (ok .number-is) (ok .index-is)
+
+-- ---- Addresses held.
+module _ (t : List ℕ) {number addresses index : ℕ} (ok : HeldInC t number addresses index) where
+  -- The result is 0 exactly when no condition of document 01 holds.
+  pub held-in-c-answered : number ≡ 0 ↔ None (TableCondition false t)
+  held-in-c-answered =
+      answered (heldSays (ok .answer)) (given-table t _ _ (ok .held)) (refused-table t _ _ (ok .held))
+      (λ n i f. table-number (f .0)) (ok .number-is) (ok .index-is)
+
+  -- Else it is, with the index, the first that holds.
+  pub held-in-c-refused : (n i : ℕ) → ((1 ≤ n) × (number ≡ n) × (index ≡ i)) ↔ First (TableCondition false t) n i
+  held-in-c-refused =
+      numbered (heldSays (ok .answer)) (given-table t _ _ (ok .held)) (refused-table t _ _ (ok .held))
+      (λ n i f. table-number (f .0)) (ok .number-is) (ok .index-is)

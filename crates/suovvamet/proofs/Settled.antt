@@ -1,0 +1,71 @@
+-- The statements of the functions for C settle the result, all that is set and all that was lent: no second of these satisfies one. Assumes nothing.
+use mathlib.Core.Path.{_≡_, sym, ap, _∙_}
+use mathlib.Core.List.{List}
+use Prim.Native.Nat.{ℕ}
+use lib.IntN.{ℤ}
+use lib.ListN.{length}
+use Rattle.table.specs.Calls.{lookupSays, heldSays}
+use Rattle.table.specs.declared.answers.Lookup.{Lookup}
+use Rattle.table.specs.declared.answers.AddressesHeld.{AddressesHeld}
+use Rattle.table.proofs.Calls.{lookup-unique, held-unique}
+use Rattle.calls.specs.Rewriting.{rewrittenSays, countOf, changeOf}
+use Rattle.calls.specs.Covering.{coversSays}
+use Rattle.calls.specs.declared.Rewritten.{Rewritten}
+use Rattle.calls.specs.declared.Covers.{Covers}
+use Rattle.calls.proofs.Settled.{rewrite-settled, covers-settled}
+use Rattle.suovvamet.specs.Numbers.{numberOf, indexOf, coveredOf, foundOf, hopOf, lengthOf, sumOf}
+use Rattle.suovvamet.specs.Calls.{RewriteInC, CoversInC, LookupInC, HeldInC}
+
+-- Parts of two answers that are the same are the same.
+same-part : {R N : Type 0} (part : R → N) {a b : R} {m n : N} → a ≡ b → m ≡ part a → n ≡ part b → m ≡ n
+same-part part e p q = p ∙ ap part e ∙ sym q
+
+-- Of a rewrite: the number, the count, the change, the index, the output and the room.
+pub rewrite-in-c-settled : (t : List ℕ) (mode default : ℕ) (o work : List ℕ) {number number₁ count count₁ : ℕ} {change change₁ : ℤ} {index index₁ : ℕ} {o′ o₁ w′ w₁ : List ℕ}
+    → RewriteInC t mode default o work number count change index o′ w′ → RewriteInC t mode default o work number₁ count₁ change₁ index₁ o₁ w₁
+    → (number ≡ number₁) × (count ≡ count₁) × (change ≡ change₁) × (index ≡ index₁) × (o′ ≡ o₁) × (w′ ≡ w₁)
+rewrite-in-c-settled t mode default o work {o′ = o′} {o₁ = o₁} {w′ = w′} {w₁ = w₁} a b =
+    let s = rewrite-settled t mode default o (length work) (a .answer) (b .answer) o′ o₁ w′ w₁ (a .rewrites) (b .rewrites) in (
+      same-part (λ (r : Rewritten). numberOf (rewrittenSays r)) (s .0) (a .number-is) (b .number-is),
+      same-part countOf (s .0) (a .count-is) (b .count-is),
+      same-part changeOf (s .0) (a .change-is) (b .change-is),
+      same-part (λ (r : Rewritten). indexOf (rewrittenSays r)) (s .0) (a .index-is) (b .index-is),
+      s .1,
+      s .2,
+    )
+
+-- Of the cover query: the number, what is said of the prefix, the index and the room.
+pub covers-in-c-settled : (t : List ℕ) (address len : ℕ) (work : List ℕ) {number number₁ covered covered₁ index index₁ : ℕ} {w′ w₁ : List ℕ}
+    → CoversInC t address len work number covered index w′ → CoversInC t address len work number₁ covered₁ index₁ w₁
+    → (number ≡ number₁) × (covered ≡ covered₁) × (index ≡ index₁) × (w′ ≡ w₁)
+covers-in-c-settled t address len work {w′ = w′} {w₁ = w₁} a b =
+    let s = covers-settled t address len (length work) (a .answer) (b .answer) w′ w₁ (a .queried) (b .queried) in (
+      same-part (λ (r : Covers). numberOf (coversSays r)) (s .0) (a .number-is) (b .number-is),
+      same-part coveredOf (s .0) (a .covered-is) (b .covered-is),
+      same-part (λ (r : Covers). indexOf (coversSays r)) (s .0) (a .index-is) (b .index-is),
+      s .1,
+    )
+
+-- Of a lookup: the number, whether there is a route, its hop and length, and the index.
+pub lookup-in-c-settled : (t : List ℕ) (address : ℕ) {number number₁ found found₁ hop hop₁ len len₁ index index₁ : ℕ}
+    → LookupInC t address number found hop len index → LookupInC t address number₁ found₁ hop₁ len₁ index₁
+    → (number ≡ number₁) × (found ≡ found₁) × (hop ≡ hop₁) × (len ≡ len₁) × (index ≡ index₁)
+lookup-in-c-settled t address a b =
+    let e = lookup-unique t address (a .answer) (b .answer) (a .looked) (b .looked) in (
+      same-part (λ (r : Lookup). numberOf (lookupSays r)) e (a .number-is) (b .number-is),
+      same-part foundOf e (a .found-is) (b .found-is),
+      same-part hopOf e (a .hop-is) (b .hop-is),
+      same-part lengthOf e (a .length-is) (b .length-is),
+      same-part (λ (r : Lookup). indexOf (lookupSays r)) e (a .index-is) (b .index-is),
+    )
+
+-- Of addresses held: the number, the sum and the index.
+pub held-in-c-settled : (t : List ℕ) {number number₁ addresses addresses₁ index index₁ : ℕ}
+    → HeldInC t number addresses index → HeldInC t number₁ addresses₁ index₁
+    → (number ≡ number₁) × (addresses ≡ addresses₁) × (index ≡ index₁)
+held-in-c-settled t a b =
+    let e = held-unique t (a .answer) (b .answer) (a .held) (b .held) in (
+      same-part (λ (r : AddressesHeld). numberOf (heldSays r)) e (a .number-is) (b .number-is),
+      same-part sumOf e (a .sum-is) (b .sum-is),
+      same-part (λ (r : AddressesHeld). indexOf (heldSays r)) e (a .index-is) (b .index-is),
+    )

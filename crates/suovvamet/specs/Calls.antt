@@ -1,0 +1,49 @@
+-- The statements of the functions for C: there is an answer that satisfies the call's own statement, and the numbers are those of this answer.
+use Prim.Native.Nat.{ℕ}
+use mathlib.Core.Path.{_≡_}
+use mathlib.Core.List.{List}
+use lib.IntN.{ℤ}
+use lib.ListN.{length}
+use Rattle.table.specs.Calls.{lookupSays, lookupReply, heldSays, heldReply}
+use Rattle.table.specs.declared.answers.Lookup.{Lookup}
+use Rattle.table.specs.declared.answers.AddressesHeld.{AddressesHeld}
+use Rattle.calls.specs.Rewriting.{rewrittenSays, countOf, changeOf, Rewrites}
+use Rattle.calls.specs.Covering.{coversSays, Queried}
+use Rattle.calls.specs.declared.Rewritten.{Rewritten}
+use Rattle.calls.specs.declared.Covers.{Covers}
+use Rattle.suovvamet.specs.Numbers.{numberOf, indexOf, coveredOf, foundOf, hopOf, lengthOf, sumOf}
+
+-- Of a rewrite: the table t, the output o and the room work were lent; the output is o′ then and the room work′.
+pub record RewriteInC (t : List ℕ) (mode default : ℕ) (o work : List ℕ) (number count : ℕ) (change : ℤ) (index : ℕ) (o′ work′ : List ℕ) : Type 0 where
+  pub answer : Rewritten
+  pub rewrites : Rewrites t mode default o (length work) answer o′ work′
+  pub number-is : number ≡ numberOf (rewrittenSays answer)
+  pub index-is : index ≡ indexOf (rewrittenSays answer)
+  pub count-is : count ≡ countOf answer
+  pub change-is : change ≡ changeOf answer
+
+-- Of the cover query: the table t and the room work were lent, and the room is work′ then.
+pub record CoversInC (t : List ℕ) (address len : ℕ) (work : List ℕ) (number covered index : ℕ) (work′ : List ℕ) : Type 0 where
+  pub answer : Covers
+  pub queried : Queried t address len (length work) answer work′
+  pub number-is : number ≡ numberOf (coversSays answer)
+  pub index-is : index ≡ indexOf (coversSays answer)
+  pub covered-is : covered ≡ coveredOf answer
+
+-- Of a lookup.
+pub record LookupInC (t : List ℕ) (address number found hop len index : ℕ) : Type 0 where
+  pub answer : Lookup
+  pub looked : lookupSays answer ≡ lookupReply t address
+  pub number-is : number ≡ numberOf (lookupSays answer)
+  pub index-is : index ≡ indexOf (lookupSays answer)
+  pub found-is : found ≡ foundOf answer
+  pub hop-is : hop ≡ hopOf answer
+  pub length-is : len ≡ lengthOf answer
+
+-- Of addresses held.
+pub record HeldInC (t : List ℕ) (number addresses index : ℕ) : Type 0 where
+  pub answer : AddressesHeld
+  pub held : heldSays answer ≡ heldReply t
+  pub number-is : number ≡ numberOf (heldSays answer)
+  pub index-is : index ≡ indexOf (heldSays answer)
+  pub sum-is : addresses ≡ sumOf answer

@@ -1,0 +1,3 @@
+-- What the functions for C promise. Numbers: the numbers of an answer. Calls: the statement of each function.
+pub mod Numbers
+pub mod Calls

@@ -1,0 +1,52 @@
+-- The answers of the calls in numbers. The count and the change of a rewrite are `countOf` and `changeOf` of the crate calls.
+use Prim.Native.Nat.{ℕ}
+use Rattle.table.specs.Rules.{Reply, gives, refuses}
+use Rattle.table.specs.declared.answers.Lookup.{Lookup}
+use Rattle.table.specs.declared.answers.Lookup.the-variants.{Route, NoRoute, Refused as NotLooked}
+use Rattle.table.specs.declared.answers.AddressesHeld.{AddressesHeld}
+use Rattle.table.specs.declared.answers.AddressesHeld.the-variants.{Sum, Refused as NotSummed}
+use Rattle.calls.specs.declared.Covers.{Covers}
+use Rattle.calls.specs.declared.Covers.the-variants.{Covered, Uncovered, Refused as NotAnswered}
+
+-- ---- Of any call.
+
+-- Document 01's number of a refusal, 0 where there is none.
+abbrev pub numberOf : {A : Type 0} → Reply A → ℕ
+numberOf (gives a) = 0
+numberOf (refuses number index) = number
+
+-- The index that a refusal names, 0 where there is none.
+abbrev pub indexOf : {A : Type 0} → Reply A → ℕ
+indexOf (gives a) = 0
+indexOf (refuses number index) = index
+
+-- ---- Of the cover query: 1 for covered, else 0.
+abbrev pub coveredOf : Covers → ℕ
+coveredOf Covered = 1
+coveredOf Uncovered = 0
+coveredOf (NotAnswered number index) = 0
+
+-- ---- Of a lookup.
+
+-- 1 for a route, else 0.
+abbrev pub foundOf : Lookup → ℕ
+foundOf (Route hop len) = 1
+foundOf NoRoute = 0
+foundOf (NotLooked number index) = 0
+
+-- Its hop, 0 where there is none.
+abbrev pub hopOf : Lookup → ℕ
+hopOf (Route hop len) = hop
+hopOf NoRoute = 0
+hopOf (NotLooked number index) = 0
+
+-- Its length, 0 where there is none.
+abbrev pub lengthOf : Lookup → ℕ
+lengthOf (Route hop len) = len
+lengthOf NoRoute = 0
+lengthOf (NotLooked number index) = 0
+
+-- ---- Of addresses held: the sum, 0 in a refusal.
+abbrev pub sumOf : AddressesHeld → ℕ
+sumOf (Sum n) = n
+sumOf (NotSummed number index) = 0

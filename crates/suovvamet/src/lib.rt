@@ -1,0 +1,261 @@
+// The library for C: the four calls, each with its answer in numbers. The result is the refusal's number, 0 for an answer; what else is
+// answered is set through the parameters that are lent for it, all of them in every case. include/suovvamet.h says the same in words.
+
+use calls::Covers;
+use calls::Rewritten;
+use table::answers::AddressesHeld;
+use table::answers::Lookup;
+ghost use mathlib.Core.Path.{_≡_};
+ghost use Rattle.table.specs.Calls.{lookupSays, heldSays};
+ghost use Rattle.calls.specs.Covering.{coversSays};
+ghost use Rattle.calls.specs.Rewriting.{rewrittenSays, countOf, changeOf};
+ghost use Rattle.suovvamet.specs.Numbers.{numberOf, indexOf, coveredOf, foundOf, hopOf, lengthOf, sumOf};
+ghost use Rattle.suovvamet.specs.Calls.{RewriteInC, CoversInC, LookupInC, HeldInC};
+
+// The parts of a rewrite's answer.
+fn rewritten_number(r: Rewritten) -> u32
+    ensures { λ n. ⌜ n ≡ numberOf (rewrittenSays r) ⌝ }
+{
+    match r {
+        Rewritten::Records {
+            count: _,
+            change: _,
+        } => 0,
+        Rewritten::Refused { number, index: _ } => number as u32,
+    }
+}
+
+fn rewritten_index(r: Rewritten) -> u64
+    ensures { λ n. ⌜ n ≡ indexOf (rewrittenSays r) ⌝ }
+{
+    match r {
+        Rewritten::Records {
+            count: _,
+            change: _,
+        } => 0,
+        Rewritten::Refused { number: _, index } => index as u64,
+    }
+}
+
+fn rewritten_count(r: Rewritten) -> u64
+    ensures { λ n. ⌜ n ≡ countOf r ⌝ }
+{
+    match r {
+        Rewritten::Records { count, change: _ } => count as u64,
+        Rewritten::Refused {
+            number: _,
+            index: _,
+        } => 0,
+    }
+}
+
+fn rewritten_change(r: Rewritten) -> i64
+    ensures { λ n. ⌜ n ≡ changeOf r ⌝ }
+{
+    match r {
+        Rewritten::Records { count: _, change } => change,
+        Rewritten::Refused {
+            number: _,
+            index: _,
+        } => 0,
+    }
+}
+
+// A rewrite of the table in a mode, into the output: the number of records and the change.
+#[no_mangle]
+pub extern "C" fn suovvamet_rewrite(
+    table: &[u8],
+    mode: u32,
+    default: u32,
+    output: &mut [u8],
+    work: &mut [u32],
+    count: &mut u64,
+    change: &mut i64,
+    index: &mut u64,
+) -> u32
+    ensures { λ n. ⌜ RewriteInC (now (table .entry)) mode default (now (output .entry)) (now (work .entry)) n (now (count .exit)) (now (change .exit)) (now (index .exit)) (now (output .exit)) (now (work .exit)) ⌝ }
+{
+    let answer = aggregate::rewrite(table, mode, default, output, work);
+    *count = rewritten_count(answer);
+    *change = rewritten_change(answer);
+    *index = rewritten_index(answer);
+    rewritten_number(answer)
+}
+
+// The parts of the cover query's answer.
+fn covers_number(r: Covers) -> u32
+    ensures { λ n. ⌜ n ≡ numberOf (coversSays r) ⌝ }
+{
+    match r {
+        Covers::Covered => 0,
+        Covers::Uncovered => 0,
+        Covers::Refused { number, index: _ } => number as u32,
+    }
+}
+
+fn covers_index(r: Covers) -> u64
+    ensures { λ n. ⌜ n ≡ indexOf (coversSays r) ⌝ }
+{
+    match r {
+        Covers::Covered => 0,
+        Covers::Uncovered => 0,
+        Covers::Refused { number: _, index } => index as u64,
+    }
+}
+
+fn covers_covered(r: Covers) -> u32
+    ensures { λ n. ⌜ n ≡ coveredOf r ⌝ }
+{
+    match r {
+        Covers::Covered => 1,
+        Covers::Uncovered => 0,
+        Covers::Refused {
+            number: _,
+            index: _,
+        } => 0,
+    }
+}
+
+// Does the set cover every address of the prefix? Then covered is 1, else 0.
+#[no_mangle]
+pub extern "C" fn suovvamet_covers(
+    table: &[u8],
+    address: u32,
+    length: u32,
+    work: &mut [u32],
+    covered: &mut u32,
+    index: &mut u64,
+) -> u32
+    ensures { λ n. ⌜ CoversInC (now (table .entry)) address length (now (work .entry)) n (now (covered .exit)) (now (index .exit)) (now (work .exit)) ⌝ }
+{
+    let answer = aggregate::covers(table, address, length, work);
+    *covered = covers_covered(answer);
+    *index = covers_index(answer);
+    covers_number(answer)
+}
+
+// The parts of a lookup's answer.
+fn lookup_number(r: Lookup) -> u32
+    ensures { λ n. ⌜ n ≡ numberOf (lookupSays r) ⌝ }
+{
+    match r {
+        Lookup::Route { hop: _, length: _ } => 0,
+        Lookup::NoRoute => 0,
+        Lookup::Refused { number, index: _ } => number as u32,
+    }
+}
+
+fn lookup_index(r: Lookup) -> u64
+    ensures { λ n. ⌜ n ≡ indexOf (lookupSays r) ⌝ }
+{
+    match r {
+        Lookup::Route { hop: _, length: _ } => 0,
+        Lookup::NoRoute => 0,
+        Lookup::Refused { number: _, index } => index as u64,
+    }
+}
+
+fn lookup_found(r: Lookup) -> u32
+    ensures { λ n. ⌜ n ≡ foundOf r ⌝ }
+{
+    match r {
+        Lookup::Route { hop: _, length: _ } => 1,
+        Lookup::NoRoute => 0,
+        Lookup::Refused {
+            number: _,
+            index: _,
+        } => 0,
+    }
+}
+
+fn lookup_hop(r: Lookup) -> u32
+    ensures { λ n. ⌜ n ≡ hopOf r ⌝ }
+{
+    match r {
+        Lookup::Route { hop, length: _ } => hop as u32,
+        Lookup::NoRoute => 0,
+        Lookup::Refused {
+            number: _,
+            index: _,
+        } => 0,
+    }
+}
+
+fn lookup_length(r: Lookup) -> u32
+    ensures { λ n. ⌜ n ≡ lengthOf r ⌝ }
+{
+    match r {
+        Lookup::Route { hop: _, length } => length as u32,
+        Lookup::NoRoute => 0,
+        Lookup::Refused {
+            number: _,
+            index: _,
+        } => 0,
+    }
+}
+
+// The longest match of an address: found is 1 with its hop and length, or all three are 0.
+#[no_mangle]
+pub extern "C" fn suovvamet_lookup(
+    table: &[u8],
+    address: u32,
+    found: &mut u32,
+    hop: &mut u32,
+    length: &mut u32,
+    index: &mut u64,
+) -> u32
+    ensures { λ n. ⌜ LookupInC (now (table .entry)) address n (now (found .exit)) (now (hop .exit)) (now (length .exit)) (now (index .exit)) ⌝ }
+{
+    let answer = table::lookup(table, address);
+    *found = lookup_found(answer);
+    *hop = lookup_hop(answer);
+    *length = lookup_length(answer);
+    *index = lookup_index(answer);
+    lookup_number(answer)
+}
+
+// The parts of the answer of addresses held.
+fn held_number(r: AddressesHeld) -> u32
+    ensures { λ n. ⌜ n ≡ numberOf (heldSays r) ⌝ }
+{
+    match r {
+        AddressesHeld::Sum(_) => 0,
+        AddressesHeld::Refused { number, index: _ } => number as u32,
+    }
+}
+
+fn held_index(r: AddressesHeld) -> u64
+    ensures { λ n. ⌜ n ≡ indexOf (heldSays r) ⌝ }
+{
+    match r {
+        AddressesHeld::Sum(_) => 0,
+        AddressesHeld::Refused { number: _, index } => index as u64,
+    }
+}
+
+fn held_sum(r: AddressesHeld) -> u64
+    ensures { λ n. ⌜ n ≡ sumOf r ⌝ }
+{
+    match r {
+        AddressesHeld::Sum(sum) => sum,
+        AddressesHeld::Refused {
+            number: _,
+            index: _,
+        } => 0,
+    }
+}
+
+// The sum over the records of the sizes of their prefixes.
+#[no_mangle]
+pub extern "C" fn suovvamet_addresses_held(
+    table: &[u8],
+    addresses: &mut u64,
+    index: &mut u64,
+) -> u32
+    ensures { λ n. ⌜ HeldInC (now (table .entry)) n (now (addresses .exit)) (now (index .exit)) ⌝ }
+{
+    let answer = table::addresses_held(table);
+    *addresses = held_sum(answer);
+    *index = held_index(answer);
+    held_number(answer)
+}

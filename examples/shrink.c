@@ -1,0 +1,46 @@
+/*
+ * Shrinks a table of routes by the C library: shrink MODE TABLE, with a mode 1 to 5 and a file of records (docs/WIRE.md). Prints what
+ * tools/shrink prints: a line a record, then the change; or the refusal. Fill (mode 5) has the default 0. The status is 0 for a result,
+ * 1 for a refused table, 2 where there is nothing to shrink. docs/C.md says how to build it.
+ */
+#include <stdio.h>
+#include <stdlib.h>
+
+#include "suovvamet.h"
+
+static uint8_t table[SUOVVAMET_MOST_OUTPUT]; /* a record more than a table may have, so that a longer file is refused */
+static uint8_t output[SUOVVAMET_MOST_OUTPUT];
+static uint32_t work[SUOVVAMET_MOST_WORK];
+
+int main(int argc, char **argv)
+{
+    if (argc != 3) {
+        fprintf(stderr, "usage: shrink MODE TABLE\n");
+        return 2;
+    }
+    uint32_t mode = (uint32_t)strtoul(argv[1], NULL, 10);
+    FILE *file = fopen(argv[2], "rb");
+    if (file == NULL) {
+        perror(argv[2]);
+        return 2;
+    }
+    size_t length = fread(table, 1, sizeof table, file);
+    fclose(file);
+
+    uint64_t count, index;
+    int64_t change;
+    uint32_t refusal = suovvamet_rewrite(table, length, mode, 0, output, sizeof output, work, SUOVVAMET_MOST_WORK, &count, &change, &index);
+    if (refusal != SUOVVAMET_ANSWERED) {
+        printf("refused %u at %llu\n", (unsigned)refusal, (unsigned long long)index);
+        return 1;
+    }
+    for (uint64_t i = 0; i < count; i++) {
+        const uint8_t *record = output + 8 * i;
+        printf("%d.%d.%d.%d/%d", record[0], record[1], record[2], record[3], record[4]);
+        if (mode != SUOVVAMET_SET && mode != SUOVVAMET_CONSISTENT_SET)
+            printf(" %d", record[5]);
+        printf("\n");
+    }
+    printf("change %lld\n", (long long)change);
+    return 0;
+}

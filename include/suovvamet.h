@@ -1,0 +1,97 @@
+/*
+ * Suovvamet for C: a table of IPv4 routes made shorter without changing where any routed address is sent.
+ *
+ * What is said here of the four functions is proved of them for every input (crates/suovvamet; docs/C.md has the theorems' names and how to
+ * build and link). They take no memory of their own but stack, keep nothing between calls and never fail to return.
+ *
+ * A table is records of 8 bytes (docs/WIRE.md): four octets of the address, the first one first, then the length (0 to 32), the next hop (0 to
+ * 63 in a map, 0 in a set), and two bytes 0; no bit of the address is set past the length; strictly ascending by address, then length;
+ * at most 1,024 records.
+ *
+ * What the caller owes, in every call:
+ *   - a pointer that is followed by a length points to that many elements (bytes of a table or an output, 32-bit words of a work room),
+ *     whatever they hold, and is not NULL even where the length is 0;
+ *   - each other pointer points to one number, whatever it holds;
+ *   - no two of what the pointers of a call point to overlap, and nothing else writes there until the call returns.
+ * Nothing else is asked: any bytes and any numbers are answered or refused.
+ *
+ * What every function gives:
+ *   - its result is 0 exactly when the call is answered; else it is the number of the first refusal, in the order below, that is due;
+ *   - *index is the index of the record that a refusal 5 to 8 names, counted from 0; it is 0 for the other refusals and for an answer;
+ *   - every number that is set through a pointer is set in every case, and a refusal sets all but *index to 0;
+ *   - a table is only read; a work room is 0 throughout afterwards, answered or refused; nothing past a length is read or written.
+ */
+#ifndef SUOVVAMET_H
+#define SUOVVAMET_H
+
+#include <stddef.h>
+#include <stdint.h>
+
+#ifdef __cplusplus
+extern "C" {
+#endif
+
+/* The refusals, in the order in which they are checked, but that 5 to 8 go record by record: the first bad record, its lowest number. */
+enum suovvamet_refusal {
+    SUOVVAMET_ANSWERED = 0,       /* no refusal */
+    SUOVVAMET_MODE = 1,           /* the mode is not 1 to 5 */
+    SUOVVAMET_DEFAULT = 2,        /* the mode is 5 and the default is above 63 */
+    SUOVVAMET_TABLE_LENGTH = 3,   /* the table's length is not a multiple of 8 */
+    SUOVVAMET_RECORDS = 4,        /* the table has more than 1,024 records */
+    SUOVVAMET_PREFIX_LENGTH = 5,  /* a record's length is above 32 */
+    SUOVVAMET_HOST_BITS = 6,      /* a record has bits of the address set past its length */
+    SUOVVAMET_HOP = 7,            /* a record's hop is above 63, or not 0 in a set, or one of its last two bytes is not 0 */
+    SUOVVAMET_ORDER = 8,          /* a record is not strictly after the one before it */
+    SUOVVAMET_QUERY_LENGTH = 9,   /* the cover query's length is above 32 */
+    SUOVVAMET_WORK_ROOM = 10,     /* the work room has fewer than 160 words for each node of the table */
+    SUOVVAMET_OUTPUT = 11         /* the output has fewer than 8 bytes for each record of the result */
+};
+
+/* The modes of a rewrite. The first two take a set, the others a map. */
+enum suovvamet_mode {
+    SUOVVAMET_SET = 1,            /* the widest prefixes that the members cover whole */
+    SUOVVAMET_CONSISTENT_SET = 2, /* the members with no member above them */
+    SUOVVAMET_CONSISTENT_MAP = 3, /* the entries whose hop differs from that of the nearest entry above, or with none above */
+    SUOVVAMET_MAP_DROP = 4,       /* the same hop at every address, by ORTC; what has no route keeps none */
+    SUOVVAMET_MAP_FILL = 5        /* the same, what has no route given the default hop */
+};
+
+/*
+ * Rooms for every table. A table has the root as a node and, for each record of length L, one at depths 5, 10, up to 5 * (L / 5), which two
+ * records share where their address bits up to that depth agree: 1 for an empty table, 5,153 at most, so this work room is never refused.
+ * No result has more records than its table, but one more in mode 5: that is ORTC's own promise and the one thing here that is not proved;
+ * a result that did not fit would be refused by number 11 and nothing written.
+ */
+#define SUOVVAMET_MOST_WORK 824480u /* words: 160 for each of 5,153 nodes */
+#define SUOVVAMET_MOST_OUTPUT 8200u /* bytes: 8 for each of 1,025 records */
+
+/*
+ * Rewrites the table in a mode: the records of the mode's result stand in the output from its start, *count is their number and *change is
+ * that number less the number of the table's records. The bytes of the output after these records stay as they were, and after a refusal
+ * all of them. default_hop is read in mode 5 alone. Refusals 1 to 8, 10 and 11.
+ */
+uint32_t suovvamet_rewrite(const uint8_t *table, size_t table_length, uint32_t mode, uint32_t default_hop, uint8_t *output,
+                           size_t output_length, uint32_t *work, size_t work_length, uint64_t *count, int64_t *change, uint64_t *index);
+
+/*
+ * Does the set cover the prefix of this address and length, each of its addresses lying under some member? Then *covered is 1, else 0.
+ * The first octet of the address is the most significant; bits past the length are ignored. Refusals 3 to 10.
+ */
+uint32_t suovvamet_covers(const uint8_t *table, size_t table_length, uint32_t address, uint32_t length, uint32_t *work,
+                          size_t work_length, uint32_t *covered, uint64_t *index);
+
+/*
+ * The longest match of the address in a map: *found is 1 and *hop and *length are those of the record, or, where no record matches, all
+ * three are 0. Refusals 3 to 8.
+ */
+uint32_t suovvamet_lookup(const uint8_t *table, size_t table_length, uint32_t address, uint32_t *found, uint32_t *hop,
+                          uint32_t *length, uint64_t *index);
+
+/* The sum over the records of a map of 2^(32 - length), in *addresses. Refusals 3 to 8. */
+uint32_t suovvamet_addresses_held(const uint8_t *table, size_t table_length, uint64_t *addresses, uint64_t *index);
+
+#ifdef __cplusplus
+}
+#endif
+
+#endif

@@ -1,0 +1,324 @@
+//! Runs the program `bench` and the crate's driver (crate.rs) on the same tables, and prints what they take, as tables in markdown.
+//! Usage: main FOLDER RUNS PROGRAM-WORDS... -- CRATE-WORDS... -- COUNTED-WORDS... -- PLUGIN-WORDS...
+//! tools/bench calls it: FOLDER is for files, RUNS how often each time is taken; then the words that run `bench`, the driver, the driver
+//! that counts its heap, and, where there is an emulator, those that have it count instructions (they go after the emulator's name).
+
+use std::collections::BTreeSet;
+use std::fs;
+use std::io::Write;
+use std::process::{exit, Command, Stdio};
+
+type Route = (u32, u8, u8);
+
+/// A table, and what it is called.
+struct Table {
+    name: &'static str,
+    routes: Vec<Route>,
+}
+
+/// Random numbers (splitmix64), from a seed that never changes.
+struct Random(u64);
+
+impl Random {
+    fn next(&mut self) -> u32 {
+        self.0 = self.0.wrapping_add(0x9E37_79B9_7F4A_7C15);
+        let mut z = self.0;
+        z = (z ^ z >> 30).wrapping_mul(0xBF58_476D_1CE4_E5B9);
+        z = (z ^ z >> 27).wrapping_mul(0x94D0_49BB_1331_11EB);
+        (z ^ z >> 31) as u32
+    }
+}
+
+fn mask(length: u8) -> u32 {
+    u32::MAX.checked_shl(32 - length as u32).unwrap_or(0)
+}
+
+fn routes_of(bytes: &[u8]) -> Vec<Route> {
+    bytes.chunks_exact(8).map(|r| (u32::from_be_bytes([r[0], r[1], r[2], r[3]]), r[4], r[5])).collect()
+}
+
+/// The example's own yard, 10.20.0.0/16, again and again in the /16s from there on, up to 1,024 records.
+fn yards(yard: &[Route]) -> Vec<Route> {
+    let own: Vec<Route> = yard.iter().copied().filter(|r| r.0 >> 16 == 0x0A14).collect();
+    let mut routes: Vec<Route> = (0..64u32).flat_map(|k| own.iter().map(move |&(a, l, h)| (a + (k << 16), l, h))).take(1_024).collect();
+    routes.sort();
+    routes
+}
+
+/// So many scattered records of lengths 8 to 32, by 16 hops.
+fn mixed(count: usize) -> Vec<Route> {
+    let mut random = Random(7);
+    let mut prefixes = BTreeSet::new();
+    let mut routes = Vec::new();
+    while routes.len() < count {
+        let length = (8 + random.next() % 25) as u8;
+        let address = random.next() & mask(length);
+        if prefixes.insert((address, length)) {
+            routes.push((address, length, (random.next() % 16) as u8));
+        }
+    }
+    routes.sort();
+    routes
+}
+
+fn tables(yard: &[Route]) -> Vec<Table> {
+    let table = |name, routes| Table { name, routes };
+    let mut random = Random(11);
+    vec![
+        table("yard (the example)", yard.to_vec()),
+        table("yards side by side", yards(yard)),
+        table("mixed lengths", mixed(1_024)),
+        table("host routes", (0..1_024u32).map(|i| (0x0A14_0000 + i, 32, (1 + random.next() % 4) as u8)).collect()),
+        table("most nodes", (0..1_024u32).map(|part| (part << 22, 32, (1 + part % 63) as u8)).collect()),
+    ]
+}
+
+/// The nodes of a table: the root, and one for each depth 5, 10, .. 30 that a record reaches.
+fn nodes(routes: &[Route]) -> usize {
+    let mut seen = BTreeSet::from([(0, 0)]);
+    for &(address, length, _) in routes {
+        for depth in (5..=length.min(30)).step_by(5) {
+            seen.insert((depth, address & mask(depth)));
+        }
+    }
+    seen.len()
+}
+
+/// What both programs read.
+fn input(times: u32, mode: u8, words: usize, routes: &[Route]) -> Vec<u8> {
+    let mut bytes = times.to_be_bytes()[1..].to_vec();
+    bytes.extend([mode, 0]);
+    bytes.extend(&(words as u32).to_be_bytes()[1..]);
+    for &(address, length, hop) in routes {
+        bytes.extend(address.to_be_bytes());
+        bytes.extend([length, if mode <= 2 { 0 } else { hop }, 0, 0]);
+    }
+    bytes
+}
+
+#[repr(C)]
+#[derive(Default)]
+struct Usage {
+    user: [i64; 2],
+    system: [i64; 2],
+    rest: [i64; 14],
+}
+
+extern "C" {
+    fn getrusage(who: i32, usage: *mut Usage) -> i32;
+}
+
+/// The processor time of all programs that were run so far, in microseconds.
+fn used() -> i64 {
+    let mut usage = Usage::default();
+    // SAFETY: the struct is laid out as C's on 64-bit Linux; -1 asks for the children.
+    unsafe { getrusage(-1, &mut usage) };
+    1_000_000 * (usage.user[0] + usage.system[0]) + usage.user[1] + usage.system[1]
+}
+
+/// Runs a program, and says its line and the processor time that it took.
+fn run(words: &[String], bytes: &[u8]) -> (String, i64) {
+    let before = used();
+    let mut child = Command::new(&words[0])
+        .args(&words[1..])
+        .stdin(Stdio::piped())
+        .stdout(Stdio::piped())
+        .spawn()
+        .unwrap_or_else(|error| fail(&format!("{}: {error}", words[0])));
+    child.stdin.take().unwrap().write_all(bytes).unwrap_or_else(|error| fail(&format!("{}: {error}", words.join(" "))));
+    let output = child.wait_with_output().unwrap();
+    if !output.status.success() {
+        fail(&format!("{} ended with {}", words.join(" "), output.status));
+    }
+    (String::from_utf8_lossy(&output.stdout).trim().to_string(), used() - before)
+}
+
+fn fail(why: &str) -> ! {
+    eprintln!("bench: {why}");
+    exit(1)
+}
+
+/// Instructions, turns of repeated stores and moves, and bytes of stack.
+type Counts = [i64; 3];
+
+struct Bench {
+    folder: String,
+    runs: u32,
+    ours: Vec<String>,
+    theirs: Vec<String>,
+    counted: Vec<String>,
+    plugin: Vec<String>,
+}
+
+impl Bench {
+    /// The least time of a rewrite in microseconds: a run of many rewrites less a run of one.
+    fn time(&self, words: &[String], many: u32, mode: u8, room: usize, routes: &[Route]) -> f64 {
+        let least = |times| (0..self.runs).map(|_| run(words, &input(times, mode, room, routes)).1).min().unwrap();
+        (least(1 + many) - least(1)) as f64 / many as f64
+    }
+
+    fn count(&self, words: &[String], times: u32, stack: bool, mode: u8, room: usize, routes: &[Route]) -> Counts {
+        let file = format!("{}/counts", self.folder);
+        let option = format!("{},out={file}{}", self.plugin[1], if stack { ",stack=on" } else { "" });
+        let mut all = vec![words[0].clone(), self.plugin[0].clone(), option];
+        all.extend_from_slice(&words[1..]);
+        run(&all, &input(times, mode, room, routes));
+        let text = fs::read_to_string(&file).unwrap_or_else(|error| fail(&format!("{file}: {error}")));
+        let numbers: Vec<i64> = text.split_whitespace().map(|word| word.parse().unwrap()).collect();
+        [numbers[0], numbers[1], numbers[2]]
+    }
+
+    /// The instructions of a rewrite, and its turns: three rewrites less one.
+    fn counts(&self, words: &[String], mode: u8, room: usize, routes: &[Route]) -> [i64; 2] {
+        let (one, three) = (self.count(words, 1, false, mode, room, routes), self.count(words, 3, false, mode, room, routes));
+        [(three[0] - one[0]) / 2, (three[1] - one[1]) / 2]
+    }
+
+    fn has_counts(&self) -> bool {
+        !self.plugin.is_empty()
+    }
+
+    /// One line: a table in a mode.
+    fn line(&self, name: &str, mode: u8, routes: &[Route]) -> [f64; 2] {
+        let nodes = nodes(routes);
+        let room = 160 * nodes;
+        let bytes = input(1, mode, room, routes);
+        let (one, other) = (run(&self.ours, &bytes).0, run(&self.theirs, &bytes).0);
+        if one != other {
+            fail(&format!("{name}, mode {mode}: this library answers '{one}', the crate '{other}'"));
+        }
+        let result = one.split_whitespace().nth(1).unwrap_or("").to_string();
+        // Some 60 milliseconds of either program, as a node takes some 5 microseconds under the emulator.
+        let many = (12_000 / nodes as u32).clamp(3, 10_000);
+        let (ours, theirs) =
+            (self.time(&self.ours, many, mode, room, routes), self.time(&self.theirs, many, mode, room, routes));
+        print!("| {name} | {} | {nodes} | {mode} | {result} | {ours:.0} | {theirs:.0} | **{:.2}** |", routes.len(), ours / theirs);
+        let mut ratio = 0.0;
+        if self.has_counts() {
+            let (ours, theirs) = (self.counts(&self.ours, mode, room, routes), self.counts(&self.theirs, mode, room, routes));
+            ratio = ours[0] as f64 / theirs[0] as f64;
+            print!(" {} | {} | {ratio:.2} |", thousands(ours[0]), thousands(theirs[0]));
+        }
+        println!();
+        [ours / theirs, ratio]
+    }
+
+    fn head(&self) {
+        let counts = self.has_counts();
+        println!(
+            "| table | records | nodes | mode | result | library, µs | crate, µs | time |{}",
+            if counts { " library, instr. | crate, instr. | instr. |" } else { "" }
+        );
+        println!("|---|--:|--:|--:|--:|--:|--:|--:|{}", if counts { "--:|--:|--:|" } else { "" });
+    }
+
+    /// Where the crate's work goes, and what clearing the room takes.
+    fn parts(&self, tables: &[Table]) {
+        println!("\n| table | mode | crate: fill | aggregate | write | library: all but clearing | bytes cleared |");
+        println!("|---|--:|--:|--:|--:|--:|--:|");
+        for table in tables {
+            for mode in 1..=5 {
+                let room = 160 * nodes(&table.routes);
+                let at = |stage: &str| {
+                    let mut words = self.theirs.clone();
+                    words.push(stage.to_string());
+                    self.counts(&words, mode, room, &table.routes)[0]
+                };
+                let (filled, aggregated, written) = (at("filled"), at("aggregated"), at("written"));
+                let ours = self.counts(&self.ours, mode, room, &table.routes);
+                println!(
+                    "| {} | {mode} | {} | {} | {} | {} | {} |",
+                    table.name,
+                    thousands(filled),
+                    thousands(aggregated - filled),
+                    thousands(written - aggregated),
+                    thousands(ours[0]),
+                    thousands_of(4 * room as i64)
+                );
+            }
+        }
+    }
+
+    /// Room, heap and stack. The stack is that of the whole program less its own arrays.
+    fn memory(&self, tables: &[Table]) {
+        println!("\n| table | nodes | mode | library: work room, bytes | stack | crate: heap, bytes | stack |");
+        println!("|---|--:|--:|--:|--:|--:|--:|");
+        const OURS: i64 = 8 + 8_200 + 8_200 + 4 * 824_480;
+        const THEIRS: i64 = 8_200;
+        for table in tables {
+            for mode in [1, 3, 4] {
+                let nodes = nodes(&table.routes);
+                let room = 160 * nodes;
+                let heap = run(&self.counted, &input(2, mode, room, &table.routes)).0;
+                let stack = |words: &[String], own: i64| {
+                    if self.has_counts() {
+                        thousands_of(self.count(words, 2, true, mode, room, &table.routes)[2] - own)
+                    } else {
+                        "-".to_string()
+                    }
+                };
+                println!(
+                    "| {} | {nodes} | {mode} | {} | {} | {} | {} |",
+                    table.name,
+                    thousands_of(4 * room as i64),
+                    stack(&self.ours, OURS),
+                    thousands_of(heap.split_whitespace().nth(1).and_then(|word| word.parse().ok()).unwrap_or(0)),
+                    stack(&self.theirs, THEIRS)
+                );
+            }
+        }
+    }
+}
+
+/// A number with commas between its thousands.
+fn thousands_of(n: i64) -> String {
+    let digits = n.to_string();
+    let mut text = String::new();
+    for (i, digit) in digits.chars().enumerate() {
+        if i > 0 && (digits.len() - i) % 3 == 0 {
+            text.push(',');
+        }
+        text.push(digit);
+    }
+    text
+}
+
+/// Instructions in thousands.
+fn thousands(n: i64) -> String {
+    format!("{} k", thousands_of((n + 500) / 1_000))
+}
+
+fn main() {
+    let words: Vec<String> = std::env::args().skip(1).collect();
+    let parts: Vec<Vec<String>> = words[2..].split(|word| word == "--").map(|part| part.to_vec()).collect();
+    let bench = Bench {
+        folder: words[0].clone(),
+        runs: words[1].parse().expect("RUNS is a number"),
+        ours: parts[0].clone(),
+        theirs: parts[1].clone(),
+        counted: parts[2].clone(),
+        plugin: parts.get(3).cloned().unwrap_or_default(),
+    };
+    let yard = routes_of(&fs::read("examples/yard.table").unwrap_or_else(|error| fail(&format!("examples/yard.table: {error}"))));
+    let tables = tables(&yard);
+    println!("A table in a mode; the ratios are this library's number over the crate's.\n");
+    bench.head();
+    for table in &tables {
+        for mode in 1..=5 {
+            bench.line(table.name, mode, &table.routes);
+        }
+    }
+    println!("\nHow it grows: scattered records of mixed lengths.\n");
+    bench.head();
+    for mode in [1, 3, 4] {
+        for count in [1, 4, 16, 64, 256, 1_024] {
+            bench.line("mixed lengths", mode, &mixed(count));
+        }
+    }
+    if bench.has_counts() {
+        println!("\nInstructions by part.");
+        bench.parts(&tables);
+    }
+    println!("\nMemory.");
+    bench.memory(&tables);
+}

@@ -40,7 +40,8 @@ fn routes_of(bytes: &[u8]) -> Vec<Route> {
 /// The example's own yard, 10.20.0.0/16, again and again in the /16s from there on, up to 1,024 records.
 fn yards(yard: &[Route]) -> Vec<Route> {
     let own: Vec<Route> = yard.iter().copied().filter(|r| r.0 >> 16 == 0x0A14).collect();
-    let mut routes: Vec<Route> = (0..64u32).flat_map(|k| own.iter().map(move |&(a, l, h)| (a + (k << 16), l, h))).take(1_024).collect();
+    let mut routes: Vec<Route> =
+        (0..64u32).flat_map(|k| own.iter().map(move |&(a, l, h)| (a + (k << 16), l, h))).take(1_024).collect();
     routes.sort();
     routes
 }
@@ -151,10 +152,21 @@ struct Bench {
 }
 
 impl Bench {
-    /// The least time of a rewrite in microseconds: a run of many rewrites less a run of one.
-    fn time(&self, words: &[String], many: u32, mode: u8, room: usize, routes: &[Route]) -> f64 {
-        let least = |times| (0..self.runs).map(|_| run(words, &input(times, mode, room, routes)).1).min().unwrap();
-        (least(1 + many) - least(1)) as f64 / many as f64
+    /// The least time of a rewrite in microseconds: a run of many rewrites less a run of one. They are made so many that they take 50
+    /// milliseconds.
+    fn time(&self, words: &[String], mode: u8, room: usize, routes: &[Route]) -> f64 {
+        let once = |times| run(words, &input(times, mode, room, routes)).1;
+        let least = |times| (0..self.runs).map(|_| once(times)).min().unwrap();
+        let one = least(1);
+        let mut many = 2;
+        loop {
+            let spent = once(1 + many) - one;
+            if spent >= 50_000 || many >= 1 << 22 {
+                break;
+            }
+            many *= if spent < 5_000 { 8 } else { 2 };
+        }
+        (least(1 + many) - one) as f64 / many as f64
     }
 
     fn count(&self, words: &[String], times: u32, stack: bool, mode: u8, room: usize, routes: &[Route]) -> Counts {
@@ -179,7 +191,7 @@ impl Bench {
     }
 
     /// One line: a table in a mode.
-    fn line(&self, name: &str, mode: u8, routes: &[Route]) -> [f64; 2] {
+    fn line(&self, name: &str, mode: u8, routes: &[Route]) {
         let nodes = nodes(routes);
         let room = 160 * nodes;
         let bytes = input(1, mode, room, routes);
@@ -188,19 +200,18 @@ impl Bench {
             fail(&format!("{name}, mode {mode}: this library answers '{one}', the crate '{other}'"));
         }
         let result = one.split_whitespace().nth(1).unwrap_or("").to_string();
-        // Some 60 milliseconds of either program, as a node takes some 5 microseconds under the emulator.
-        let many = (12_000 / nodes as u32).clamp(3, 10_000);
-        let (ours, theirs) =
-            (self.time(&self.ours, many, mode, room, routes), self.time(&self.theirs, many, mode, room, routes));
-        print!("| {name} | {} | {nodes} | {mode} | {result} | {ours:.0} | {theirs:.0} | **{:.2}** |", routes.len(), ours / theirs);
-        let mut ratio = 0.0;
+        let (ours, theirs) = (self.time(&self.ours, mode, room, routes), self.time(&self.theirs, mode, room, routes));
+        print!(
+            "| {name} | {} | {} | {mode} | {result} | {ours:.0} | {theirs:.0} | **{:.2}** |",
+            thousands_of(routes.len() as i64),
+            thousands_of(nodes as i64),
+            ours / theirs
+        );
         if self.has_counts() {
             let (ours, theirs) = (self.counts(&self.ours, mode, room, routes), self.counts(&self.theirs, mode, room, routes));
-            ratio = ours[0] as f64 / theirs[0] as f64;
-            print!(" {} | {} | {ratio:.2} |", thousands(ours[0]), thousands(theirs[0]));
+            print!(" {} | {} | {:.2} |", thousands(ours[0]), thousands(theirs[0]), ours[0] as f64 / theirs[0] as f64);
         }
         println!();
-        [ours / theirs, ratio]
     }
 
     fn head(&self) {
@@ -214,7 +225,7 @@ impl Bench {
 
     /// Where the crate's work goes, and what clearing the room takes.
     fn parts(&self, tables: &[Table]) {
-        println!("\n| table | mode | crate: fill | aggregate | write | library: all but clearing | bytes cleared |");
+        println!("\n| table | mode | crate: fill | aggregate | write | library, but for clearing | bytes cleared |");
         println!("|---|--:|--:|--:|--:|--:|--:|");
         for table in tables {
             for mode in 1..=5 {
@@ -239,31 +250,37 @@ impl Bench {
         }
     }
 
-    /// Room, heap and stack. The stack is that of the whole program less its own arrays.
+    /// What clearing a word of the room takes, in nanoseconds: by a small table in the room that it needs and in the whole one.
+    fn clearing(&self, yard: &[Route]) {
+        let (needed, whole) = (160 * nodes(yard), 824_480);
+        let time = |room| self.time(&self.ours, 2, room, yard);
+        println!("\nClearing a word of the room takes {:.1} ns.", 1_000.0 * (time(whole) - time(needed)) / (whole - needed) as f64);
+    }
+
+    /// Room, heap and stack. The stack is what two rewrites reach below what the program reaches with none.
     fn memory(&self, tables: &[Table]) {
         println!("\n| table | nodes | mode | library: work room, bytes | stack | crate: heap, bytes | stack |");
         println!("|---|--:|--:|--:|--:|--:|--:|");
-        const OURS: i64 = 8 + 8_200 + 8_200 + 4 * 824_480;
-        const THEIRS: i64 = 8_200;
         for table in tables {
-            for mode in [1, 3, 4] {
+            for mode in 1..=5 {
                 let nodes = nodes(&table.routes);
                 let room = 160 * nodes;
                 let heap = run(&self.counted, &input(2, mode, room, &table.routes)).0;
-                let stack = |words: &[String], own: i64| {
-                    if self.has_counts() {
-                        thousands_of(self.count(words, 2, true, mode, room, &table.routes)[2] - own)
-                    } else {
-                        "-".to_string()
+                let stack = |words: &[String]| {
+                    if !self.has_counts() {
+                        return "-".to_string();
                     }
+                    let reached = |times| self.count(words, times, true, mode, room, &table.routes)[2];
+                    thousands_of(reached(2) - reached(0))
                 };
                 println!(
-                    "| {} | {nodes} | {mode} | {} | {} | {} | {} |",
+                    "| {} | {} | {mode} | {} | {} | {} | {} |",
                     table.name,
+                    thousands_of(nodes as i64),
                     thousands_of(4 * room as i64),
-                    stack(&self.ours, OURS),
+                    stack(&self.ours),
                     thousands_of(heap.split_whitespace().nth(1).and_then(|word| word.parse().ok()).unwrap_or(0)),
-                    stack(&self.theirs, THEIRS)
+                    stack(&self.theirs)
                 );
             }
         }
@@ -319,6 +336,7 @@ fn main() {
         println!("\nInstructions by part.");
         bench.parts(&tables);
     }
+    bench.clearing(&yard);
     println!("\nMemory.");
     bench.memory(&tables);
 }

@@ -92,7 +92,8 @@ fn repeat_in(
     repeat(more, table, mode, default, output, &mut work[..words])
 }
 
-// The work room. Made by a call, it is to the caller an array of that length and no list of that many zeros.
+// The work room. Made by a call, it is to the caller an array of that length and no list of that many zeros. Compiled without optimisation,
+// as `rt try` does it too, it is copied, and then the usual 8 MiB of stack are too few.
 fn room() -> [u32; 824480] {
     [0; 824480]
 }

@@ -40,6 +40,11 @@ pub record Gathered (t : List ℕ) (lo hi depth key : ℕ) (first end : List ℕ
       → bit present (position l j) ≡ some (part (filed (slotSize depth) key l j) (run t lo hi))
   pub no-more : bit present 31 ≡ false
 
+-- The bits of a word say which slots of the node have a record in them.
+abbrev pub Occupied : List ℕ → ℕ → ℕ → ℕ → ℕ → ℕ → Type 0
+Occupied t lo hi depth key occupied =
+    (c : ℕ) → c < 32 → bit occupied c ≡ some (part (filed (slotSize depth) key 5 c) (run t lo hi))
+
 -- Where the records of a place begin, once record i is one of them.
 abbrev pub firstOf : ℕ → ℕ → ℕ → ℕ
 firstOf first end i = cond (ltb first end) first i

@@ -1,7 +1,7 @@
 -- What is written of a node: records laid one after another at the start of the output, where they fit.
-use Prim.Native.Nat.{ℕ, zero, suc, _+_, _-_, _*_, _/_, _%_, _^_, _≤_}
+use Prim.Native.Nat.{ℕ, zero, suc, _+_, _-_, _*_, _/_, _%_, _^_, _≤_, _<_}
 use mathlib.Core.Path.{_≡_}
-use mathlib.Core.Bool.{cond}
+use mathlib.Core.Bool.{true, cond}
 use mathlib.Core.List.{List, [], _∷_, _++_}
 use lib.Dec.{eqb}
 use lib.ListN.{length, getD, take, drop}
@@ -42,3 +42,8 @@ slotHead entries hops depth addr c l =
 unfoldable pub slotHeads : ℕ → List ℕ → ℕ → ℕ → ℕ → ℕ → List Route
 slotHeads entries hops depth addr c zero = []
 slotHeads entries hops depth addr c (suc l) = slotHeads entries hops depth addr c l ++ slotHead entries hops depth addr c l
+
+-- The bits of a word mark the slots at which a position with an entry begins: every one of them, perhaps others.
+abbrev pub HeadSlots : ℕ → ℕ → Type 0
+HeadSlots entries marked =
+    (c l : ℕ) → c < 32 → l < 5 → c % 2 ^ (5 - l) ≡ 0 → bit entries (position l (c / 2 ^ (5 - l))) ≡ true → bit marked c ≡ true

@@ -3,8 +3,9 @@
 use table::records::write_record;
 use words::bits::has_bit;
 ghost use mathlib.Core.Path.{_≡_};
-ghost use Prim.Native.Nat.{_+_, _*_, _^_, _≤_, _<_};
+ghost use Prim.Native.Nat.{ℕ, _+_, _-_, _*_, _%_, _^_, _≤_, _<_};
 ghost use mathlib.Core.List.{[], _∷_};
+ghost use lib.Dec.{eqb, leb};
 ghost use lib.ListN.{length};
 ghost use Rattle.table.specs.Wire.{route};
 ghost use Rattle.nodes.specs.Node.{wide};
@@ -58,6 +59,19 @@ fn emit_level(
     done + 1
 }
 
+// The first level of which a position begins at slot c; 5, where none does. Of each level after it one does, too.
+fn first_level(c: usize) -> usize
+    requires { ⌜ c < 32 ⌝ }
+    ensures { λ r. ⌜ r ≤ 5 ⌝ }
+    ensures { λ r. ⌜ ((l : ℕ) → l < 5 → eqb (c % 2 ^ (5 - l)) 0 ≡ leb r l) ⌝ }
+{
+    if c == 0 {
+        0
+    } else {
+        5 - u32::trailing_zeros(c as u32) as usize
+    }
+}
+
 // Writes the entries of the positions that begin at slot c, by rising length, and says how many they are.
 pub fn emit_slot(
     entries: u32,
@@ -71,8 +85,11 @@ pub fn emit_slot(
     ensures { λ r. ⌜ r ≤ 5 ⌝ }
     ensures { λ r. ⌜ Wrote (slotHeads entries (now (hops .entry)) depth addr c 5) 0 r (now (out .entry)) (now (out .exit)) ⌝ }
 {
+    if entries == 0 {
+        return 0;
+    }
     let mut n: usize = 0;
-    let mut l: usize = 0;
+    let mut l = first_level(c);
     while l < 5 {
         n = emit_level(entries, hops, c, l, addr, depth, n, out);
         l += 1;

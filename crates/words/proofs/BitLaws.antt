@@ -2,15 +2,16 @@
 use mathlib.Core.Path.{_≡_, refl, sym, ap, ap₂, _∙_}
 use mathlib.Core.Bool.{Bool, true, false, true≢false, not, _&&_, _||_, and-true, and-false}
 use Prim.Native.Nat.{ℕ, zero, suc, _+_, _-_, _*_, _/_, _%_, _^_, _≤_, _<_, min, max}
-use native.Mathlib.Nat.{pow-suc, div-lt-iff-lt-mul, mod-lt, lt-of-lt-of-le, add-sub-of-le, mul-mod-left, div-eq-of-lt, mul-assoc}
+use mathlib.Core.Logic.{_⊎_, inl, inr}
+use native.Mathlib.Nat.{pow-suc, div-lt-iff-lt-mul, le-div-iff-mul-le, div-le-self, eq-zero-or-pos, mod-lt, lt-of-lt-of-le, add-sub-of-le, mul-mod-left, div-eq-of-lt, mul-assoc}
 use native.Mathlib.Omega.{arith}
 use lib.Dec.{eqb, ltb, leb, lit<}
 use lib.Arith.{digits-mod}
 use lib.Pow.{pow-pos, pow-mono, pow-add, high, shr-shr, shl-shr, field, mod-mod-pow}
-use lib.Count.{trailingZeros, under}
+use lib.Count.{trailingZeros, leadingZeros, leading-of-zero, leading-top, under}
 use lib.Bits.{bitAnd, bitOr, and-step, or-step, and-shr, or-shr, and-lt}
 use borrow.Author.Tests.{ltb-true, ltb-false, leb-true, leb-false, eqb-true, eqb-false, eq-eqb, ne-eqb}
-use Rattle.words.specs.Bits.{bit}
+use Rattle.words.specs.Bits.{bit, NextBit, LastBit}
 
 -- ---- a test by cases, with what it says
 
@@ -121,7 +122,7 @@ unfolding bit
 bit-over w x k h l = ap (λ (n : ℕ). eqb (n % 2) 1) (div-eq-of-lt (lt-of-lt-of-le h (pow-mono l)))
 
 -- What is past w bits and cut off does not reach bit k below w.
-bit-cut : (w n k : ℕ) → k < w → bit (n % 2 ^ w) k ≡ bit n k
+pub bit-cut : (w n k : ℕ) → k < w → bit (n % 2 ^ w) k ≡ bit n k
 unfolding bit
 bit-cut w n k l =
     let e : w - suc k + 1 + k ≡ w = omega arith in
@@ -251,3 +252,67 @@ trailing-lowest (suc w) x p h = go (x % 2) refl (λ (q : 0 < x / 2). trailing-lo
     go (suc r) e rest =
         let one : x % 2 ≡ 1 = omega arith in
         record { inside = omega arith; isSet = low 1 one; clear = λ i l. absurd (omega arith) }
+
+-- ---- the next set bit, and the last
+
+-- The bits of x from k on are those of `x >> k`.
+bit-from : (x k i : ℕ) → k ≤ i → bit x i ≡ bit (x / 2 ^ k) (i - k)
+bit-from x k i l = ap (bit x) (sym (add-sub-of-le l)) ∙ sym (bit-shr x k (i - k))
+
+-- Where that is 0 there is no next bit.
+pub next-none : (x k : ℕ) → k ≤ 32 → x / 2 ^ k ≡ 0 → NextBit x k 32
+next-none x k l e =
+    record {
+      low = l;
+      high = omega arith;
+      clear = λ i a b. bit-from x k i a ∙ ap (λ (n : ℕ). bit n (i - k)) e ∙ bit-zero (i - k);
+      isSet = λ h. absurd (omega arith);
+    }
+
+-- Else it stands past the trailing zeros of that.
+pub next-found : (x k : ℕ) → x < 2 ^ 32 → 0 < x / 2 ^ k → NextBit x k (k + trailingZeros 32 (x / 2 ^ k))
+next-found x k h p =
+    let t : ℕ = trailingZeros 32 (x / 2 ^ k) in
+    let lowest : LowestBit 32 (x / 2 ^ k) t = trailing-lowest 32 (x / 2 ^ k) p (omega (arith, div-le-self x (2 ^ k))) in
+    let there : bit x (k + t) ≡ true = sym (bit-shr x k t) ∙ lowest .isSet in
+    record {
+      low = omega arith;
+      high = if-lt (λ b. k + t ≤ 32) (k + t) 32 (λ l. omega arith) (λ g. absurd (true≢false (sym there ∙ bit-over 32 x (k + t) h g)));
+      clear = λ i a b. bit-from x k i a ∙ lowest .clear (i - k) (omega arith);
+      isSet = λ l. there;
+    }
+
+-- The highest set bit.
+bit-highest : (x j : ℕ) → 2 ^ j ≤ x → x < 2 ^ suc j → bit x j ≡ true
+unfolding bit
+bit-highest x j a b =
+    let low : 1 ≤ x / 2 ^ j = le-div-iff-mul-le (pow-pos j) .1 (omega arith) in
+    let high : x / 2 ^ j < 2 = div-lt-iff-lt-mul (pow-pos j) .1 (omega (arith, pow-suc 2 j)) in
+    eq-eqb (x / 2 ^ j % 2) 1 (omega arith)
+
+-- The last set bit below k is the highest of the k lowest, which stands below the leading zeros of these.
+pub last-found : (x k : ℕ) → k ≤ 32 → LastBit x k (64 - leadingZeros 64 (x % 2 ^ k))
+last-found x k l = go (eq-zero-or-pos (x % 2 ^ k))
+  where
+    low : x % 2 ^ k < 2 ^ k
+    low = mod-lt x (pow-pos k)
+
+    go : (x % 2 ^ k ≡ 0) ⊎ (0 < x % 2 ^ k) → LastBit x k (64 - leadingZeros 64 (x % 2 ^ k))
+    go (inl e) =
+        let none : leadingZeros 64 (x % 2 ^ k) ≡ 64 = ap (leadingZeros 64) e ∙ leading-of-zero 64 in
+        record {
+          high = omega arith;
+          clear = λ i a b. sym (bit-cut k x i b) ∙ ap (λ (n : ℕ). bit n i) e ∙ bit-zero i;
+          isSet = λ p. absurd (omega arith);
+        }
+    go (inr p) =
+        let top = leading-top 64 (x % 2 ^ k) p (lt-of-lt-of-le low (pow-mono {j = 64} (omega arith))) in
+        let j : ℕ = top .0 in
+        let past : 64 - leadingZeros 64 (x % 2 ^ k) ≡ suc j = omega (arith, top .1) in
+        let below : j < k = if-lt (λ b. j < k) j k (λ h. h) (λ g. absurd (omega (arith, pow-mono g, top .2, low))) in
+        let last : 64 - leadingZeros 64 (x % 2 ^ k) - 1 ≡ j = omega arith in
+        record {
+          high = omega arith;
+          clear = λ i a b. sym (bit-cut k x i b) ∙ bit-over (suc j) (x % 2 ^ k) i (top .3) (omega arith);
+          isSet = λ h. ap (bit x) last ∙ sym (bit-cut k x j below) ∙ bit-highest (x % 2 ^ k) j (top .2) (top .3);
+        }

@@ -4,17 +4,18 @@ use mathlib.Core.Path.{_≡_, refl, sym, _∙_}
 use mathlib.Core.Bool.{Bool, true, false}
 use mathlib.Core.List.{List, [], _∷_}
 use native.Mathlib.Omega.{arith}
-use native.Mathlib.Nat.{pow-suc, zero-mod}
+use native.Mathlib.Nat.{zero-mod}
 use native.Mathlib.Numerals.{add-one}
 use lib.Dec.{lit<, eqb, leb, leb·zero, leb·suc-zero, leb·suc-suc}
 use lib.Count.{trailingZeros, under}
 use lib.ListN.{length, getD}
-use lib.Pow.{pow-pos, pow-mono, shl-exact, shr-lt, mod-pow-add}
+use lib.Pow.{shl-exact, shr-lt, mod-pow-add}
 use borrow.Author.Tests.{eqb-true, eqb-false, eq-eqb, ne-eqb, leb-false, le-leb, lt-leb}
 use Rattle.table.specs.Wire.{route}
 use Rattle.words.specs.Bits.{bit}
 use Rattle.words.specs.Positions.{position}
 use Rattle.words.proofs.BitLaws.{bit-zero, if-le}
+use Rattle.words.proofs.PositionLaws.{in-word}
 use Rattle.nodes.specs.Output.{Wrote, slotHead, slotHeads}
 use Rattle.nodes.proofs.OutputLaws.{wrote-none, wrote-then}
 
@@ -28,13 +29,15 @@ shifted-one k h = let e : 1 * 2 ^ k ≡ 2 ^ k = omega arith in shl-exact {a = 1}
 pub index-is : (l c : ℕ) → l < 5 → (1 * 2 ^ l % 2 ^ 64 - 1) + c / 2 ^ (5 - l) ≡ position l (c / 2 ^ (5 - l))
 index-is l c h = rw (shifted-one l (omega arith))
 
--- It is one of 31.
-pub index-lt : (l c : ℕ) → l < 5 → c < 32 → (1 * 2 ^ l % 2 ^ 64 - 1) + c / 2 ^ (5 - l) < 31
-index-lt l c h b =
+-- It is one of the level's,
+pub index-in : (l c : ℕ) → l < 5 → c < 32 → c / 2 ^ (5 - l) < 2 ^ l
+index-in l c h b =
     let e : 32 ≡ 2 ^ (l + (5 - l)) = let s : l + (5 - l) ≡ 5 = omega arith in rw s in
-    let j : c / 2 ^ (5 - l) < 2 ^ l = shr-lt l (5 - l) (rw e at b) in
-    let m : 2 ^ suc l ≤ 2 ^ 5 = pow-mono h in
-    rw (index-is l c h) (omega (arith, pow-suc 2 l, pow-pos l))
+    shr-lt l (5 - l) (rw e at b)
+
+-- and one of 31.
+pub index-lt : (l c : ℕ) → l < 5 → c < 32 → (1 * 2 ^ l % 2 ^ 64 - 1) + c / 2 ^ (5 - l) < 31
+index-lt l c h b = rw (index-is l c h) (in-word l (c / 2 ^ (5 - l)) (omega arith) (index-in l c h b))
 
 module _ (entries : ℕ) (hops : List ℕ) (depth addr c l : ℕ) (level : l < 5) where
   -- No position of the level begins at the slot.

@@ -2,14 +2,17 @@
 
 use table::records::write_record;
 use words::bits::has_bit;
+use words::bits::next_bit;
+use words::bits::with_bit;
 ghost use mathlib.Core.Path.{_≡_};
 ghost use Prim.Native.Nat.{ℕ, _+_, _-_, _*_, _%_, _^_, _≤_, _<_};
 ghost use mathlib.Core.List.{[], _∷_};
 ghost use lib.Dec.{eqb, leb};
 ghost use lib.ListN.{length};
 ghost use Rattle.table.specs.Wire.{route};
+ghost use Rattle.words.specs.Positions.{position};
 ghost use Rattle.nodes.specs.Node.{wide};
-ghost use Rattle.nodes.specs.Output.{Wrote, slotHead, slotHeads};
+ghost use Rattle.nodes.specs.Output.{Wrote, slotHead, slotHeads, HeadSlots};
 
 // Where `count` records end in an output of `len` bytes; its end, where they do not fit.
 pub fn past(count: usize, len: usize) -> usize
@@ -95,4 +98,27 @@ pub fn emit_slot(
         l += 1;
     }
     n
+}
+
+// The slot at which position b begins.
+fn slot_of(b: usize) -> usize
+    requires { ⌜ b < 31 ⌝ }
+    ensures { λ r. ⌜ r < 32 ⌝ }
+    ensures { λ r. ⌜ ((l j : ℕ) → l < 5 → j < 2 ^ l → b ≡ position l j → r ≡ j * 2 ^ (5 - l)) ⌝ }
+{
+    let k = b + 1;
+    (k << (u32::leading_zeros(k as u32) - 26)) - 32
+}
+
+// The slots at which a position with an entry begins.
+pub fn head_slots(entries: u32) -> u32
+    ensures { λ r. ⌜ HeadSlots entries r ⌝ }
+{
+    let mut marked: u32 = 0;
+    let mut b = next_bit(entries, 0);
+    while b < 31 {
+        marked = with_bit(marked, slot_of(b) as u32);
+        b = next_bit(entries, b + 1);
+    }
+    marked
 }

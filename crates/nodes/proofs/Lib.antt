@@ -1,6 +1,7 @@
 -- The laws of nodes.
 pub mod OutputLaws
 pub mod OutputLevels
+pub mod OutputHeads
 pub mod GatherPlaces
 pub mod GatherRuns
 pub mod GatherSteps

@@ -4,6 +4,7 @@ pub mod OutputLevels
 pub mod GatherPlaces
 pub mod GatherRuns
 pub mod GatherSteps
+pub mod GatherSlots
 pub mod GatherCovers
 pub mod RoomLaws
 pub mod RoomBlocks

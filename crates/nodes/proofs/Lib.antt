@@ -5,6 +5,7 @@ pub mod OutputHeads
 pub mod GatherPlaces
 pub mod GatherRuns
 pub mod GatherSteps
+pub mod GatherSlots
 pub mod GatherCovers
 pub mod RoomLaws
 pub mod RoomBlocks

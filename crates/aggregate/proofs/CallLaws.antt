@@ -1,10 +1,11 @@
--- Laws of the calls: judging by a table's rules and then by more, the rooms' tests, the fill of each mode, and the cover query at wide addresses.
+-- Laws of the calls: judging by a table's rules and then by more, the rooms' tests, the fill of each mode, the most records of a result, and the
+-- cover query at wide addresses.
 -- Assumes nothing.
 use Prim.Native.Nat.{ℕ, zero, suc, _+_, _-_, _*_, _/_, _^_, _≤_, _<_}
 use mathlib.Core.Path.{_≡_, refl, sym, ap, _∙_}
 use mathlib.Core.Bool.{Bool, true, false, not, cond, _||_, _&&_, and-eq-true-iff}
 use mathlib.Core.List.{List, [], _∷_, _++_}
-use native.Mathlib.Nat.{div-mul-le-self}
+use native.Mathlib.Nat.{le-trans, div-mul-le-self}
 use native.Mathlib.Omega.{arith}
 use lib.Dec.{eqb, leb, ltb}
 use lib.IntN.{ℤ, pos, negsuc, _-ℤ_}
@@ -13,9 +14,11 @@ use lib.Signed.{mag}
 use mir.Syntax.{w64}
 use mir.Val.{SFits, toZ, ofZ}
 use mir.ValLaws.{toZ-pos, toZ-ofZ}
-use borrow.Author.Tests.{eqb-false, leb-true, leb-false, le-leb, lt-leb, le-ltb, lt-ltb, eq-eqb}
-use Rattle.theory.specs.Results.{startOf, throughout}
-use Rattle.theory.specs.Routes.{held, All, Aligned, Valid}
+use borrow.Author.Tests.{eqb-true, eqb-false, leb-true, leb-false, le-leb, lt-leb, le-ltb, lt-ltb, eq-eqb}
+use Rattle.theory.specs.Results.{startOf, throughout, smallest, Mode, aggregateSet, aggregateConsistentSet, aggregateConsistentMap, aggregateMapDrop, aggregateMapFill}
+use Rattle.theory.specs.Routes.{held, All, Aligned, Valid, Table}
+use Rattle.theory.proofs.Chosen.{smallest-chooses}
+use Rattle.theory.proofs.Lengths.{mostOf, result-length}
 use Rattle.theory.proofs.Maximal.{throughout-agree}
 use Rattle.table.specs.Calls.{checkReply}
 use Rattle.table.specs.Facts.{Lawful}
@@ -23,6 +26,7 @@ use Rattle.table.specs.Nodes.{nodes}
 use Rattle.table.specs.Rules.{Rule, rule, gives, refuses, judge}
 use Rattle.table.specs.Wire.{records, routes, tableRules, Bytes, bytesOf}
 use Rattle.table.proofs.Judging.{gives-any}
+use Rattle.table.proofs.Reading.{length-routes}
 use Rattle.table.proofs.Tables.{accepted-table, set-hops}
 use Rattle.positions.specs.Wide.{widened}
 use Rattle.positions.proofs.Wide.{aligned-widen, held-widen, throughout-widen, all-widen}
@@ -114,23 +118,28 @@ module _ (t : List ℕ) (mode default : ℕ) (o : List ℕ) (words : ℕ) where
   finished-in e f =
       record { answer = f .answer ∙ sym (ap (writtenOf (records t)) e); output = f .output ∙ sym (ap (outputOf o) e) }
 
--- The mode reads the default in mode 5 only.
-pub same-mode : (mode fill default : ℕ) → (1 ≤ mode) × (mode ≤ 5) → (mode ≡ 5 → fill ≡ default) → modeOf mode fill ≡ modeOf mode default
-same-mode mode fill default range same = go (eqb mode 1) refl (eqb mode 2) refl (eqb mode 3) refl (eqb mode 4) refl
+-- What holds of the mode of each number from 1 to 5 holds of the number's mode.
+mode-is : (P : Mode → Type 0) (mode default : ℕ) → (1 ≤ mode) × (mode ≤ 5) → (mode ≡ 1 → P aggregateSet) → (mode ≡ 2 → P aggregateConsistentSet)
+    → (mode ≡ 3 → P aggregateConsistentMap) → (mode ≡ 4 → P aggregateMapDrop) → (mode ≡ 5 → P (aggregateMapFill default)) → P (modeOf mode default)
+mode-is P mode default range one two three four five = go (eqb mode 1) refl (eqb mode 2) refl (eqb mode 3) refl (eqb mode 4) refl
   where
     go : (a : Bool) → eqb mode 1 ≡ a → (b : Bool) → eqb mode 2 ≡ b → (c : Bool) → eqb mode 3 ≡ c → (d : Bool) → eqb mode 4 ≡ d
-        → modeOf mode fill ≡ modeOf mode default
-    go true p b q c r d s = rw p
-    go false p true q c r d s = rw (p, q)
-    go false p false q true r d s = rw (p, q, r)
-    go false p false q false r true s = rw (p, q, r, s)
+        → P (cond a aggregateSet (cond b aggregateConsistentSet (cond c aggregateConsistentMap (cond d aggregateMapDrop (aggregateMapFill default)))))
+    go true p b q c r d s = one (eqb-true mode 1 p)
+    go false p true q c r d s = two (eqb-true mode 2 q)
+    go false p false q true r d s = three (eqb-true mode 3 r)
+    go false p false q false r true s = four (eqb-true mode 4 s)
     go false p false q false r false s =
-        let one = eqb-false mode 1 p in
-        let two = eqb-false mode 2 q in
-        let three = eqb-false mode 3 r in
-        let four = eqb-false mode 4 s in
-        let five : mode ≡ 5 = omega arith in
-        rw (same five)
+        let no1 = eqb-false mode 1 p in
+        let no2 = eqb-false mode 2 q in
+        let no3 = eqb-false mode 3 r in
+        let no4 = eqb-false mode 4 s in
+        five (omega arith)
+
+-- The mode reads the default in mode 5 only.
+pub same-mode : (mode fill default : ℕ) → (1 ≤ mode) × (mode ≤ 5) → (mode ≡ 5 → fill ≡ default) → modeOf mode fill ≡ modeOf mode default
+same-mode mode fill default range same =
+    mode-is (λ m. m ≡ modeOf mode default) mode fill range (λ e. rw e) (λ e. rw e) (λ e. rw e) (λ e. rw e) (λ e. rw (e, same e))
 
 -- So a fill that is the default in mode 5 has the default's result.
 pub same-last : (t : List ℕ) (mode fill default room : ℕ) → (1 ≤ mode) × (mode ≤ 5) → (mode ≡ 5 → fill ≡ default)
@@ -176,6 +185,18 @@ ready mode t lawful =
     }
 
 -- ---- The end of a rewrite.
+
+-- The result has no more records than the table, in mode 5 no more than one more.
+pub result-most : (t : List ℕ) (mode fill : ℕ) {before most : ℕ} → (1 ≤ mode) × (mode ≤ 5) → Table 32 (routes t) → before ≡ records t
+    → (mode ≡ 5 → most ≡ before + 1) × ((mode ≡ 5 → ⊥) → most ≡ before) → length (resultOf t mode fill) ≤ most
+unfolding resultOf
+result-most t mode fill {most = most} range table count at =
+    le-trans (result-length smallest smallest-chooses 32 (modeOf mode fill) table)
+    (mode-is (λ m. mostOf m (length (routes t)) ≤ most) mode fill range (λ e. as-many (λ five. omega arith)) (λ e. as-many (λ five. omega arith))
+    (λ e. as-many (λ five. omega arith)) (λ e. as-many (λ five. omega arith)) (λ e. omega (arith, length-routes t, at .0 e)))
+  where
+    as-many : (mode ≡ 5 → ⊥) → length (routes t) ≤ most
+    as-many other = omega (arith, length-routes t, at .1 other)
 
 -- The difference of two small numbers fits,
 change-small : (a b : ℕ) → a < 2 ^ 62 → b < 2 ^ 62 → mag (pos a -ℤ pos b) < 2 ^ 63

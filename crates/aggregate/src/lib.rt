@@ -13,7 +13,7 @@ use walks::prepare;
 use walks::write;
 ghost use mathlib.Core.Path.{_≡_};
 ghost use mathlib.Core.Bool.{not, _&&_, _||_};
-ghost use Prim.Native.Nat.{_-_, _*_, _^_, _≤_};
+ghost use Prim.Native.Nat.{_+_, _-_, _*_, _^_, _≤_, _<_};
 ghost use lib.Dec.{eqb, leb};
 ghost use lib.ListN.{length, replicate};
 ghost use Rattle.theory.specs.Results.{startOf};
@@ -60,7 +60,16 @@ fn fill_of(mode: u32, default: u32) -> u8
     if mode == 5 { (default % 256) as u8 } else { 64 }
 }
 
-// The rewrite of a table that keeps the rules and has so many records, in a room that is long enough.
+// The most records that the mode makes of so many.
+fn most_records(mode: u32, records: usize) -> usize
+    requires { ⌜ records + 1 < 2 ^ 64 ⌝ }
+    ensures { λ r. ⌜ (mode ≡ 5 → r ≡ records + 1) × ((mode ≡ 5 → ⊥) → r ≡ records) ⌝ }
+{
+    if mode == 5 { records + 1 } else { records }
+}
+
+// The rewrite of a table that keeps the rules and has so many records, in a room that is long enough. Where the output might be too short, a
+// first walk into nothing counts the result's records.
 fn rewrite_checked(
     table: &[u8],
     mode: u32,
@@ -78,13 +87,15 @@ fn rewrite_checked(
     ensures { λ r. ⌜ Finished (now (table .entry)) mode fill (now (output .entry)) r (now (output .exit)) ⌝ }
 {
     let top = prepare(table, mode, fill, work);
-    let mut nothing = [0u8; 0];
-    let count = write(table, mode, fill, work, top, &mut nothing);
-    if output.len() / 8 < count {
-        return Rewritten::Refused {
-            number: 11,
-            index: 0,
-        };
+    if output.len() / 8 < most_records(mode, before) {
+        let mut nothing = [0u8; 0];
+        let count = write(table, mode, fill, work, top, &mut nothing);
+        if output.len() / 8 < count {
+            return Rewritten::Refused {
+                number: 11,
+                index: 0,
+            };
+        }
     }
     let written = write(table, mode, fill, work, top, output);
     Rewritten::Records {

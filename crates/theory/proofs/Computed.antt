@@ -11,9 +11,15 @@ use Rattle.theory.proofs.Maximal.{set-is-drop}
 use Rattle.theory.proofs.Order.{valid-within}
 use Rattle.theory.proofs.Quick.{ortcOf, ortc-quick}
 
-valid-unhopped : {w : ℕ} {t : List Route} → All (Valid w) t → All (Valid w) (unhopped t)
+-- A table's prefixes are as valid as its routes.
+pub valid-unhopped : {w : ℕ} {t : List Route} → All (Valid w) t → All (Valid w) (unhopped t)
 valid-unhopped nil = nil
 valid-unhopped (cons v vs) = cons (record { short = v .short; clean = v .clean; small = v .small }) (valid-unhopped vs)
+
+-- What a match says over a default hop is what it says with that default.
+pub under-default : (d : ℕ) (m : Match) → under (via d) m ≡ orDefault d (under none m)
+under-default d miss = refl
+under-default d (hit k h) = refl
 
 module _ (choose : List ℕ → ℕ) (law : Chooses choose) (w : ℕ) {t : List Route} (valid : All (Valid w) t) where
   -- The rewrite of a table's answers, over what is said of unrouted addresses.
@@ -30,11 +36,7 @@ module _ (choose : List ℕ → ℕ) (law : Chooses choose) (w : ℕ) {t : List 
   -- Mode 5.
   pub fill-computed : (d : ℕ) → result choose w (aggregateMapFill d) t ≡ ortcOf choose w w 0 (via d) none t
   unfolding result
-  fill-computed d = whole-computed (filled d (answer w t)) (via d) (λ x. default (lookup w t x))
-    where
-      default : (m : Match) → under (via d) m ≡ orDefault d (under none m)
-      default miss = refl
-      default (hit k h) = refl
+  fill-computed d = whole-computed (filled d (answer w t)) (via d) (λ x. under-default d (lookup w t x))
 
 -- Mode 1.
 pub set-computed : (choose : List ℕ → ℕ) → Chooses choose → (w : ℕ) {t : List Route} → All (Valid w) t

@@ -86,7 +86,7 @@ module _ (w n a : ℕ) (le : suc n ≤ w) (d : Aligned (suc n) a) (t : List Rout
           }
 
   module _ (f : ℕ → Answer) (g : Answer) (sem : (x : ℕ) → In (suc n) a x → under g (lookup w t x) ≡ f x) where
-    below-sem : (x : ℕ) → In (suc n) a x → under (handed w n a g t) (lookup w (below w n t) x) ≡ f x
+    pub below-sem : (x : ℕ) → In (suc n) a x → under (handed w n a g t) (lookup w (below w n t) x) ≡ f x
     below-sem x i =
         ap (λ (m : Match). under (under g m) (lookup w (below w n t) x))
         (lookup-alike w a x (all-part (ofLen (w - suc n)) (λ r p e. top-match a (omega (arith, pow-pos (suc n))) r p e ∙ sym (top-match x i r p e)) tw))

@@ -11,10 +11,13 @@ pub mod Order
 pub mod Repeat
 pub mod Parts
 pub mod Halves
+pub mod Count
+pub mod Least
 pub mod Quick
 pub mod LongestMatch
 pub mod Kept
 pub mod Maximal
 pub mod Computed
+pub mod Lengths
 pub mod Modes
 pub mod Cases

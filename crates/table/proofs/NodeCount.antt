@@ -1,7 +1,7 @@
 -- The nodes of a table: counted in one pass that compares each record with the one just before it; the most there can be; examples.
 use Prim.Native.Nat.{ℕ, zero, suc, _+_, _-_, _*_, _/_, _^_, _≤_, _<_}
 use mathlib.Core.Path.{_≡_, refl, sym, ap, ap₂, _∙_}
-use mathlib.Core.Bool.{Bool, true, false, cond, _||_, _&&_, and-false, and-eq-true-iff}
+use mathlib.Core.Bool.{Bool, true, false, cond, _||_, _&&_, and-eq-true-iff}
 use mathlib.Core.List.{List, [], _∷_}
 use mathlib.Core.Logic.{inl, inr}
 use native.Mathlib.Nat.{le-refl, le-antisymm, div-mul-le-self, lt-of-mul-lt-mul-right, mul-suc}
@@ -10,9 +10,9 @@ use lib.Pow.{pow-mono, shr-mono, shr-lt, shl-shr}
 use native.Mathlib.Decide.{decLt}
 use native.Mathlib.Omega.{arith}
 use lib.Dec.{leb, eqb}
-use borrow.Author.Tests.{le-leb, lt-leb, leb-true, leb-false, eq-eqb, ne-eqb, eqb-true, eqb-false}
+use borrow.Author.Tests.{le-leb, lt-leb, leb-true, leb-false, eq-eqb, eqb-true, eqb-false}
 use Rattle.theory.specs.Routes.{Route, Aligned, Valid, All, nil, cons, Before, Ascending, empty, first, Table}
-use Rattle.theory.proofs.Blocks.{aligned-down}
+use Rattle.theory.proofs.Blocks.{aligned-down, fewer-bits}
 use Rattle.theory.proofs.Lists.{all-map}
 use Rattle.table.specs.Nodes.{levels, nodeAt, seen, fresh, brought, nodes, newNodes}
 use Rattle.table.proofs.Tables.{before-trans}
@@ -37,21 +37,29 @@ both-true m n x y e = let b = and-eq-true-iff (leb m n) (eqb x y) .0 e in (leb-t
 pub true-both : (m n x y : ℕ) → m ≤ n → x ≡ y → (leb m n && eqb x y) ≡ true
 true-both m n x y le e = rw (le-leb m n le, eq-eqb x y e)
 
--- What the test `nodeAt` says: s is long enough, and its address lies in the same block of that depth as x.
+-- The test `nodeAt` holds where s is long enough, and its address lies in the same block of that depth as x.
 pub node-held : (w m x : ℕ) (s : Route) → 5 * m ≤ s .len → s .addr / 2 ^ (w - 5 * m) ≡ x / 2 ^ (w - 5 * m) → nodeAt w m x s ≡ true
 node-held w m x s le e = true-both m (levels s) _ _ (omega arith) e
 
+-- It does not hold where s is too short.
 pub node-short : (w m x : ℕ) (s : Route) → s .len < 5 * m → nodeAt w m x s ≡ false
 node-short w m x s lt = rw (lt-leb m (levels s) (omega arith))
 
-pub node-apart : (w m x : ℕ) (s : Route) → (s .addr / 2 ^ (w - 5 * m) ≡ x / 2 ^ (w - 5 * m) → ⊥) → nodeAt w m x s ≡ false
-node-apart w m x s ne =
-    ap (λ (b : Bool). leb m (levels s) && b) (ne-eqb (s .addr / 2 ^ (w - 5 * m)) (x / 2 ^ (w - 5 * m)) ne) ∙ and-false (leb m (levels s))
+-- Where s is long enough, the blocks decide.
+pub node-long : (w m x : ℕ) (s : Route) → 5 * m ≤ s .len → nodeAt w m x s ≡ eqb (s .addr / 2 ^ (w - 5 * m)) (x / 2 ^ (w - 5 * m))
+node-long w m x s le = rw (le-leb m (levels s) (omega arith))
 
+-- What follows where it holds.
 pub node-true : (w m x : ℕ) (s : Route) → nodeAt w m x s ≡ true → (5 * m ≤ s .len) × (s .addr / 2 ^ (w - 5 * m) ≡ x / 2 ^ (w - 5 * m))
 node-true w m x s e =
     let b = both-true m (levels s) (s .addr / 2 ^ (w - 5 * m)) (x / 2 ^ (w - 5 * m)) e in
     (omega arith, b .1)
+
+-- Where s has a node in which x lies, it has one at the depth above too.
+pub node-above : (w m x : ℕ) (s : Route) → nodeAt w (suc m) x s ≡ true → nodeAt w m x s ≡ true
+node-above w m x s e =
+    let u = node-true w (suc m) x s e in
+    node-held w m x s (omega arith) (fewer-bits w (5 * m) (5 * suc m) (s .addr) x (omega arith) (u .1))
 
 -- A record no longer than a depth stands at the start of its block there, since it has no host bits.
 at-start : (w d : ℕ) (p : Route) → Valid w p → p .len ≤ d → p .addr ≡ p .addr / 2 ^ (w - d) * 2 ^ (w - d)

@@ -1,22 +1,29 @@
--- The one-pass count over a table's bytes: what one more depth and one more record add. Over the width w.
+-- The one-pass count over a table's bytes: what each depth of a record and one more record add. Over the width w.
 use Prim.Native.Nat.{ℕ, zero, suc, _+_, _-_, _/_, _≤_, _<_}
 use mathlib.Core.Path.{_≡_, refl, sym, ap, ap₂, _∙_}
-use mathlib.Core.Bool.{Bool, true, false, cond, or-false}
+use mathlib.Core.Bool.{Bool, true, false, cond}
 use mathlib.Core.List.{List, [], _∷_}
-use native.Mathlib.Numerals.{add-one}
 use native.Mathlib.Omega.{arith}
 use Rattle.theory.specs.Routes.{Route, Valid, All, cons, Table}
 use Rattle.table.specs.Nodes.{levels, nodeAt, seen, fresh, nodes, bare, newNodes}
 use Rattle.table.specs.Wire.{routeAt, records, routes}
-use Rattle.table.proofs.NodeCount.{root, passed, nodes-pass}
+use Rattle.table.proofs.NodeCount.{root, passed, node-above, nodes-pass}
 use Rattle.table.proofs.Reading.{rest, rest-end, rest-all, rest-step}
 
--- ---- One more depth of a record.
-pub fresh-next : (w : ℕ) (p : Route) (x m n one : ℕ) → n ≡ fresh w (p ∷ []) x m → one ≡ cond (nodeAt w (m + 1) x p) 0 1
-    → n + one ≡ fresh w (p ∷ []) x (m + 1)
+-- ---- The depths of a record, from the deepest up.
+-- Where x lies in a node of p, nothing is new down to that depth.
+pub fresh-shared : (w : ℕ) (p : Route) (x m : ℕ) → nodeAt w m x p ≡ true → fresh w (p ∷ []) x m ≡ 0
 unfolding fresh
-fresh-next w p x m n one e f = ap₂ _+_ e f ∙ rw (add-one m, or-false (nodeAt w (suc m) x p))
+fresh-shared w p x zero e = refl
+fresh-shared w p x (suc m) e = rw e (omega (arith, fresh-shared w p x m (node-above w m x p e)))
 
+-- One depth more, at which p has no such node.
+pub fresh-new : (w : ℕ) (p : Route) (x m : ℕ) → 0 < m → nodeAt w m x p ≡ false → fresh w (p ∷ []) x m ≡ fresh w (p ∷ []) x (m - 1) + 1
+unfolding fresh
+fresh-new w p x zero lt e = absurd (omega arith)
+fresh-new w p x (suc m) lt e = let k : suc m - 1 ≡ m = omega arith in rw (e, k)
+
+-- At each depth one at the most is new.
 pub fresh-small : (w : ℕ) (earlier : List Route) (x m : ℕ) → fresh w earlier x m ≤ m
 unfolding fresh
 fresh-small w earlier x zero = omega arith

@@ -9,11 +9,11 @@ use native.Mathlib.Nat.{sub-zero, eq-or-lt-of-le, add-mul, add-mul-div-right, di
 use native.Mathlib.Decide.{decLt}
 use native.Mathlib.Omega.{arith}
 use lib.Dec.{leb, ltb, eqb}
-use lib.Pow.{pow-add, shl-shr, shr-shr, shr-mono}
+use lib.Pow.{pow-add, shl-shr, shr-mono}
 use borrow.Author.Tests.{le-leb, lt-leb, lt-ltb, le-ltb, ltb-true, eq-eqb, ne-eqb, eqb-true, eqb-false}
 use Rattle.theory.specs.Results.{In, part}
 use Rattle.theory.specs.Routes.{Route, Aligned, Valid, All, nil, cons, Member, head, later}
-use Rattle.theory.proofs.Blocks.{pow-pos, aligned-zero, block→in, aligned-down}
+use Rattle.theory.proofs.Blocks.{pow-pos, aligned-zero, block→in, aligned-down, fewer-bits}
 use Rattle.theory.proofs.Lists.{all-map}
 use Rattle.theory.proofs.Parts.{all-part}
 use Rattle.table.specs.Nodes.{levels, nodeAt, seen, fresh, brought, nodes}
@@ -161,10 +161,7 @@ module _ (w e d k : ℕ) (level : d ≡ 5 * suc e) where
       other : inBlock w d k s ≡ false → (b : Bool) → nodeAt w m x s ≡ b → b ≡ false
       other f true n =
           let u = node-true w m x s n in
-          let j : ℕ = w - d - (w - 5 * m) in
-          let sum : w - 5 * m + j ≡ w - d = omega arith in
-          let same : s .addr / 2 ^ (w - d) ≡ x / 2 ^ (w - d) =
-          rw sum at (sym (shr-shr (s .addr) (w - 5 * m) j) ∙ ap (λ (y : ℕ). y / 2 ^ j) (u .1) ∙ shr-shr x (w - 5 * m) j) in
+          let same : s .addr / 2 ^ (w - d) ≡ x / 2 ^ (w - d) = fewer-bits w d (5 * m) (s .addr) x (omega arith) (u .1) in
           let h : inBlock w d k s ≡ true = true-both d (s .len) _ _ (omega (arith, u .0)) (same ∙ q) in
           let z : _≡_ {A = ℕ} 0 1 = cc in
           absurd (omega arith)

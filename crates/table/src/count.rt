@@ -2,43 +2,39 @@
 
 use super::records::addr_at;
 use super::records::len_at;
-ghost use mathlib.Core.Bool.{cond};
 ghost use mathlib.Core.Path.{_≡_};
 ghost use Prim.Native.Nat.{_≤_};
 ghost use Rattle.theory.specs.Routes.{Table};
 ghost use Rattle.table.specs.Nodes.{bare, newNodes, nodeAt, nodes};
 ghost use Rattle.table.specs.Wire.{routes};
 
-// 0 if the record before has a node at depth 5 * m in which the address lies, else 1.
-fn new_at(addr: u32, last_addr: u32, last_len: u8, m: u8) -> usize
+// Has the record before a node at depth 5 * m in which the address lies?
+fn is_shared(addr: u32, last_addr: u32, last_len: u8, m: u8) -> bool
     requires { ⌜ (1 ≤ m) × (m ≤ 6) ⌝ }
-    ensures { λ r. ⌜ r ≡ cond (nodeAt 32 m addr (bare «last_addr» «last_len»)) 0 1 ⌝ }
+    ensures { λ r. ⌜ r ≡ nodeAt 32 m addr (bare «last_addr» «last_len») ⌝ }
 {
     let depth = 5 * m;
     if last_len < depth {
-        return 1;
+        return false;
     }
     let rest = 32 - depth;
-    if last_addr >> rest == addr >> rest {
-        0
-    } else {
-        1
-    }
+    last_addr >> rest == addr >> rest
 }
 
-// The nodes that a record brings beside those of the record before it.
+// The nodes that a record brings beside those of the record before it: those below the deepest that both have.
 fn new_nodes(addr: u32, len: u8, last_addr: u32, last_len: u8) -> usize
     requires { ⌜ len ≤ 32 ⌝ }
     ensures { λ r. ⌜ r ≡ newNodes 32 (bare «last_addr» «last_len») (bare addr len) ⌝ }
 {
     let levels = len / 5;
-    let mut new: usize = 0;
-    let mut m: u8 = 0;
-    while m < levels {
-        m += 1;
-        new += new_at(addr, last_addr, last_len, m);
+    let mut m = levels;
+    while 0 < m {
+        if is_shared(addr, last_addr, last_len, m) {
+            return (levels - m) as usize;
+        }
+        m -= 1;
     }
-    new
+    levels as usize
 }
 
 // The nodes of a table whose records keep the rules.

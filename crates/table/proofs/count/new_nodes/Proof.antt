@@ -1,49 +1,56 @@
--- `new_nodes`: after m turns the depths 5 to 5 * m are counted. Assumes nothing.
-use mathlib.Core.Path.{_≡_, refl, ap, _∙_}
+-- `new_nodes`: the depths below 5 * m are all new, those down to it are still to be looked at. Assumes nothing.
+use mathlib.Core.Path.{_≡_, sym, _∙_}
 use mathlib.Core.List.{[], _∷_}
 use Prim.Native.Nat.{_+_, _-_, _≤_}
 use native.Mathlib.Omega.{arith}
-use Rattle.theory.specs.Routes.{Route}
 use Rattle.table.specs.Nodes.{fresh, bare}
-use Rattle.table.proofs.NodePass.{fresh-next, fresh-small}
+use Rattle.table.proofs.NodePass.{fresh-shared, fresh-new, fresh-small}
 use Rattle.table.proofs.count.new_nodes.Statement.{statement}
 use Rattle.table.proofs.count.new_nodes.Tie as tie
 
 abbrev Inv-loop : tie.InvT-loop
-Inv-loop addr len last-addr last-len levels new₀ m₀ new m = (m ≤ levels) × (new ≡ fresh 32 (bare last-addr last-len ∷ []) addr m)
+Inv-loop addr len last-addr last-len levels m₀ m =
+    (m ≤ levels)
+    × (levels - m + fresh 32 (bare last-addr last-len ∷ []) addr m ≡ fresh 32 (bare last-addr last-len ∷ []) addr levels)
 
 abbrev μ-loop : tie.MeasureT-loop
-μ-loop addr len last-addr last-len levels new₀ m₀ new m = levels - m
+μ-loop addr len last-addr last-len levels m₀ m = m
 
 loop-holds : tie.Need-loop-holds Inv-loop μ-loop
-unfolding fresh
-loop-holds c = (omega arith, refl)
+loop-holds c = (omega arith, omega arith)
 
-add-m : tie.Need-add-m Inv-loop μ-loop
-add-m c = omega arith
+is-shared-requires : tie.Need-is-shared-requires Inv-loop μ-loop
+is-shared-requires c κs = (omega arith, omega arith)
 
-new-at-requires : tie.Need-new-at-requires Inv-loop μ-loop
-new-at-requires c κs = omega arith
+sub-result : tie.Need-sub-result Inv-loop μ-loop
+sub-result c = omega arith
 
-add-new : tie.Need-add-new Inv-loop μ-loop
-add-new c =
-    let a = c .before .before .before .args in
-    let p : Route = bare (a .last-addr) (a .last-len) in
-    let m = c .before .before .loop .m in
-    omega (arith, fresh-next 32 p (a .addr) m _ _ (c .before .before .loop .inv .1) (c .new-at .ensures), fresh-small 32 (p ∷ []) (a .addr) (m + 1))
+cast-result : tie.Need-cast-result Inv-loop μ-loop
+cast-result c = omega arith
+
+returns : tie.Need-returns Inv-loop μ-loop
+returns c =
+    let a = c .before .before .before .before .args in
+    omega (arith, fresh-shared 32 (bare (a .last-addr) (a .last-len)) (a .addr) _ (sym (c .before .is-shared .ensures) ∙ c .if1 .taken))
+
+sub-m : tie.Need-sub-m Inv-loop μ-loop
+sub-m c = omega arith
 
 loop-less : tie.Need-loop-less Inv-loop μ-loop
 loop-less c = omega arith
 
 loop-again : tie.Need-loop-again Inv-loop μ-loop
 loop-again c =
-    let a = c .before .before .before .args in
-    (omega arith, fresh-next 32 (bare (a .last-addr) (a .last-len)) (a .addr) _ _ _ (c .before .before .loop .inv .1) (c .new-at .ensures))
+    let a = c .before .before .before .before .args in
+    (omega arith, omega (arith, fresh-new 32 (bare (a .last-addr) (a .last-len)) (a .addr) _ (omega arith) (sym (c .before .is-shared .ensures) ∙ c .if1 .left)))
 
-returns : tie.Need-returns Inv-loop μ-loop
-returns c =
+cast-result-2 : tie.Need-cast-result-2 Inv-loop μ-loop
+cast-result-2 c = omega arith
+
+returns-2 : tie.Need-returns-2 Inv-loop μ-loop
+returns-2 c =
     let a = c .before .before .args in
-    c .before .loop .inv .1 ∙ ap (fresh 32 (bare (a .last-addr) (a .last-len) ∷ []) (a .addr)) (omega arith)
+    omega (arith, fresh-small 32 (bare (a .last-addr) (a .last-len) ∷ []) (a .addr) (c .before .loop .m))
 
 pub new-nodes-spec : {M : Type 1} → statement M
 new-nodes-spec =
@@ -52,9 +59,12 @@ new-nodes-spec =
     Inv-loop
     μ-loop
     loop-holds
-    add-m
-    new-at-requires
-    add-new
+    is-shared-requires
+    sub-result
+    cast-result
+    returns
+    sub-m
     loop-less
     loop-again
-    returns)
+    cast-result-2
+    returns-2)

@@ -1,9 +1,8 @@
 -- `prefix::agree` meets its contract: a prefix contains an address, a prefix of length 32, where their first bits agree. Assumes nothing.
-use mathlib.Core.Path.{_≡_, refl, ap, _∙_}
-use mathlib.Core.Bool.{Bool, true, _&&_}
+use mathlib.Core.Path.{ap, _∙_}
+use mathlib.Core.Bool.{Bool, _&&_}
 use borrow.Author.Needs.{needs}
 use borrow.Author.Tests.{le-leb}
-use lib.Dec.{leb}
 use Rattle.words.specs.Prefix.{agree}
 use Rattle.table.proofs.prefix.agree.Statement.{statement}
 use Rattle.table.proofs.prefix.agree.Tie as tie

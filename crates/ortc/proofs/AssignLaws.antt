@@ -362,7 +362,7 @@ same-entry v w over q = go (ltb w 64) refl
         rw (hop-via v w (q ∙ s) .0)
     go false e =
         let s : hopOf w ≡ none = rw e in
-        rw (hop-none v (q ∙ s), e, and-false)
+        rw (hop-none v (q ∙ s), e) (and-false (not (eqb v over)) ∙ sym (and-false (not (eqb w over))))
 
 -- The positions of the last level before p are marked where what answers the slots under them is a hop, and not the one they are assigned.
 pub record LeavesMarked (covering hops : List ℕ) (fill marked p : ℕ) : Type 0 where

@@ -1,7 +1,7 @@
 -- `ortc::assign::assign_nodes` meets its contract. The loop's invariant: the positions before b are assigned, and the reader stands before b.
 -- Assumes nothing.
 use Prim.Native.Nat.{_-_, _≤_}
-use mathlib.Core.Path.{_≡_, refl, sym, _∙_}
+use mathlib.Core.Path.{_≡_, refl}
 use native.Mathlib.Omega.{arith}
 use borrow.Author.Needs.{needs}
 use Rattle.words.proofs.PositionLaws.{in-word}

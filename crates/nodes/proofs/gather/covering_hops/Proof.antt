@@ -2,11 +2,11 @@
 use Prim.Native.Nat.{ℕ, _≤_, _<_}
 use mathlib.Core.Path.{sym, _∙_}
 use lib.ListN.{getD, getD-replicate}
+use borrow.Author.Needs.{needs}
 use Rattle.words.specs.Positions.{position}
 use Rattle.words.proofs.BitLaws.{bit-zero}
 use Rattle.words.proofs.PositionLaws.{in-word}
 use Rattle.nodes.proofs.GatherCovers.{covering-none}
-use borrow.Author.Needs.{needs}
 use Rattle.nodes.proofs.gather.covering_hops.Statement.{statement}
 use Rattle.nodes.proofs.gather.covering_hops.Tie as tie
 

@@ -3,11 +3,11 @@ use Prim.Native.Nat.{_-_, _*_, _%_, _^_, _≤_, _<_}
 use mathlib.Core.Path.{_≡_}
 use native.Mathlib.Omega.{arith}
 use lib.Pow.{pow-mono}
+use borrow.Author.Needs.{needs}
 use Rattle.table.proofs.Laws.{one-shl}
 use Rattle.positions.specs.Runs.{placeAt}
 use Rattle.nodes.specs.Node.{wide, slotSize}
 use Rattle.nodes.proofs.OutputLaws.{slot-below}
-use borrow.Author.Needs.{needs}
 use Rattle.nodes.proofs.gather.place_end.Statement.{statement}
 use Rattle.nodes.proofs.gather.place_end.Tie as tie
 

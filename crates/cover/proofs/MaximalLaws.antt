@@ -6,16 +6,15 @@ use mathlib.Core.Bool.{Bool, true, false, cond, not, _&&_, _||_, and-true, and-f
 use mathlib.Core.List.{List, [], _∷_}
 use native.Mathlib.Nat.{le-refl}
 use native.Mathlib.Omega.{arith}
-use lib.Dec.{eqb}
 use lib.ListN.{getD}
 use Rattle.theory.specs.Results.{throughout, prefix}
 use Rattle.theory.specs.Routes.{Route, held}
 use Rattle.theory.proofs.Maximal.{throughout-each}
 use Rattle.words.specs.Bits.{bit}
 use Rattle.words.specs.Coverage.{UnderMembers}
-use Rattle.words.specs.Positions.{position, atLevel}
+use Rattle.words.specs.Positions.{position}
 use Rattle.words.specs.Rules.{PushedSlots}
-use Rattle.words.proofs.PositionLaws.{in-word, level-of}
+use Rattle.words.proofs.PositionLaws.{in-word, pushed-is}
 use Rattle.positions.specs.Runs.{sizeAt, placeAt, memberOver}
 use Rattle.positions.specs.Walk.{walk, stateOf, stateAt, slots}
 use Rattle.positions.specs.Walks.{maximalOut, maximalNext}
@@ -80,15 +79,6 @@ maximal-none n a s =
     go k b false = rw (none-covered wide k b)
 
 -- ---- The words of the code.
-
--- With bit 31 of the word clear nothing strays: a slot is marked exactly when the position above it is in the word.
-pub pushed-is : (cov pushed : ℕ) → bit cov 31 ≡ false → PushedSlots cov pushed → (c : ℕ) → c < 32 → bit pushed c ≡ bit cov (position 4 (c / 2))
-pushed-is cov pushed z f c lt =
-    let e : c + 31 ≡ position 5 c = omega arith in
-    let q : (c + 31 - 1) / 2 ≡ position 4 (c / 2) = omega arith in
-    f c lt
-    ∙ ap₂ _||_ (ap (λ (b : Bool). eqb (c / 2) 8 && b) z ∙ and-false (eqb (c / 2) 8))
-    (ap₂ _&&_ (ap (atLevel 5) e ∙ level-of 5 5 c lt) (ap (bit cov) q))
 
 -- Is slot c below a covered position, by the words: below one above the node, below a member, or below a covered position of the node?
 abbrev pub absorbed : Bool → ℕ → ℕ → ℕ → Bool

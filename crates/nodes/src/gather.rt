@@ -111,16 +111,19 @@ pub fn with_slot(occupied: u32, b: usize) -> u32
     }
 }
 
-// The first of the records i..hi that stands at the address `past` or after it; hi where none does.
+// The first of the records i..hi that stands at the wide address `past` or after it; hi where none does. The addresses are compared as they
+// stand in the records, which is quicker.
 pub fn first_past(table: &[u8], i: usize, hi: usize, past: u64) -> usize
     requires { ⌜ (i ≤ hi) × (hi ≤ records (now table)) ⌝ }
+    requires { ⌜ past ≤ 2 ^ 36 ⌝ }
     ensures { λ r. ⌜ (i ≤ r) × (r ≤ hi) ⌝ }
     ensures { λ r. ⌜ ((k : ℕ) → i ≤ k → k < r → wideAt (now (table .entry)) k .addr < past) ⌝ }
     ensures { λ r. ⌜ (r < hi → past ≤ wideAt (now (table .entry)) r .addr) ⌝ }
 {
+    let limit = (past + 7) / 8;
     let mut at = i;
     while at < hi {
-        if past <= wide_at(table, at) {
+        if limit <= addr_at(table, at) as u64 {
             return at;
         }
         at += 1;

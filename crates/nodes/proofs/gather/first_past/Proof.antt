@@ -4,26 +4,33 @@ use mathlib.Core.Path.{_≡_}
 use mathlib.Core.Logic.{_⊎_, inl, inr}
 use native.Mathlib.Nat.{eq-or-lt-of-le}
 use native.Mathlib.Omega.{arith}
+use borrow.Author.Needs.{needs}
 use Rattle.nodes.specs.Node.{wideAt}
 use Rattle.nodes.proofs.gather.first_past.Statement.{statement}
 use Rattle.nodes.proofs.gather.first_past.Tie as tie
 
 abbrev Inv-loop : tie.InvT-loop
-Inv-loop table i hi past at₀ at = (i ≤ at) × (at ≤ hi) × ((k : ℕ) → i ≤ k → k < at → wideAt table k .addr < past)
+Inv-loop table i hi past limit at₀ at = (i ≤ at) × (at ≤ hi) × ((k : ℕ) → i ≤ k → k < at → wideAt table k .addr < past)
 
 abbrev μ-loop : tie.MeasureT-loop
-μ-loop table i hi past at₀ at = hi - at
+μ-loop table i hi past limit at₀ at = hi - at
+
+add-limit : tie.Need-add-limit Inv-loop μ-loop
+add-limit c = record { fits = omega arith }
 
 loop-holds : tie.Need-loop-holds Inv-loop μ-loop
 loop-holds c = (omega arith, omega arith, λ k l h. absurd (omega arith))
 
-wide-at-requires : tie.Need-wide-at-requires Inv-loop μ-loop
-wide-at-requires c κs = omega arith
+addr-at-requires : tie.Need-addr-at-requires Inv-loop μ-loop
+addr-at-requires c κs = omega arith
+
+cast-if1 : tie.Need-cast-if1 Inv-loop μ-loop
+cast-if1 c = search needs
 
 returns : tie.Need-returns Inv-loop μ-loop
 returns c =
     let l = c .before .before .before .loop in
-    ((omega arith, omega arith), (l .inv .2, λ h. omega (arith, c .before .wide-at .ensures)))
+    ((omega arith, omega arith), (l .inv .2, λ h. omega (arith, c .before .addr-at .ensures)))
 
 add-at : tie.Need-add-at Inv-loop μ-loop
 add-at c = omega arith
@@ -35,7 +42,7 @@ loop-again : tie.Need-loop-again Inv-loop μ-loop
 loop-again c =
     let l = c .before .before .before .loop in
     let a = c .before .before .before .before .before .args in
-    let here : wideAt (a .table .now) (l .at) .addr < a .past = omega (arith, c .before .wide-at .ensures) in (
+    let here : wideAt (a .table .now) (l .at) .addr < a .past = omega (arith, c .before .addr-at .ensures) in (
       omega arith,
       omega arith,
       λ k low h. more (λ (n : ℕ). wideAt (a .table .now) n .addr < a .past) (l .at) k here (l .inv .2 k low) (eq-or-lt-of-le h),
@@ -54,8 +61,10 @@ first-past-spec =
     (tie.spec
     Inv-loop
     μ-loop
+    add-limit
     loop-holds
-    wide-at-requires
+    addr-at-requires
+    cast-if1
     returns
     add-at
     loop-less

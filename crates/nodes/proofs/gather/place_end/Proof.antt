@@ -1,5 +1,5 @@
 -- `nodes::gather::place_end` meets its contract. Assumes nothing.
-use Prim.Native.Nat.{_-_, _*_, _%_, _^_, _≤_, _<_}
+use Prim.Native.Nat.{ℕ, _+_, _-_, _*_, _%_, _^_, _≤_, _<_}
 use mathlib.Core.Path.{_≡_}
 use native.Mathlib.Omega.{arith}
 use lib.Pow.{pow-mono}
@@ -26,16 +26,24 @@ sub-first-past c = search needs
 shl-first-past : tie.Need-shl-first-past
 shl-first-past c = search needs
 
+-- The end of a slot is small.
+end-small : (depth key c : ℕ) → depth ≤ 30 → c < 32 → key + 2 ^ (wide - depth) ≤ 2 ^ wide
+    → placeAt (slotSize depth) key 5 c + 1 * 2 ^ slotSize depth % 2 ^ 64 ≤ 2 ^ 36
+end-small depth key c deep lt small =
+    let low : slotSize depth ≤ 30 = omega arith in
+    omega (arith, slot-below depth key c deep lt small, one-shl (slotSize depth) (omega arith), pow-mono low)
+
 add-first-past-2 : tie.Need-add-first-past-2
 add-first-past-2 c =
     let a = c .before .before .before .args in
-    let deep : a .depth ≤ 30 = omega arith in
-    let low : slotSize (a .depth) ≤ 30 = omega arith in
-    let slot : placeAt (slotSize (a .depth)) (a .key) 5 (a .b - 31) < 2 ^ wide = slot-below (a .depth) (a .key) (a .b - 31) deep (omega arith) (omega arith) in
-    omega (arith, slot, c .slot-key .ensures, one-shl (slotSize (a .depth)) (omega arith), pow-mono low)
+    omega (arith, c .slot-key .ensures, end-small (a .depth) (a .key) (a .b - 31) (omega arith) (omega arith) (omega arith))
 
 first-past-requires : tie.Need-first-past-requires
-first-past-requires c κs = search needs
+first-past-requires c κs =
+    let a = c .before .before .before .args in (
+      (omega arith, omega arith),
+      omega (arith, c .slot-key .ensures, end-small (a .depth) (a .key) (a .b - 31) (omega arith) (omega arith) (omega arith)),
+    )
 
 returns : tie.Need-returns
 returns c = search needs

@@ -1,8 +1,7 @@
 // A plugin for Debian's qemu-x86_64: counts the instructions that a program runs and, with stack=on, the bytes of stack that it reaches.
 // Usage: qemu-x86_64 -plugin FILE.so,out=NAME[,stack=on] PROGRAM
-// NAME gets a line of three numbers: the instructions; the turns of repeated stores and moves (rep stos, rep movs), which the first number
-// leaves out; the bytes of stack, or 0. Debian has no header for the emulator's plugins: what is used of their interface, version 1, is
-// declared here.
+// NAME gets a line of two numbers: the instructions, each turn of a repeated one counted; the bytes of stack, or 0. Debian has no header for
+// the emulator's plugins: what is used of their interface, version 1, is declared here.
 #include <stdbool.h>
 #include <stddef.h>
 #include <stdint.h>
@@ -18,15 +17,13 @@ void qemu_plugin_register_vcpu_tb_trans_cb(plugin_id id, void (*seen)(plugin_id,
 void qemu_plugin_register_atexit_cb(plugin_id id, void (*ended)(plugin_id, void *), void *data);
 size_t qemu_plugin_tb_n_insns(const struct qemu_plugin_tb *block);
 struct qemu_plugin_insn *qemu_plugin_tb_get_insn(const struct qemu_plugin_tb *block, size_t at);
-const void *qemu_plugin_insn_data(const struct qemu_plugin_insn *insn);
-size_t qemu_plugin_insn_size(const struct qemu_plugin_insn *insn);
 void qemu_plugin_register_vcpu_insn_exec_inline(struct qemu_plugin_insn *insn, int operation, void *number, uint64_t addend);
 void qemu_plugin_register_vcpu_mem_cb(struct qemu_plugin_insn *insn, void (*touched)(unsigned, uint32_t, uint64_t, void *), int flags,
                                       int kind, void *data);
 
 __attribute__((visibility("default"))) int qemu_plugin_version = 1;
 
-static uint64_t instructions, turns, top, lowest;
+static uint64_t instructions, top, lowest;
 static bool with_stack;
 static char out[4096];
 
@@ -36,18 +33,10 @@ static void touched(unsigned cpu, uint32_t info, uint64_t address, void *data) {
     if (address < lowest && top - address < (8u << 20)) lowest = address;
 }
 
-// Is it rep stos or rep movs, of any width?
-static bool repeated(const struct qemu_plugin_insn *insn) {
-    const unsigned char *code = qemu_plugin_insn_data(insn);
-    size_t size = qemu_plugin_insn_size(insn);
-    unsigned char last = code[size - 1];
-    return size <= 4 && code[0] == 0xF3 && (last == 0xAA || last == 0xAB || last == 0xA4 || last == 0xA5);
-}
-
 static void seen(plugin_id id, struct qemu_plugin_tb *block) {
     for (size_t i = 0; i < qemu_plugin_tb_n_insns(block); i++) {
         struct qemu_plugin_insn *insn = qemu_plugin_tb_get_insn(block, i);
-        qemu_plugin_register_vcpu_insn_exec_inline(insn, ADD_U64, repeated(insn) ? &turns : &instructions, 1);
+        qemu_plugin_register_vcpu_insn_exec_inline(insn, ADD_U64, &instructions, 1);
         if (with_stack) qemu_plugin_register_vcpu_mem_cb(insn, touched, NO_REGISTERS, READ_AND_WRITE, NULL);
     }
 }
@@ -55,8 +44,7 @@ static void seen(plugin_id id, struct qemu_plugin_tb *block) {
 static void ended(plugin_id id, void *data) {
     FILE *file = fopen(out, "w");
     if (file == NULL) return;
-    fprintf(file, "%llu %llu %llu\n", (unsigned long long)instructions, (unsigned long long)turns,
-            (unsigned long long)(top - lowest));
+    fprintf(file, "%llu %llu\n", (unsigned long long)instructions, (unsigned long long)(top - lowest));
     fclose(file);
 }
 

@@ -139,8 +139,8 @@ fn fail(why: &str) -> ! {
     exit(1)
 }
 
-/// Instructions, turns of repeated stores and moves, and bytes of stack.
-type Counts = [i64; 3];
+/// Instructions, and bytes of stack.
+type Counts = [i64; 2];
 
 struct Bench {
     folder: String,
@@ -177,13 +177,13 @@ impl Bench {
         run(&all, &input(times, mode, room, routes));
         let text = fs::read_to_string(&file).unwrap_or_else(|error| fail(&format!("{file}: {error}")));
         let numbers: Vec<i64> = text.split_whitespace().map(|word| word.parse().unwrap()).collect();
-        [numbers[0], numbers[1], numbers[2]]
+        [numbers[0], numbers[1]]
     }
 
-    /// The instructions of a rewrite, and its turns: three rewrites less one.
-    fn counts(&self, words: &[String], mode: u8, room: usize, routes: &[Route]) -> [i64; 2] {
-        let (one, three) = (self.count(words, 1, false, mode, room, routes), self.count(words, 3, false, mode, room, routes));
-        [(three[0] - one[0]) / 2, (three[1] - one[1]) / 2]
+    /// The instructions of a rewrite: three rewrites less one.
+    fn instructions(&self, words: &[String], mode: u8, room: usize, routes: &[Route]) -> i64 {
+        let counted = |times| self.count(words, times, false, mode, room, routes)[0];
+        (counted(3) - counted(1)) / 2
     }
 
     fn has_counts(&self) -> bool {
@@ -208,8 +208,8 @@ impl Bench {
             ours / theirs
         );
         if self.has_counts() {
-            let (ours, theirs) = (self.counts(&self.ours, mode, room, routes), self.counts(&self.theirs, mode, room, routes));
-            print!(" {} | {} | {:.2} |", thousands(ours[0]), thousands(theirs[0]), ours[0] as f64 / theirs[0] as f64);
+            let (ours, theirs) = (self.instructions(&self.ours, mode, room, routes), self.instructions(&self.theirs, mode, room, routes));
+            print!(" {} | {} | {:.2} |", thousands(ours), thousands(theirs), ours as f64 / theirs as f64);
         }
         println!();
     }
@@ -223,38 +223,40 @@ impl Bench {
         println!("|---|--:|--:|--:|--:|--:|--:|--:|{}", if counts { "--:|--:|--:|" } else { "" });
     }
 
-    /// Where the crate's work goes, and what clearing the room takes.
-    fn parts(&self, tables: &[Table]) {
-        println!("\n| table | mode | crate: fill | aggregate | write | library, but for clearing | bytes cleared |");
-        println!("|---|--:|--:|--:|--:|--:|--:|");
+    /// The instructions that clearing a word of the room takes: by a small table in the room that it needs and in the whole one.
+    fn clearing(&self, yard: &[Route]) -> f64 {
+        let (needed, whole) = (160 * nodes(yard), 824_480);
+        let all = |room| self.instructions(&self.ours, 2, room, yard);
+        (all(whole) - all(needed)) as f64 / (whole - needed) as f64
+    }
+
+    /// Where the work goes. The library checks the rules and counts the nodes, and no more, where it is lent no room.
+    fn parts(&self, tables: &[Table], clearing: f64) {
+        println!("\n| table | mode | crate: fill | aggregate | write | library: check | walks | clear |");
+        println!("|---|--:|--:|--:|--:|--:|--:|--:|");
         for table in tables {
             for mode in 1..=5 {
                 let room = 160 * nodes(&table.routes);
                 let at = |stage: &str| {
                     let mut words = self.theirs.clone();
                     words.push(stage.to_string());
-                    self.counts(&words, mode, room, &table.routes)[0]
+                    self.instructions(&words, mode, room, &table.routes)
                 };
                 let (filled, aggregated, written) = (at("filled"), at("aggregated"), at("written"));
-                let ours = self.counts(&self.ours, mode, room, &table.routes);
+                let checked = self.instructions(&self.ours, mode, 0, &table.routes);
+                let cleared = (clearing * room as f64) as i64;
                 println!(
-                    "| {} | {mode} | {} | {} | {} | {} | {} |",
+                    "| {} | {mode} | {} | {} | {} | {} | {} | {} |",
                     table.name,
                     thousands(filled),
                     thousands(aggregated - filled),
                     thousands(written - aggregated),
-                    thousands(ours[0]),
-                    thousands_of(4 * room as i64)
+                    thousands(checked),
+                    thousands(self.instructions(&self.ours, mode, room, &table.routes) - checked - cleared),
+                    thousands(cleared)
                 );
             }
         }
-    }
-
-    /// What clearing a word of the room takes, in nanoseconds: by a small table in the room that it needs and in the whole one.
-    fn clearing(&self, yard: &[Route]) {
-        let (needed, whole) = (160 * nodes(yard), 824_480);
-        let time = |room| self.time(&self.ours, 2, room, yard);
-        println!("\nClearing a word of the room takes {:.1} ns.", 1_000.0 * (time(whole) - time(needed)) / (whole - needed) as f64);
     }
 
     /// Room, heap and stack. The stack is what two rewrites reach below what the program reaches with none.
@@ -270,7 +272,7 @@ impl Bench {
                     if !self.has_counts() {
                         return "-".to_string();
                     }
-                    let reached = |times| self.count(words, times, true, mode, room, &table.routes)[2];
+                    let reached = |times| self.count(words, times, true, mode, room, &table.routes)[1];
                     thousands_of(reached(2) - reached(0))
                 };
                 println!(
@@ -333,10 +335,10 @@ fn main() {
         }
     }
     if bench.has_counts() {
-        println!("\nInstructions by part.");
-        bench.parts(&tables);
+        let clearing = bench.clearing(&yard);
+        println!("\nInstructions by part. Clearing a word of the room takes {clearing:.2} of them.");
+        bench.parts(&tables, clearing);
     }
-    bench.clearing(&yard);
     println!("\nMemory.");
     bench.memory(&tables);
 }

@@ -9,9 +9,9 @@ use native.Mathlib.Omega.{arith}
 use lib.ListN.{length, getD, set, length-set}
 use lib.Seq.{getD-set-same, getD-set-other}
 use lib.Pow.{pow-pos}
-use borrow.Author.Tests.{eq-eqb, ne-eqb}
+use borrow.Author.Tests.{le-ltb, eq-eqb, ne-eqb}
 use Rattle.words.specs.Positions.{position}
-use Rattle.words.proofs.PositionLaws.{above}
+use Rattle.words.proofs.PositionLaws.{in-word, above}
 use Rattle.nodes.specs.Gathered.{valueOf, overAt, coveringAt}
 
 -- The hops of the positions numbered below b are found.
@@ -48,3 +48,13 @@ module _ {t first end : List ℕ} {inherited : ℕ} {hops : List ℕ} {b : ℕ} 
           ap (λ (n : ℕ). getD (set hops b v) n 0) (sym q) ∙ getD-set-same hops b v 0 (omega (arith, c .sized)) ∙ is ∙ covering-here l j le lt q
       go l j le lt (inr h) =
           getD-set-other hops b (position l j) v 0 (λ e. omega arith) ∙ c .each l j le lt (omega arith)
+
+-- Where no position has a record the inherited hop covers them all.
+pub covering-none : (t first end : List ℕ) (inherited : ℕ) → ((b : ℕ) → b < 31 → getD end b 0 ≤ getD first b 0)
+    → (l j : ℕ) → l ≤ 4 → j < 2 ^ l → coveringAt t first end inherited l j ≡ inherited
+unfolding coveringAt
+covering-none t first end inherited none zero j le lt =
+    rw (le-ltb (getD first (position 0 j) 0) (getD end (position 0 j) 0) (none (position 0 j) (in-word 0 j le lt)))
+covering-none t first end inherited none (suc l) j le lt =
+    rw (le-ltb (getD first (position (suc l) j) 0) (getD end (position (suc l) j) 0) (none (position (suc l) j) (in-word (suc l) j le lt)))
+    (covering-none t first end inherited none l (j / 2) (omega arith) (omega (arith, pow-suc 2 l)))

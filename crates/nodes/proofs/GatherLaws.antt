@@ -6,8 +6,9 @@ use mathlib.Core.Bool.{Bool, true, false}
 use mathlib.Core.List.{List, [], _∷_}
 use native.Mathlib.Decide.{decLt}
 use native.Mathlib.Omega.{arith}
+use lib.Dec.{ltb}
 use lib.ListN.{getD}
-use borrow.Author.Tests.{lt-ltb, le-ltb}
+use borrow.Author.Tests.{lt-ltb, le-ltb, ltb-true, ltb-false}
 use Rattle.theory.specs.Results.{part}
 use Rattle.theory.specs.Routes.{Route, All, Aligned, Table, Member}
 use Rattle.theory.proofs.Blocks.{aligned-zero}
@@ -21,15 +22,16 @@ use Rattle.table.specs.Facts.{Lawful}
 use Rattle.table.proofs.Tables.{accepted-table}
 use Rattle.words.specs.Bits.{bit}
 use Rattle.words.specs.Positions.{position}
+use Rattle.words.proofs.PositionLaws.{placed}
 use Rattle.positions.specs.Runs.{isAt, inside, headHop, own, orElse, sizeAt, placeAt, cover, hopOf}
 use Rattle.positions.specs.Wide.{widened}
 use Rattle.positions.proofs.Runs.{Run, inside-within}
 use Rattle.positions.proofs.RunsNode.{size-slot, place-aligned, place-nested, above-lt}
 use Rattle.positions.proofs.Wide.{all-widen, table-widen, short-widen}
 use Rattle.nodes.specs.Node.{wide, spare, wideAt, run, slotSize, Node}
-use Rattle.nodes.specs.Gathered.{filed, some, runAt, Gathered, valueOf, coveringAt}
+use Rattle.nodes.specs.Gathered.{filed, some, runAt, Gathered, Occupied, valueOf, coveringAt}
 use Rattle.nodes.proofs.GatherPlaces.{filed-position}
-use Rattle.nodes.proofs.GatherRuns.{member-run, run-none, run-first}
+use Rattle.nodes.proofs.GatherRuns.{member-run, run-none, run-first, some-run}
 
 -- ---- The records of a position, and of a slot.
 
@@ -73,6 +75,35 @@ module _ {t : List ℕ} {lo hi depth key : ℕ} {first end : List ℕ} {present 
       has-hop : (rs : List Route) → some rs ≡ routed (headHop rs)
       has-hop [] = refl
       has-hop (r ∷ rs) = refl
+
+  -- ---- Places without a record.
+
+  -- Whether a place has a record in the run.
+  has-record : (l j : ℕ) → l ≤ 5 → j < 2 ^ l
+      → some (part (filed (slotSize depth) key l j) (run t lo hi)) ≡ ltb (getD first (position l j) 0) (getD end (position l j) 0)
+  has-record l j le lt = ap some (sym (g .places l j le lt)) ∙ some-run t (getD first (position l j) 0) (getD end (position l j) 0)
+
+  -- A position that is not marked has none.
+  pub absent : (b : ℕ) → b < 31 → bit present b ≡ false → getD end b 0 ≤ getD first b 0
+  absent b lt off =
+      let p = placed b lt in
+      let q : bit present (position (p .level) (p .index)) ≡ false = rw (p .is) at off in
+      let r : getD end (position (p .level) (p .index)) 0 ≤ getD first (position (p .level) (p .index)) 0 =
+      ltb-false _ _ (sym (has-record (p .level) (p .index) (omega (arith, p .above-slots)) (p .in-level))
+      ∙ sym (g .members (p .level) (p .index) (p .above-slots) (p .in-level)) ∙ q) in
+      rw (p .is) r
+
+  module _ (occupied : ℕ) (o : Occupied t lo hi depth key occupied) (c : ℕ) (lt : c < 32) where
+    -- A slot has records exactly when its bit is set.
+    pub slot-vacant : bit occupied c ≡ false → getD end (31 + c) 0 ≤ getD first (31 + c) 0
+    slot-vacant off = ltb-false _ _ (sym (has-record 5 c (omega arith) lt) ∙ sym (o c lt) ∙ off)
+
+    pub slot-occupied : bit occupied c ≡ true → getD first (31 + c) 0 < getD end (31 + c) 0
+    slot-occupied on = ltb-true _ _ (sym (has-record 5 c (omega arith) lt) ∙ sym (o c lt) ∙ on)
+
+    -- One whose bit is not set has no route.
+    pub occupied-none : bit occupied c ≡ false → part (filed (slotSize depth) key 5 c) (run t lo hi) ≡ []
+    occupied-none off = sym (g .places 5 c (omega arith) lt) ∙ run-none t _ _ (slot-vacant off)
 
 -- ---- The hops that cover the positions.
 

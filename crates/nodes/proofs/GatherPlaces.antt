@@ -187,18 +187,18 @@ module _ (depth key : ℕ) (deep : depth ≤ 30) (aligned : Aligned (wide - dept
         nowhere true f ne = let z = filed-level l j (eq-or-lt-of-le le) .0 f in absurd (ne (level-heap l j (z .0) (z .1)))
         nowhere false f ne = refl
 
-  module _ (r s u : Route) (ri : Within wide (wide - depth) key r) (si : Within wide (wide - depth) key s) (ui : Within wide (wide - depth) key u)
-      (p : Before r s) (q : Before s u) where
-    between : (l j : ℕ) → (l ≡ 5) ⊎ (l < 5) → levelOf (r .len) depth ≡ l → indexOf depth key l r ≡ j
-        → levelOf (u .len) depth ≡ l → indexOf depth key l u ≡ j → heapOf depth key s ≡ position l j
-    between l j (inl five) e f g h =
-        level-heap s si l j (slot-level (s .len) depth (long (decLt (s .len) (depth + 5))) ∙ sym five) (place-in s si l j .1 middle)
+  -- The slot of a route has each later one that stands before the slot's end.
+  module _ (r s : Route) (ri : Within wide (wide - depth) key r) (si : Within wide (wide - depth) key s) (p : Before r s) where
+    pub slot-next : (l j : ℕ) → l ≡ 5 → levelOf (r .len) depth ≡ l → indexOf depth key l r ≡ j
+        → s .addr < placeAt (slotSize depth) key l j + 2 ^ sizeAt (slotSize depth) l → heapOf depth key s ≡ position l j
+    slot-next l j five e f below =
+        level-heap s si l j (slot-level (s .len) depth (long (decLt (s .len) (depth + 5))) ∙ sym five) (place-in s si l j .1 inner)
       where
         start : In (sizeAt (slotSize depth) l) (placeAt (slotSize depth) key l j) (r .addr)
         start = place-in r ri l j .0 f
 
-        middle : In (sizeAt (slotSize depth) l) (placeAt (slotSize depth) key l j) (s .addr)
-        middle = omega (arith, start, place-in u ui l j .0 h, rising r s p, rising s u q)
+        inner : In (sizeAt (slotSize depth) l) (placeAt (slotSize depth) key l j) (s .addr)
+        inner = omega (arith, start, rising r s p)
 
         -- A shorter one has no host bits, and so starts the slot, where it stands before all of the slot.
         long : Dec (s .len < depth + 5) → depth + 5 ≤ s .len
@@ -206,9 +206,15 @@ module _ (depth key : ℕ) (deep : depth ≤ 30) (aligned : Aligned (wide - dept
         long (yes lt) =
             let le : sizeAt (slotSize depth) l ≤ wide - s .len = omega arith in
             let z : s .addr ≡ placeAt (slotSize depth) key l j =
-            same-start _ _ (s .addr) (start-aligned l j) (aligned-down (sizeAt (slotSize depth) l) (wide - s .len) (s .addr) le (si .aligned)) middle in
+            same-start _ _ (s .addr) (start-aligned l j) (aligned-down (sizeAt (slotSize depth) l) (wide - s .len) (s .addr) le (si .aligned)) inner in
             let y : r .addr ≡ s .addr = omega (arith, start, rising r s p) in
             absurd (omega (arith, lengthening r s p y, level-slot (r .len) depth (e ∙ five)))
+
+  module _ (r s u : Route) (ri : Within wide (wide - depth) key r) (si : Within wide (wide - depth) key s) (ui : Within wide (wide - depth) key u)
+      (p : Before r s) (q : Before s u) where
+    between : (l j : ℕ) → (l ≡ 5) ⊎ (l < 5) → levelOf (r .len) depth ≡ l → indexOf depth key l r ≡ j
+        → levelOf (u .len) depth ≡ l → indexOf depth key l u ≡ j → heapOf depth key s ≡ position l j
+    between l j (inl five) e f g h = slot-next r s ri si p l j five e f (omega (arith, place-in u ui l j .0 h, rising s u q))
     between l j (inr lt) e f g h =
         let a = place-at r ri l j lt e f in
         let b = place-at u ui l j lt g h in

@@ -1,5 +1,5 @@
 -- The pass over a node's records, one step after another: what is known once the records lo..i are gathered, at the start, after one more and at the end.
-use Prim.Native.Nat.{ℕ, suc, _+_, _-_, _^_, _≤_, _<_}
+use Prim.Native.Nat.{ℕ, _-_, _^_, _≤_, _<_}
 use mathlib.Core.Path.{_≡_, sym, ap, _∙_}
 use mathlib.Core.Bool.{Bool, true, false, cond, _||_}
 use mathlib.Core.List.{List}
@@ -32,7 +32,7 @@ pub record Placed (t : List ℕ) (lo i depth key b first end : ℕ) : Type 0 whe
   pub holds : (k : ℕ) → lo ≤ k → k < i → (heapOf depth key (wideAt t k) ≡ b) ↔ ((first ≤ k) × (k < end))
 
 -- What is known of all places, and of the positions that have a record.
-pub record Gathering (t : List ℕ) (lo i depth key : ℕ) (first end : List ℕ) (present : ℕ) : Type 0 where
+pub record Passed (t : List ℕ) (lo i depth key : ℕ) (first end : List ℕ) (present : ℕ) : Type 0 where
   pub firsts : length first ≡ 63
   pub ends : length end ≡ 63
   pub each : (b : ℕ) → b < 63 → Placed t lo i depth key b (getD first b 0) (getD end b 0)
@@ -40,9 +40,9 @@ pub record Gathering (t : List ℕ) (lo i depth key : ℕ) (first end : List ℕ
   pub no-more : bit present 31 ≡ false
 
 -- Before the first record all places are empty.
-pub gathering-start : (t : List ℕ) (lo depth key : ℕ) (first end : List ℕ) → length first ≡ 63 → length end ≡ 63
-    → ((b : ℕ) → b < 63 → (getD first b 0 ≡ 0) × (getD end b 0 ≡ 0)) → Gathering t lo lo depth key first end 0
-gathering-start t lo depth key first end f e z =
+pub passed-start : (t : List ℕ) (lo depth key : ℕ) (first end : List ℕ) → length first ≡ 63 → length end ≡ 63
+    → ((b : ℕ) → b < 63 → (getD first b 0 ≡ 0) × (getD end b 0 ≡ 0)) → Passed t lo lo depth key first end 0
+passed-start t lo depth key first end f e z =
     record {
       firsts = f;
       ends = e;
@@ -54,9 +54,9 @@ gathering-start t lo depth key first end f e z =
       no-more = bit-zero 31;
     }
 
--- A place that has taken record i in is not empty.
-first-small : (first end i : ℕ) → end ≤ i → firstOf first end i < i + 1
-first-small first end i h = if-lt (λ (s : Bool). cond s first i < i + 1) first end (λ l. omega arith) (λ l. omega arith)
+-- A place that has taken the records i..e in is not empty.
+first-small : (first end i e : ℕ) → end ≤ i → i < e → firstOf first end i < e
+first-small first end i e h lt = if-lt (λ (s : Bool). cond s first i < e) first end (λ l. omega arith) (λ l. omega arith)
 
 module _ {t : List ℕ} {lo hi depth key : ℕ} (node : Node t lo hi depth key) where
   -- Each record is a route of the node, and they stand in order.
@@ -78,103 +78,103 @@ module _ {t : List ℕ} {lo hi depth key : ℕ} (node : Node t lo hi depth key) 
       (node-within i le (omega arith)) (node-within j (omega arith) (omega arith)) (node-within k (omega arith) h)
       (node-before i j le p (omega arith)) (node-before j k (omega arith) q h) e
 
-  -- One record more.
-  module _ (i : ℕ) (le : lo ≤ i) (lt : i < hi) (b : ℕ) (is : b ≡ heapOf depth key (wideAt t i)) where
+  -- The records i..e more, all of place b.
+  module _ (i e : ℕ) (le : lo ≤ i) (lt : i < e) (ge : e ≤ hi) (b : ℕ) (is : (k : ℕ) → i ≤ k → k < e → heapOf depth key (wideAt t k) ≡ b) where
     -- Another place stays as it is.
-    placed-other : {c first end : ℕ} → (c ≡ b → ⊥) → Placed t lo i depth key c first end → Placed t lo (i + 1) depth key c first end
+    placed-other : {c first end : ℕ} → (c ≡ b → ⊥) → Placed t lo i depth key c first end → Placed t lo e depth key c first end
     placed-other {c} {first} {end} ne p =
-        record { order = p .order; bound = omega (arith, p .bound); from = p .from; holds = λ k l h. go k l (eq-or-lt-of-le h) }
+        record { order = p .order; bound = omega (arith, p .bound); from = p .from; holds = λ k l h. go k l h (decLt k i) }
       where
-        go : (k : ℕ) → lo ≤ k → (suc k ≡ i + 1) ⊎ (suc k < i + 1) → (heapOf depth key (wideAt t k) ≡ c) ↔ ((first ≤ k) × (k < end))
-        go k l (inl e) =
-            let q : k ≡ i = omega arith in
-            (λ f. absurd (ne (sym f ∙ ap (λ (n : ℕ). heapOf depth key (wideAt t n)) q ∙ sym is)), λ z. absurd (omega (arith, p .bound)))
-        go k l (inr h) = p .holds k l (omega arith)
+        go : (k : ℕ) → lo ≤ k → k < e → Dec (k < i) → (heapOf depth key (wideAt t k) ≡ c) ↔ ((first ≤ k) × (k < end))
+        go k l h (yes d) = p .holds k l d
+        go k l h (no d) = (λ f. absurd (ne (sym f ∙ is k (omega arith) h)), λ z. absurd (omega (arith, p .bound)))
 
-    -- Its own place, where there are records, goes up to it.
-    placed-more : {first end : ℕ} → first < end → Placed t lo i depth key b first end → Placed t lo (i + 1) depth key b first (i + 1)
+    -- Their own place, where there are records, goes up to them.
+    placed-more : {first end : ℕ} → first < end → Placed t lo i depth key b first end → Placed t lo e depth key b first e
     placed-more {first} {end} some p =
         record {
           order = omega (arith, p .bound);
           bound = omega arith;
           from = λ h. p .from some;
-          holds = λ k l h. (λ e. (here k l (eq-or-lt-of-le h) e, h), λ z. there k (z .0) (eq-or-lt-of-le (z .0)) (eq-or-lt-of-le h));
+          holds = λ k l h. (λ f. (here k l (decLt k i) f, h), λ z. there k h (eq-or-lt-of-le (z .0)) (decLt k i));
         }
       where
-        here : (k : ℕ) → lo ≤ k → (suc k ≡ i + 1) ⊎ (suc k < i + 1) → heapOf depth key (wideAt t k) ≡ b → first ≤ k
-        here k l (inl q) e = omega (arith, p .bound)
-        here k l (inr q) e = p .holds k l (omega arith) .0 e .0
+        here : (k : ℕ) → lo ≤ k → Dec (k < i) → heapOf depth key (wideAt t k) ≡ b → first ≤ k
+        here k l (yes d) f = p .holds k l d .0 f .0
+        here k l (no d) f = omega (arith, p .bound)
 
         start : heapOf depth key (wideAt t first) ≡ b
         start = p .holds first (p .from some) (omega (arith, p .bound)) .1 (omega arith)
 
-        there : (k : ℕ) → first ≤ k → (first ≡ k) ⊎ (first < k) → (suc k ≡ i + 1) ⊎ (suc k < i + 1) → heapOf depth key (wideAt t k) ≡ b
-        there k l (inl q) d = ap (λ (n : ℕ). heapOf depth key (wideAt t n)) (sym q) ∙ start
-        there k l (inr q) (inl e) = let d : k ≡ i = omega arith in ap (λ (n : ℕ). heapOf depth key (wideAt t n)) d ∙ sym is
-        there k l (inr q) (inr e) = node-between first k i (p .from some) q (omega arith) lt (sym is ∙ sym start) ∙ start
+        there : (k : ℕ) → k < e → (first ≡ k) ⊎ (first < k) → Dec (k < i) → heapOf depth key (wideAt t k) ≡ b
+        there k h q (no d) = is k (omega arith) h
+        there k h (inl q) (yes d) = ap (λ (n : ℕ). heapOf depth key (wideAt t n)) (sym q) ∙ start
+        there k h (inr q) (yes d) = node-between first k i (p .from some) q d (omega arith) (is i (omega arith) lt ∙ sym start) ∙ start
 
-    -- Where there are none it is the first.
-    placed-first : {first end : ℕ} → end ≤ first → Placed t lo i depth key b first end → Placed t lo (i + 1) depth key b i (i + 1)
+    -- Where there are none they are the first.
+    placed-first : {first end : ℕ} → end ≤ first → Placed t lo i depth key b first end → Placed t lo e depth key b i e
     placed-first {first} {end} none p =
-        record { order = omega arith; bound = omega arith; from = λ h. le; holds = λ k l h. (λ e. go k l (eq-or-lt-of-le h) e, λ z. back k (z .0) h) }
+        record { order = omega arith; bound = omega arith; from = λ h. le; holds = λ k l h. (λ f. (go k l (decLt k i) f, h), λ z. is k (z .0) h) }
       where
-        go : (k : ℕ) → lo ≤ k → (suc k ≡ i + 1) ⊎ (suc k < i + 1) → heapOf depth key (wideAt t k) ≡ b → (i ≤ k) × (k < i + 1)
-        go k l (inl q) e = omega arith
-        go k l (inr q) e = absurd (omega (arith, p .holds k l (omega arith) .0 e))
+        go : (k : ℕ) → lo ≤ k → Dec (k < i) → heapOf depth key (wideAt t k) ≡ b → i ≤ k
+        go k l (yes d) f = absurd (omega (arith, p .holds k l d .0 f))
+        go k l (no d) f = omega arith
 
-        back : (k : ℕ) → i ≤ k → k < i + 1 → heapOf depth key (wideAt t k) ≡ b
-        back k l h = let d : k ≡ i = omega arith in ap (λ (n : ℕ). heapOf depth key (wideAt t n)) d ∙ sym is
-
-    placed-own : {first end : ℕ} → Placed t lo i depth key b first end → Placed t lo (i + 1) depth key b (firstOf first end i) (i + 1)
+    placed-own : {first end : ℕ} → Placed t lo i depth key b first end → Placed t lo e depth key b (firstOf first end i) e
     placed-own {first} {end} p =
-        if-lt (λ (s : Bool). Placed t lo (i + 1) depth key b (cond s first i) (i + 1)) first end (λ h. placed-more h p) (λ h. placed-first h p)
+        if-lt (λ (s : Bool). Placed t lo e depth key b (cond s first i) e) first end (λ h. placed-more h p) (λ h. placed-first h p)
 
-    module _ {first end : List ℕ} {present : ℕ} (g : Gathering t lo i depth key first end present) (next : ℕ)
-        (marked : (c : ℕ) → c < 31 → bit next c ≡ (eqb c b || bit present c)) (same : bit next 31 ≡ bit present 31) where
-      -- The place of record i takes it in, and its position is marked.
-      pub gathering-next : Gathering t lo (i + 1) depth key (set first b (firstOf (getD first b 0) (getD end b 0) i)) (set end b (i + 1)) next
-      gathering-next =
-          record {
-            firsts = length-set first b low ∙ g .firsts;
-            ends = length-set end b (i + 1) ∙ g .ends;
-            each = λ c h. if-eq (λ (s : Bool). Placed t lo (i + 1) depth key c (starts c) (stops c)) c b (λ e. rw e own) (other c h);
-            marks = λ c h. marked c h ∙ if-eq (λ (s : Bool). (s || bit present c) ≡ ltb (starts c) (stops c)) c b (λ e. rw e mark) (rest c h);
-            no-more = same ∙ g .no-more;
-          }
+    module _ {first end : List ℕ} {present : ℕ} (g : Passed t lo i depth key first end present) where
+      place-small : b < 63
+      place-small = rw (sym (is i (omega arith) lt)) (node-heap i le (omega arith))
+
+      -- The mark of a place, set for theirs, says again whether the place has records.
+      pub mark-next : (c : ℕ) (m : Bool) → m ≡ ltb (getD first c 0) (getD end c 0)
+          → (eqb c b || m) ≡ ltb (getD (set first b (firstOf (getD first b 0) (getD end b 0) i)) c 0) (getD (set end b e) c 0)
+      mark-next c m h =
+          if-eq (λ (s : Bool). (s || m) ≡ ltb (getD (set first b low) c 0) (getD (set end b e) c 0)) c b (λ q. rw q mark)
+          (λ ne. rw (getD-set-other first b c low 0 ne, getD-set-other end b c e 0 ne) h)
         where
           low : ℕ
           low = firstOf (getD first b 0) (getD end b 0) i
 
-          -- Where the records of a place start and stop now.
-          starts : ℕ → ℕ
-          starts c = getD (set first b low) c 0
+          mark : true ≡ ltb (getD (set first b low) b 0) (getD (set end b e) b 0)
+          mark =
+              rw (getD-set-same first b low 0 (rw (g .firsts) place-small), getD-set-same end b e 0 (rw (g .ends) place-small))
+              (sym (lt-ltb low e (first-small (getD first b 0) (getD end b 0) i e (g .each b place-small .bound) lt)))
 
-          stops : ℕ → ℕ
-          stops c = getD (set end b (i + 1)) c 0
+      module _ (next : ℕ) (marked : (c : ℕ) → c < 31 → bit next c ≡ (eqb c b || bit present c)) (same : bit next 31 ≡ bit present 31) where
+        -- Their place takes them in, and its position is marked.
+        pub passed-next : Passed t lo e depth key (set first b (firstOf (getD first b 0) (getD end b 0) i)) (set end b e) next
+        passed-next =
+            record {
+              firsts = length-set first b low ∙ g .firsts;
+              ends = length-set end b e ∙ g .ends;
+              each = λ c h. if-eq (λ (s : Bool). Placed t lo e depth key c (starts c) (stops c)) c b (λ q. rw q own) (other c h);
+              marks = λ c h. marked c h ∙ mark-next c (bit present c) (g .marks c h);
+              no-more = same ∙ g .no-more;
+            }
+          where
+            low : ℕ
+            low = firstOf (getD first b 0) (getD end b 0) i
 
-          small : b < 63
-          small = rw is (node-heap i le lt)
+            -- Where the records of a place start and stop now.
+            starts : ℕ → ℕ
+            starts c = getD (set first b low) c 0
 
-          first-here : starts b ≡ low
-          first-here = getD-set-same first b low 0 (rw (g .firsts) small)
+            stops : ℕ → ℕ
+            stops c = getD (set end b e) c 0
 
-          end-here : stops b ≡ i + 1
-          end-here = getD-set-same end b (i + 1) 0 (rw (g .ends) small)
+            own : Placed t lo e depth key b (starts b) (stops b)
+            own =
+                rw (getD-set-same first b low 0 (rw (g .firsts) place-small), getD-set-same end b e 0 (rw (g .ends) place-small))
+                (placed-own (g .each b place-small))
 
-          own : Placed t lo (i + 1) depth key b (starts b) (stops b)
-          own = rw (first-here, end-here) (placed-own (g .each b small))
-
-          mark : true ≡ ltb (starts b) (stops b)
-          mark = rw (first-here, end-here) (sym (lt-ltb low (i + 1) (first-small (getD first b 0) (getD end b 0) i (g .each b small .bound))))
-
-          other : (c : ℕ) → c < 63 → (c ≡ b → ⊥) → Placed t lo (i + 1) depth key c (starts c) (stops c)
-          other c h ne = rw (getD-set-other first b c low 0 ne, getD-set-other end b c (i + 1) 0 ne) (placed-other ne (g .each c h))
-
-          rest : (c : ℕ) → c < 31 → (c ≡ b → ⊥) → bit present c ≡ ltb (starts c) (stops c)
-          rest c h ne = rw (getD-set-other first b c low 0 ne, getD-set-other end b c (i + 1) 0 ne) (g .marks c h)
+            other : (c : ℕ) → c < 63 → (c ≡ b → ⊥) → Placed t lo e depth key c (starts c) (stops c)
+            other c h ne = rw (getD-set-other first b c low 0 ne, getD-set-other end b c e 0 ne) (placed-other ne (g .each c h))
 
   -- After the last record all is found.
-  module _ {first end : List ℕ} {present : ℕ} (g : Gathering t lo hi depth key first end present) where
+  module _ {first end : List ℕ} {present : ℕ} (g : Passed t lo hi depth key first end present) where
     filed-here : (l j : ℕ) → l ≤ 5 → j < 2 ^ l → (k : ℕ) → lo ≤ k → k < hi
         → filed (slotSize depth) key l j (wideAt t k) ≡ eqb (heapOf depth key (wideAt t k)) (position l j)
     filed-here l j le lt k a h = filed-heap depth key (node .deep) (node .aligned) (wideAt t k) (node-within k a h) l j le lt
@@ -198,8 +198,8 @@ module _ {t : List ℕ} {lo hi depth key : ℕ} (node : Node t lo hi depth key) 
             run-none t f e (omega arith)
             ∙ sym (part-run-none t (filed (slotSize depth) key l j) lo hi (λ k a h. away f e p k a h (λ z. omega arith)))
 
-    pub gathering-done : Gathered t lo hi depth key first end present
-    gathering-done =
+    pub passed-done : Gathered t lo hi depth key first end present
+    passed-done =
         record {
           places = found;
           order = λ b h. g .each b h .order;

@@ -157,6 +157,12 @@ pub slots-zero : (entry : ℕ → ℕ → List Route) (slot : ℕ → List Route
 unfolding slotsOf
 slots-zero entry slot = refl
 
+-- A slot at which no entry begins and that has nothing of its own adds nothing.
+pub slots-past : (entry : ℕ → ℕ → List Route) (slot : ℕ → List Route) (c : ℕ) → heads entry 5 c ≡ [] → slot c ≡ []
+    → slots entry slot (c + 1) ≡ slots entry slot c
+unfolding slotsOf
+slots-past entry slot c none own = rw (add-one c, none, own) (append-nil (slots entry slot c))
+
 -- One slot more: the entries that begin there, and then its own.
 pub slots-more : (entries : ℕ) (hops : List ℕ) (depth key : ℕ) (slot : ℕ → List Route) (c : ℕ) {n e k : ℕ} {o o₁ o₂ o₃ : List ℕ}
     → Wrote (slots (entryAt entries hops depth key) slot c) 0 n o o₁ → length o₁ ≡ length o

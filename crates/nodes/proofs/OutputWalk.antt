@@ -1,17 +1,22 @@
 -- A node's walk, written slot by slot: at each slot the code lends a tail of the output for the entries that begin there, and then another for
--- the slot's own node, if it walks that. Assumes nothing.
-use Prim.Native.Nat.{ℕ, _+_, _-_, _*_, _^_, _≤_, _<_}
-use mathlib.Core.Path.{_≡_, refl, _∙_}
+-- the slot's own node, if it walks that; slots at which nothing is written it may pass over. Assumes nothing.
+use Prim.Native.Nat.{ℕ, zero, suc, _+_, _-_, _*_, _/_, _%_, _^_, _≤_, _<_}
+use mathlib.Core.Path.{_≡_, refl, sym, _∙_}
+use mathlib.Core.Bool.{Bool, true, false, true≢false}
 use mathlib.Core.List.{List, [], _++_}
 use native.Mathlib.Omega.{arith}
+use lib.Dec.{eqb}
 use lib.ListN.{length, take, drop}
 use lib.Pow.{pow-pos}
+use borrow.Author.Tests.{eqb-true}
 use Rattle.theory.specs.Routes.{Route}
+use Rattle.words.specs.Bits.{bit}
+use Rattle.words.specs.Positions.{position}
 use Rattle.positions.specs.Runs.{placeAt}
-use Rattle.positions.specs.Walk.{slots}
+use Rattle.positions.specs.Walk.{headsOf, startsAt, heads, slots}
 use Rattle.nodes.specs.Node.{wide, slotSize}
-use Rattle.nodes.specs.Output.{Wrote, entryAt, slotHeads}
-use Rattle.nodes.proofs.OutputLaws.{wrote-none, wrote-tail, slots-zero, slots-more, slots-count, slots-small, node-count}
+use Rattle.nodes.specs.Output.{Wrote, entryAt, slotHeads, HeadSlots}
+use Rattle.nodes.proofs.OutputLaws.{wrote-none, wrote-tail, slots-zero, slots-past, slots-more, slots-count, slots-small, node-count}
 
 -- The tail of the output from `at` on, as it is lent, and the output once the tail is ys.
 abbrev pub lent : ℕ → List ℕ → List ℕ
@@ -99,6 +104,31 @@ module _ {entries : ℕ} {hops : List ℕ} {depth key : ℕ} {slot : ℕ → Lis
           wrote = b .then (n + k) (relaid at ys o′) (wrote-tail o′ ys at (past .1) (past .0) own);
         }
 
+  -- A slot at which no entry begins and that has nothing of its own may be passed over,
+  walked-over : {c n : ℕ} {o o′ : List ℕ} → Walked entries hops depth key slot c n o o′ → c < 32
+      → heads (entryAt entries hops depth key) 5 c ≡ [] → slot c ≡ [] → Walked entries hops depth key slot (c + 1) n o o′
+  walked-over {c} {n} w lt none own =
+      let count = slots-count (8 * 2 ^ slotSize depth) c n 0 0 (w .few) (omega (arith, pow-pos (slotSize depth))) in
+      record {
+        within = omega arith;
+        few = omega arith;
+        sized = w .sized;
+        wrote = rw (slots-past (entryAt entries hops depth key) slot c none own) (w .wrote);
+      }
+
+  -- and so may k of them.
+  walked-steps : (k : ℕ) {c r n : ℕ} {o o′ : List ℕ} → c + k ≡ r → Walked entries hops depth key slot c n o o′ → r ≤ 32
+      → ((i : ℕ) → c ≤ i → i < r → (heads (entryAt entries hops depth key) 5 i ≡ []) × (slot i ≡ [])) → Walked entries hops depth key slot r n o o′
+  walked-steps zero {c} {r} e w all none = let same : c ≡ r = omega arith in rw same at w
+  walked-steps (suc k) {c} {r} e w all none =
+      let here = none c (omega arith) (omega arith) in
+      walked-steps k {c = c + 1} (omega arith) (walked-over w (omega arith) (here .0) (here .1)) all (λ i a b. none i (omega arith) b)
+
+  -- Slots at which no entry begins and that have nothing of their own may be passed over.
+  pub walked-past : {c r n : ℕ} {o o′ : List ℕ} → Walked entries hops depth key slot c n o o′ → c ≤ r → r ≤ 32
+      → ((i : ℕ) → c ≤ i → i < r → (heads (entryAt entries hops depth key) 5 i ≡ []) × (slot i ≡ [])) → Walked entries hops depth key slot r n o o′
+  walked-past {c} {r} w le all none = walked-steps (r - c) (omega arith) w all none
+
   -- After all 32 the node is written: 6 fewer than 8 records for each of its addresses, or less.
   pub walked-all : {c n : ℕ} {o o′ : List ℕ} → depth ≤ 30 → Walked entries hops depth key slot c n o o′ → 32 ≤ c
       → (n + 6 ≤ 8 * 2 ^ (wide - depth)) × Wrote (slots (entryAt entries hops depth key) slot 32) 0 n o o′
@@ -106,3 +136,30 @@ module _ {entries : ℕ} {hops : List ℕ} {depth key : ℕ} {slot : ℕ → Lis
       let full : c ≡ 32 = omega (arith, w .within) in
       let size : wide - depth ≡ slotSize depth + 5 = omega arith in
       (rw size (omega (arith, node-count (slotSize depth) n (rw full at (w .few)))), rw full at (w .wrote))
+
+-- ---- A slot whose bit is not marked.
+
+module _ (entries marked : ℕ) (heads-marked : HeadSlots entries marked) (hops : List ℕ) (depth key c : ℕ) (within : c < 32)
+    (clear : bit marked c ≡ false) where
+  -- A position that begins there has no entry.
+  no-entry : (l : ℕ) → l < 5 → c % 2 ^ (5 - l) ≡ 0 → (b : Bool) → bit entries (position l (c / 2 ^ (5 - l))) ≡ b → b ≡ false
+  no-entry l lt z false e = refl
+  no-entry l lt z true e = absurd (true≢false (sym (heads-marked c l within lt z e) ∙ clear))
+
+  -- No entry of one level begins there,
+  no-start : (l : ℕ) → l < 5 → startsAt (entryAt entries hops depth key) l c ≡ []
+  no-start l lt = go (eqb (c % 2 ^ (5 - l)) 0) refl
+    where
+      go : (b : Bool) → eqb (c % 2 ^ (5 - l)) 0 ≡ b → startsAt (entryAt entries hops depth key) l c ≡ []
+      go true e = rw (e, no-entry l lt (eqb-true (c % 2 ^ (5 - l)) 0 e) (bit entries (position l (c / 2 ^ (5 - l)))) refl)
+      go false e = rw e
+
+  -- and none of the first levels.
+  no-levels : (l : ℕ) → l ≤ 5 → heads (entryAt entries hops depth key) l c ≡ []
+  unfolding headsOf
+  no-levels zero le = refl
+  no-levels (suc l) le = rw (no-levels l (omega arith), no-start l (omega arith))
+
+  -- Where a slot's bit is not marked, no entry begins there.
+  pub no-heads : heads (entryAt entries hops depth key) 5 c ≡ []
+  no-heads = no-levels 5 (omega arith)

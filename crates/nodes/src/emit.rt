@@ -2,13 +2,17 @@
 
 use table::records::write_record;
 use words::bits::has_bit;
+use words::bits::next_bit;
+use words::bits::with_bit;
 ghost use mathlib.Core.Path.{_≡_};
-ghost use Prim.Native.Nat.{_+_, _*_, _^_, _≤_, _<_};
+ghost use Prim.Native.Nat.{ℕ, _+_, _-_, _*_, _%_, _^_, _≤_, _<_};
 ghost use mathlib.Core.List.{[], _∷_};
+ghost use lib.Dec.{eqb, leb};
 ghost use lib.ListN.{length};
 ghost use Rattle.table.specs.Wire.{route};
+ghost use Rattle.words.specs.Positions.{position};
 ghost use Rattle.nodes.specs.Node.{wide};
-ghost use Rattle.nodes.specs.Output.{Wrote, slotHead, slotHeads};
+ghost use Rattle.nodes.specs.Output.{Wrote, slotHead, slotHeads, HeadSlots};
 
 // Where `count` records end in an output of `len` bytes; its end, where they do not fit.
 pub fn past(count: usize, len: usize) -> usize
@@ -58,6 +62,19 @@ fn emit_level(
     done + 1
 }
 
+// The first level of which a position begins at slot c; 5, where none does. Of each level after it one does, too.
+fn first_level(c: usize) -> usize
+    requires { ⌜ c < 32 ⌝ }
+    ensures { λ r. ⌜ r ≤ 5 ⌝ }
+    ensures { λ r. ⌜ ((l : ℕ) → l < 5 → eqb (c % 2 ^ (5 - l)) 0 ≡ leb r l) ⌝ }
+{
+    if c == 0 {
+        0
+    } else {
+        5 - u32::trailing_zeros(c as u32) as usize
+    }
+}
+
 // Writes the entries of the positions that begin at slot c, by rising length, and says how many they are.
 pub fn emit_slot(
     entries: u32,
@@ -71,11 +88,37 @@ pub fn emit_slot(
     ensures { λ r. ⌜ r ≤ 5 ⌝ }
     ensures { λ r. ⌜ Wrote (slotHeads entries (now (hops .entry)) depth addr c 5) 0 r (now (out .entry)) (now (out .exit)) ⌝ }
 {
+    if entries == 0 {
+        return 0;
+    }
     let mut n: usize = 0;
-    let mut l: usize = 0;
+    let mut l = first_level(c);
     while l < 5 {
         n = emit_level(entries, hops, c, l, addr, depth, n, out);
         l += 1;
     }
     n
+}
+
+// The slot at which position b begins.
+fn slot_of(b: usize) -> usize
+    requires { ⌜ b < 31 ⌝ }
+    ensures { λ r. ⌜ r < 32 ⌝ }
+    ensures { λ r. ⌜ ((l j : ℕ) → l < 5 → j < 2 ^ l → b ≡ position l j → r ≡ j * 2 ^ (5 - l)) ⌝ }
+{
+    let k = b + 1;
+    (k << (u32::leading_zeros(k as u32) - 26)) - 32
+}
+
+// The slots at which a position with an entry begins.
+pub fn head_slots(entries: u32) -> u32
+    ensures { λ r. ⌜ HeadSlots entries r ⌝ }
+{
+    let mut marked: u32 = 0;
+    let mut b = next_bit(entries, 0);
+    while b < 31 {
+        marked = with_bit(marked, slot_of(b) as u32);
+        b = next_bit(entries, b + 1);
+    }
+    marked
 }

@@ -7,14 +7,14 @@ use words::bits::with_bit;
 ghost use mathlib.Core.Path.{_≡_};
 ghost use Prim.Native.Nat.{ℕ, _+_, _-_, _*_, _/_, _^_, _≤_, _<_};
 ghost use lib.Dec.{eqb};
-ghost use mathlib.Core.Bool.{_||_};
+ghost use mathlib.Core.Bool.{false, _||_};
 ghost use lib.ListN.{length, getD};
 ghost use Rattle.table.specs.Wire.{records};
 ghost use Rattle.words.specs.Bits.{bit};
 ghost use Rattle.words.specs.Positions.{position};
 ghost use Rattle.positions.specs.Runs.{sizeAt, placeAt};
 ghost use Rattle.nodes.specs.Node.{wide, slotSize, wideAt, Node};
-ghost use Rattle.nodes.specs.Gathered.{levelOf, Gathered, firstOf, valueOf, overAt, coveringAt};
+ghost use Rattle.nodes.specs.Gathered.{levelOf, Gathered, Occupied, firstOf, valueOf, overAt, coveringAt};
 
 // The wide address of record i.
 pub fn wide_at(table: &[u8], i: usize) -> u64
@@ -99,6 +99,94 @@ pub fn gather(
     present
 }
 
+// The slots with a record, once place b has one; the places from 31 on are slots.
+pub fn with_slot(occupied: u32, b: usize) -> u32
+    requires { ⌜ b < 63 ⌝ }
+    ensures { λ r. ⌜ ((c : ℕ) → c < 32 → bit r c ≡ (eqb (31 + c) b || bit occupied c)) ⌝ }
+{
+    if b < 31 {
+        occupied
+    } else {
+        with_bit(occupied, (b - 31) as u32)
+    }
+}
+
+// The first of the records i..hi that stands at the address `past` or after it; hi where none does.
+pub fn first_past(table: &[u8], i: usize, hi: usize, past: u64) -> usize
+    requires { ⌜ (i ≤ hi) × (hi ≤ records (now table)) ⌝ }
+    ensures { λ r. ⌜ (i ≤ r) × (r ≤ hi) ⌝ }
+    ensures { λ r. ⌜ ((k : ℕ) → i ≤ k → k < r → wideAt (now (table .entry)) k .addr < past) ⌝ }
+    ensures { λ r. ⌜ (r < hi → past ≤ wideAt (now (table .entry)) r .addr) ⌝ }
+{
+    let mut at = i;
+    while at < hi {
+        if past <= wide_at(table, at) {
+            return at;
+        }
+        at += 1;
+    }
+    at
+}
+
+// Where the records of place b end, record i being its first: a slot has all that stand before its end, a position that one.
+pub fn place_end(table: &[u8], i: usize, hi: usize, b: usize, depth: usize, key: u64) -> usize
+    requires { ⌜ (i < hi) × (hi ≤ records (now table)) ⌝ }
+    requires { ⌜ (b < 63) × ((depth ≤ 30) × (key + 2 ^ (wide - depth) ≤ 2 ^ wide)) ⌝ }
+    ensures { λ r. ⌜ (i < r) × (r ≤ hi) ⌝ }
+    ensures { λ r. ⌜ ((k : ℕ) → i < k → k < r → (31 ≤ b) × (wideAt (now (table .entry)) k .addr < placeAt (slotSize depth) key 5 (b - 31) + 2 ^ slotSize depth)) ⌝ }
+    ensures { λ r. ⌜ (r < hi → 31 ≤ b → placeAt (slotSize depth) key 5 (b - 31) + 2 ^ slotSize depth ≤ wideAt (now (table .entry)) r .addr) ⌝ }
+{
+    if b < 31 {
+        i + 1
+    } else {
+        first_past(
+            table,
+            i + 1,
+            hi,
+            slot_key(key, depth, b - 31) + (1 << (30 - depth)),
+        )
+    }
+}
+
+// What one pass finds: the positions with a record, and the slots with one, as the bits of two words.
+pub struct Gathering {
+    pub present: u32,
+    pub occupied: u32,
+}
+
+// Gathers a node's run: for each place of its heap the records first[b]..end[b]; the positions that have one, and the slots that have one.
+// The records of a slot follow each other, so the place is found once for all of them.
+pub fn gather_run(
+    table: &[u8],
+    lo: usize,
+    hi: usize,
+    depth: usize,
+    key: u64,
+    first: &mut [usize; 63],
+    end: &mut [usize; 63],
+) -> Gathering
+    requires { ⌜ Node (now table) lo hi depth key ⌝ }
+    requires { ⌜ (length (now first) ≡ 63) × (length (now end) ≡ 63) ⌝ }
+    requires { ⌜ ((b : ℕ) → b < 63 → (getD (now first) b 0 ≡ 0) × (getD (now end) b 0 ≡ 0)) ⌝ }
+    ensures { λ r. ⌜ Gathered (now (table .entry)) lo hi depth key (now (first .exit)) (now (end .exit)) (r .present) ⌝ }
+    ensures { λ r. ⌜ Occupied (now (table .entry)) lo hi depth key (r .occupied) ⌝ }
+{
+    let mut present: u32 = 0;
+    let mut occupied: u32 = 0;
+    let mut i = lo;
+    while i < hi {
+        let level = level_of(size_at(table, i), depth);
+        let b = heap_index(wide_at(table, i), level, depth, key);
+        let stop = place_end(table, i, hi, b, depth, key);
+        first[b] = first_of(first[b], end[b], i);
+        end[b] = stop;
+        present = marked(present, b);
+        occupied = with_slot(occupied, b);
+        i = stop;
+    }
+    Gathering { present, occupied }
+}
+
 // The hop that covers position b from above.
 pub fn over_at(hops: &[u8; 31], b: usize, above: u8) -> u8
     requires { ⌜ b < 31 ⌝ }
@@ -136,6 +224,24 @@ pub fn covering_values(
         b += 1;
     }
     hops
+}
+
+// The hop that covers each position of a node, its own record included; 64 for none. Where no position has a record it is the inherited one.
+pub fn covering_hops(
+    table: &[u8],
+    present: u32,
+    first: &[usize; 63],
+    end: &[usize; 63],
+    inherited: u8,
+) -> [u8; 31]
+    requires { ⌜ ((b : ℕ) → b < 63 → getD (now end) b 0 ≤ records (now table)) ⌝ }
+    requires { ⌜ ((b : ℕ) → b < 31 → bit present b ≡ false → getD (now end) b 0 ≤ getD (now first) b 0) ⌝ }
+    ensures { λ r. ⌜ ((l j : ℕ) → l ≤ 4 → j < 2 ^ l → getD r (position l j) 0 ≡ coveringAt (now (table .entry)) (now (first .entry)) (now (end .entry)) inherited l j) ⌝ }
+{
+    if present == 0 {
+        return [inherited; 31];
+    }
+    covering_values(table, first, end, inherited)
 }
 
 // The wide address of slot c.

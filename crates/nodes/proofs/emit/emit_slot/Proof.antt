@@ -1,11 +1,12 @@
--- `nodes::emit::emit_slot` meets its contract. The loop: the entries of the first l levels are written, at most one for each. Assumes nothing.
+-- `nodes::emit::emit_slot` meets its contract. The loop: the entries of the first l levels are written, at most one for each; of those before the
+-- level that it starts at there is none. Assumes nothing.
 use mathlib.Core.Path.{_≡_, refl, _∙_}
 use Prim.Native.Nat.{_-_, _≤_}
 use native.Mathlib.Omega.{arith}
 use lib.ListN.{length}
 use borrow.Author.Needs.{needs}
 use Rattle.nodes.specs.Output.{Wrote, slotHeads}
-use Rattle.nodes.proofs.OutputLevels.{heads-none, heads-more}
+use Rattle.nodes.proofs.OutputLevels.{heads-none, heads-before, heads-more}
 use Rattle.nodes.proofs.emit.emit_slot.Statement.{statement}
 use Rattle.nodes.proofs.emit.emit_slot.Tie as tie
 
@@ -16,8 +17,16 @@ Inv-loop entries hops c addr depth out₀ n₀ l₀ out n l =
 abbrev μ-loop : tie.MeasureT-loop
 μ-loop entries hops c addr depth out₀ n₀ l₀ out n l = 5 - l
 
+returns : tie.Need-returns Inv-loop μ-loop
+returns c = (omega arith, heads-none _ _ _ _ _ (c .if1 .taken) 5 _)
+
+first-level-requires : tie.Need-first-level-requires Inv-loop μ-loop
+first-level-requires c κs = c .before .before .pre .0
+
 loop-holds : tie.Need-loop-holds Inv-loop μ-loop
-loop-holds c = (omega arith, (omega arith, (refl, heads-none _ _ _ _ _ _)))
+loop-holds c =
+    let first = c .first-level .ensures in
+    (first .0, (omega arith, (refl, heads-before _ _ _ _ _ _ (first .0) (first .1) _)))
 
 emit-level-requires : tie.Need-emit-level-requires Inv-loop μ-loop
 emit-level-requires c κs = ((omega arith, (omega arith, omega arith)), (omega arith, omega arith))
@@ -38,8 +47,8 @@ loop-again c =
 same-length : tie.Need-same-length Inv-loop μ-loop
 same-length c = c .before .loop .inv .1 .1 .0
 
-returns : tie.Need-returns Inv-loop μ-loop
-returns c =
+returns-2 : tie.Need-returns-2 Inv-loop μ-loop
+returns-2 c =
     let five : c .before .loop .l ≡ 5 = omega arith in
     (omega arith, rw five at (c .before .loop .inv .1 .1 .1))
 
@@ -49,10 +58,12 @@ emit-slot-spec =
     (tie.spec
     Inv-loop
     μ-loop
+    returns
+    first-level-requires
     loop-holds
     emit-level-requires
     add-l
     loop-less
     loop-again
     same-length
-    returns)
+    returns-2)

@@ -1,6 +1,6 @@
 -- `nodes::gather::gather` meets its contract. The loop's invariant: the records from lo up to i are gathered. Assumes nothing.
-use Prim.Native.Nat.{_-_, _^_, _≤_, _<_}
-use mathlib.Core.Path.{_≡_}
+use Prim.Native.Nat.{ℕ, _+_, _-_, _^_, _≤_, _<_}
+use mathlib.Core.Path.{_≡_, sym, ap, _∙_}
 use native.Mathlib.Omega.{arith}
 use lib.Pow.{pow-pos}
 use borrow.Author.Needs.{needs}
@@ -8,12 +8,12 @@ use Rattle.theory.specs.Routes.{Route}
 use Rattle.theory.specs.Shapes.{Within}
 use Rattle.nodes.specs.Node.{wide, wideAt}
 use Rattle.nodes.proofs.GatherPlaces.{heapOf, heap-is}
-use Rattle.nodes.proofs.GatherSteps.{Gathering, gathering-start, gathering-next, gathering-done, node-within, node-heap}
+use Rattle.nodes.proofs.GatherSteps.{Passed, passed-start, passed-next, passed-done, node-within, node-heap}
 use Rattle.nodes.proofs.gather.gather.Statement.{statement}
 use Rattle.nodes.proofs.gather.gather.Tie as tie
 
 abbrev Inv-loop : tie.InvT-loop
-Inv-loop table lo hi depth key first₀ end₀ present₀ i₀ first end present i = (lo ≤ i) × (i ≤ hi) × Gathering table lo i depth key first end present
+Inv-loop table lo hi depth key first₀ end₀ present₀ i₀ first end present i = (lo ≤ i) × (i ≤ hi) × Passed table lo i depth key first end present
 
 abbrev μ-loop : tie.MeasureT-loop
 μ-loop table lo hi depth key first₀ end₀ present₀ i₀ first end present i = hi - i
@@ -24,7 +24,7 @@ loop-holds c =
     let p = c .before .pre in (
       omega arith,
       p .0 .low,
-      gathering-start (a .table .now) (a .lo) (a .depth) (a .key) (a .first .now) (a .end .now) (p .1 .0 .0) (p .1 .0 .1) (p .1 .1),
+      passed-start (a .table .now) (a .lo) (a .depth) (a .key) (a .first .now) (a .end .now) (p .1 .0 .0) (p .1 .0 .1) (p .1 .1),
     )
 
 size-at-requires : tie.Need-size-at-requires Inv-loop μ-loop
@@ -117,11 +117,14 @@ loop-again c =
     let l = c .before .before .before .before .before .before .before .before .before .loop in
     let h = c .before .before .before .before .before .before .before .before .loop-test .taken in
     let place = c .before .before .before .before in
-    let low = l .inv .0 in (
+    let low = l .inv .0 in
+    let a = c .before .before .before .before .before .before .before .before .before .before .before .args in
+    let one : (k : ℕ) → l .i ≤ k → k < l .i + 1 → heapOf (a .depth) (a .key) (wideAt (a .table .now) k) ≡ place .heap-index .result =
+    λ k p q. let e : k ≡ l .i = omega arith in ap (λ (n : ℕ). heapOf (a .depth) (a .key) (wideAt (a .table .now) n)) e ∙ sym (is-heap place) in (
       omega arith,
       omega arith,
       rw (c .before .first-of .ensures)
-          (gathering-next (c .before .before .before .before .before .before .before .before .before .before .before .pre .0) (l .i) low h (place .heap-index .result) (is-heap place) (l .inv .2)
+          (passed-next (c .before .before .before .before .before .before .before .before .before .before .before .pre .0) (l .i) (l .i + 1) low (omega arith) (omega arith) (place .heap-index .result) one (l .inv .2)
           (c .marked .result) (c .marked .ensures .0) (c .marked .ensures .1)),
     )
 
@@ -129,7 +132,7 @@ returns : tie.Need-returns Inv-loop μ-loop
 returns c =
     let l = c .before .loop in
     let e : l .i ≡ c .before .before .before .args .hi = omega (arith, l .inv .1, c .loop-test .left) in
-    gathering-done (c .before .before .before .pre .0) (rw e at (l .inv .2))
+    passed-done (c .before .before .before .pre .0) (rw e at (l .inv .2))
 
 pub gather-spec : {M : Type 1} → statement M
 gather-spec =

@@ -1,13 +1,12 @@
 -- The walk of modes 2 and 3 through a node, by its slots: where the bits and the hops of its positions are the entries that the walk puts out
 -- there, it is those entries and the walks of the slots, each over its own records.
-use Prim.Native.Nat.{ℕ, _+_, _-_, _*_, _^_, _≤_, _<_}
+use Prim.Native.Nat.{ℕ, _+_, _-_, _^_, _≤_, _<_}
 use mathlib.Core.Path.{_≡_, sym, ap, _∙_}
 use mathlib.Core.Bool.{Bool}
 use mathlib.Core.List.{List, []}
 use native.Mathlib.Nat.{le-refl}
 use native.Mathlib.Omega.{arith}
 use lib.ListN.{getD}
-use lib.Pow.{pow-pos}
 use Rattle.theory.specs.Routes.{Route, Answer}
 use Rattle.positions.specs.Runs.{sizeAt, placeAt}
 use Rattle.positions.specs.Walk.{walk, stateAt, slots}
@@ -17,7 +16,6 @@ use Rattle.positions.proofs.Slots.{slots-agree, walk-slots}
 use Rattle.nodes.specs.Node.{wide, run, slotSize, Node}
 use Rattle.nodes.specs.Gathered.{runAt, Gathered}
 use Rattle.nodes.specs.Output.{entryAt}
-use Rattle.nodes.proofs.OutputLaws.{slots-count, node-count}
 use Rattle.nodes.proofs.GatherLaws.{slot-records, no-child}
 
 -- The walk of some routes: by the test that leaves entries out and the step of an own hop.
@@ -59,25 +57,3 @@ module _ {S : Type 0} (leftOut : ℕ → S → Bool) (step : Answer → S → S)
       rw size (walk-slots (keptOut leftOut wide (run t lo hi)) (keptNext step wide (run t lo hi)) (slotSize depth) key s
       ∙ slots-agree 5 _ (entryAt entries hops depth key) (λ l j lt small. sym (same l j (omega arith) small))
       _ _ (λ c lt. kept-child c lt (keptState leftOut step (run t lo hi) (slotSize depth) key s 5 c)) 32 (le-refl 32))
-
--- ---- How many entries the slots have: with up to 5 of the positions that begin there, and 6 fewer than 8 for each address in a slot's own node.
-
--- A slot with a node.
-pub few-child : (depth c n e k : ℕ) → depth ≤ 30 → n + c ≤ c * (8 * 2 ^ slotSize depth) → e ≤ 5 → k + 6 ≤ 8 * 2 ^ (wide - (depth + 5))
-    → (n + (e + k)) + (c + 1) ≤ (c + 1) * (8 * 2 ^ slotSize depth)
-few-child depth c n e k deep few five six =
-    let size : wide - (depth + 5) ≡ slotSize depth = omega arith in
-    let own : k + 6 ≤ 8 * 2 ^ slotSize depth = rw size at six in
-    slots-count (8 * 2 ^ slotSize depth) c n e k few (omega arith)
-
--- A slot without.
-pub few-alone : (depth c n e : ℕ) → n + c ≤ c * (8 * 2 ^ slotSize depth) → e ≤ 5 → (n + e) + (c + 1) ≤ (c + 1) * (8 * 2 ^ slotSize depth)
-few-alone depth c n e few five =
-    let more = slots-count (8 * 2 ^ slotSize depth) c n e 0 few (omega (arith, pow-pos (slotSize depth))) in
-    omega arith
-
--- All slots.
-pub few-all : (depth c n : ℕ) → depth ≤ 30 → c ≡ 32 → n + c ≤ c * (8 * 2 ^ slotSize depth) → n + 6 ≤ 8 * 2 ^ (wide - depth)
-few-all depth c n deep all few =
-    let size : wide - depth ≡ slotSize depth + 5 = omega arith in
-    rw size (omega (arith, node-count (slotSize depth) n (rw all at few)))

@@ -14,7 +14,7 @@ use borrow.Author.Tests.{lt-ltb, le-ltb, eq-eqb, ne-eqb}
 use Rattle.theory.specs.Routes.{Route, Answer, none, via}
 use Rattle.theory.specs.Shapes.{routed}
 use Rattle.table.specs.Wire.{route, routeAt}
-use Rattle.words.specs.Bits.{bit}
+use Rattle.words.specs.Bits.{bit, NextBit}
 use Rattle.words.specs.Positions.{position}
 use Rattle.words.proofs.BitLaws.{if-lt, if-eq, bit-zero}
 use Rattle.words.proofs.PositionLaws.{in-word, above}
@@ -83,6 +83,18 @@ module _ (test : ℕ → Bool) where
   pub marked-all : (b x : ℕ) → 31 ≤ b → Marked test b x → (i : ℕ) → i < 31 → bit x i ≡ test i
   marked-all b x all m i lt = m i lt ∙ rw (lt-ltb i b (omega arith))
 
+-- None more up to the next position of a word that has every position with a record.
+pub marked-past : (first end hops : List ℕ) (inherited x : ℕ) {present b r : ℕ}
+    → ((i : ℕ) → i < 31 → bit present i ≡ false → getD end i 0 ≤ getD first i 0) → NextBit present b r
+    → Marked (entryBit first end hops inherited) b x → Marked (entryBit first end hops inherited) r x
+marked-past first end hops inherited x {b = b} {r} absent next m i lt =
+    m i lt
+    ∙ if-lt (λ (t : Bool). (t && entryBit first end hops inherited i) ≡ (ltb i r && entryBit first end hops inherited i)) i b
+    (λ h. rw (lt-ltb i r (omega (arith, next .low))))
+    (λ h. if-lt (λ (t : Bool). false ≡ (t && entryBit first end hops inherited i)) i r
+    (λ k. sym (bare-no-entry (getD first i 0) (getD end i 0) (getD hops i 0) (overAt hops i inherited) (absent i lt (next .clear i h k))))
+    (λ k. refl))
+
 -- ---- What a hop of the code says.
 
 -- What says a hop is that hop, below 64.
@@ -133,6 +145,11 @@ entry-is t from upto hop over place size len o long own covers = go (decLt from 
 abbrev pub mapSlot : List ℕ → List ℕ → List ℕ → List ℕ → ℕ → ℕ → ℕ → List Route
 mapSlot t first end hops depth key c =
     keptWalk isSame orElse (runAt t first end (31 + c)) (slotSize depth) (placeAt (slotSize depth) key 5 c) (hopOf (getD hops (15 + c / 2) 0))
+
+-- Where the slot has no records it is empty.
+pub map-no-child : {t : List ℕ} {lo hi depth key : ℕ} {first end : List ℕ} {present : ℕ} → Gathered t lo hi depth key first end present
+    → (hops : List ℕ) (c : ℕ) → c < 32 → getD end (31 + c) 0 ≤ getD first (31 + c) 0 → mapSlot t first end hops depth key c ≡ []
+map-no-child g hops c lt le = kept-no-child isSame orElse g c lt le (hopOf (getD hops (15 + c / 2) 0))
 
 -- What the code finds of a node before it writes: the records of each place, the hops that cover the positions, and which have an entry.
 pub record Found (t : List ℕ) (lo hi depth key inherited : ℕ) (first end hops : List ℕ) (entries : ℕ) : Type 0 where
@@ -203,7 +220,3 @@ module _ {t : List ℕ} {lo hi depth key inherited : ℕ} {first end hops : List
   map-child c place e =
       let size : wide - (depth + 5) ≡ slotSize depth = omega (arith, f .node .deep) in
       rw (size, e)
-
-  -- One without has nothing.
-  pub map-no-child : (c : ℕ) → c < 32 → getD end (31 + c) 0 ≤ getD first (31 + c) 0 → mapSlot t first end hops depth key c ≡ []
-  map-no-child c lt le = kept-no-child isSame orElse (f .gathered) c lt le (hopOf (getD hops (15 + c / 2) 0))

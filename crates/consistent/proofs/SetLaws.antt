@@ -35,6 +35,12 @@ setSlot t lo hi depth key first end c =
     setWalk (runAt t first end (31 + c)) (slotSize depth) (placeAt (slotSize depth) key 5 c)
     (keptState isBelow orRouted (run t lo hi) (slotSize depth) key false 5 c)
 
+-- At a slot without records it puts out nothing.
+pub slot-without : {t : List ℕ} {lo hi depth key : ℕ} {first end : List ℕ} {present : ℕ} → Gathered t lo hi depth key first end present
+    → (c : ℕ) → c < 32 → getD end (31 + c) 0 ≤ getD first (31 + c) 0 → setSlot t lo hi depth key first end c ≡ []
+slot-without {t} {lo} {hi} {depth} {key} g c lt le =
+    kept-no-child isBelow orRouted g c lt le (keptState isBelow orRouted (run t lo hi) (slotSize depth) key false 5 c)
+
 -- Below a route nothing is put out.
 pub set-covered : (rs : List Route) (n a : ℕ) → setWalk rs n a true ≡ []
 set-covered rs n a =
@@ -72,15 +78,10 @@ module _ {t : List ℕ} {lo hi depth key : ℕ} {first end : List ℕ} {under en
   slot-state c lt =
       consistent-set-state wide (slotSize depth) key (run t lo hi) false 5 c ∙ sym (slot-is (f .gathered) (f .members) c lt)
 
-  -- A slot below a member has no entries,
+  -- A slot below a member has no entries.
   pub slot-below-member : (c : ℕ) → c < 32 → bit under c ≡ true → setSlot t lo hi depth key first end c ≡ []
   slot-below-member c lt e =
       rw (slot-state c lt, e) (set-covered (runAt t first end (31 + c)) (slotSize depth) (placeAt (slotSize depth) key 5 c))
-
-  -- nor has one without records.
-  pub slot-without : (c : ℕ) → c < 32 → getD end (31 + c) 0 ≤ getD first (31 + c) 0 → setSlot t lo hi depth key first end c ≡ []
-  slot-without c lt le =
-      kept-no-child isBelow orRouted (f .gathered) c lt le (keptState isBelow orRouted (run t lo hi) (slotSize depth) key false 5 c)
 
   -- Another has those of its node: what a call for that node wrote is what the walk puts out at the slot.
   pub slot-open : (c : ℕ) → c < 32 → bit under c ≡ false → (a : ℕ) → a ≡ placeAt (slotSize depth) key 5 c

@@ -1,14 +1,16 @@
 // Mode 3: the entries of a map whose hop differs from that of the nearest entry above.
 
 use nodes::emit::emit_slot;
+use nodes::emit::head_slots;
 use nodes::emit::past;
-use nodes::gather::covering_values;
-use nodes::gather::gather;
+use nodes::gather::covering_hops;
+use nodes::gather::gather_run;
 use nodes::gather::over_at;
 use nodes::gather::slot_key;
+use words::bits::next_bit;
 use words::bits::with_bit;
 ghost use mathlib.Core.Path.{_≡_};
-ghost use mathlib.Core.Bool.{not, _&&_, _||_};
+ghost use mathlib.Core.Bool.{false, not, _&&_, _||_};
 ghost use Prim.Native.Nat.{ℕ, _+_, _-_, _*_, _^_, _≤_, _<_};
 ghost use lib.Dec.{eqb, ltb};
 ghost use lib.ListN.{getD};
@@ -34,11 +36,18 @@ fn with_entry(entries: u32, b: u32, first: usize, end: usize, hop: u8, over: u8)
 }
 
 // The positions of a node with a record whose hop is not the one that covers them from above.
-fn entries_of(first: &[usize; 63], end: &[usize; 63], hops: &[u8; 31], inherited: u8) -> u32
+fn entries_of(
+    present: u32,
+    first: &[usize; 63],
+    end: &[usize; 63],
+    hops: &[u8; 31],
+    inherited: u8,
+) -> u32
+    requires { ⌜ ((b : ℕ) → b < 31 → bit present b ≡ false → getD (now end) b 0 ≤ getD (now first) b 0) ⌝ }
     ensures { λ r. ⌜ ((b : ℕ) → b < 31 → bit r b ≡ (ltb (getD (now (first .entry)) b 0) (getD (now (end .entry)) b 0) && not (eqb (getD (now (hops .entry)) b 0) (overAt (now (hops .entry)) b inherited)))) ⌝ }
 {
     let mut entries: u32 = 0;
-    let mut b: usize = 0;
+    let mut b = next_bit(present, 0);
     while b < 31 {
         entries = with_entry(
             entries,
@@ -48,7 +57,7 @@ fn entries_of(first: &[usize; 63], end: &[usize; 63], hops: &[u8; 31], inherited
             hops[b],
             over_at(hops, b, inherited),
         );
-        b += 1;
+        b = next_bit(present, b + 1);
     }
     entries
 }
@@ -70,11 +79,12 @@ pub fn aggregate_consistent_map(
 {
     let mut first = [0usize; 63];
     let mut end = [0usize; 63];
-    gather(table, lo, hi, depth, key, &mut first, &mut end);
-    let hops = covering_values(table, &first, &end, inherited);
-    let entries = entries_of(&first, &end, &hops, inherited);
+    let g = gather_run(table, lo, hi, depth, key, &mut first, &mut end);
+    let hops = covering_hops(table, g.present, &first, &end, inherited);
+    let entries = entries_of(g.present, &first, &end, &hops, inherited);
+    let busy = g.occupied | head_slots(entries);
     let mut n: usize = 0;
-    let mut c: usize = 0;
+    let mut c = next_bit(busy, 0);
     while c < 32 {
         let slot = slot_key(key, depth, c);
         let here = past(n, out.len());
@@ -82,7 +92,7 @@ pub fn aggregate_consistent_map(
         let from = first[31 + c];
         let to = end[31 + c];
         let cover = hops[15 + c / 2];
-        c += 1;
+        c = next_bit(busy, c + 1);
         if from < to {
             let here = past(n, out.len());
             n += aggregate_consistent_map(

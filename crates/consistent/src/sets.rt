@@ -1,10 +1,12 @@
 // Mode 2: the members of a set with no member above them.
 
 use nodes::emit::emit_slot;
+use nodes::emit::head_slots;
 use nodes::emit::past;
-use nodes::gather::gather;
+use nodes::gather::gather_run;
 use nodes::gather::slot_key;
 use words::bits::has_bit;
+use words::bits::next_bit;
 use words::coverage::keep_of;
 use words::coverage::member_coverage;
 ghost use mathlib.Core.Path.{_≡_};
@@ -32,13 +34,14 @@ pub fn aggregate_consistent_set(
 {
     let mut first = [0usize; 63];
     let mut end = [0usize; 63];
-    let present = gather(table, lo, hi, depth, key, &mut first, &mut end);
+    let g = gather_run(table, lo, hi, depth, key, &mut first, &mut end);
     let hops = [0u8; 31];
-    let members = member_coverage(present);
+    let members = member_coverage(g.present);
     let under = members.children_under_member;
-    let entries = keep_of(present, 0, members.covered);
+    let entries = keep_of(g.present, 0, members.covered);
+    let busy = g.occupied | head_slots(entries);
     let mut n: usize = 0;
-    let mut c: usize = 0;
+    let mut c = next_bit(busy, 0);
     while c < 32 {
         let slot = slot_key(key, depth, c);
         let here = past(n, out.len());
@@ -46,7 +49,7 @@ pub fn aggregate_consistent_set(
         let from = first[31 + c];
         let to = end[31 + c];
         let gone = has_bit(under, c as u32);
-        c += 1;
+        c = next_bit(busy, c + 1);
         if from < to {
             if !gone {
                 let here = past(n, out.len());

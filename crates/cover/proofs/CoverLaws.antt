@@ -188,6 +188,7 @@ module _ {t : List ℕ} {lo hi depth key : ℕ} {first end : List ℕ} {present 
     (halves : (l j : ℕ) → l < 5 → j < 2 ^ l
     → p l j ≡ (routed (ownAt wide (slotSize depth) key (run t lo hi) l j) || (p (suc l) (2 * j) && p (suc l) (2 * j + 1)))) (covered : ℕ)
     (slots : (c : ℕ) → c < 32 → bit covered c ≡ p 5 c) where
+  -- By the levels from the slots up,
   whole-is : (k l j : ℕ) → k + l ≡ 5 → j < 2 ^ l → whole present covered k j ≡ p l j
   unfolding whole
   whole-is zero l j e lt =
@@ -200,6 +201,7 @@ module _ {t : List ℕ} {lo hi depth key : ℕ} {first end : List ℕ} {present 
       (whole-is k (suc l) (2 * j + 1) (omega arith) (omega (arith, pow-suc 2 l))))
       ∙ sym (halves l j (omega arith) lt)
 
+  -- and in the word that the fold gives.
   pub folded-is : (r : ℕ) → WhollyCovered present covered r → (l j : ℕ) → l ≤ 4 → j < 2 ^ l → bit r (position l j) ≡ p l j
   folded-is r w l j le lt = w .inside l j le lt ∙ whole-is (5 - l) l j (omega arith) lt
 

@@ -3,13 +3,12 @@
 -- above it is. A slot below a member of the node is covered, and nothing in it is listed: it is not walked.
 use Prim.Native.Nat.{ℕ, zero, suc, _+_, _-_, _*_, _/_, _^_, _≤_, _<_}
 use mathlib.Core.Path.{_≡_, refl, sym, ap, ap₂, _∙_}
-use mathlib.Core.Bool.{Bool, true, false, cond, not, _&&_, _||_, and-false, or-true}
+use mathlib.Core.Bool.{Bool, true, false, true≢false, cond, not, _&&_, _||_, or-true, or-false}
 use mathlib.Core.List.{List, [], _∷_}
 use mathlib.Core.Logic.{_⊎_, inl, inr}
 use native.Mathlib.Nat.{le-refl}
 use native.Mathlib.Omega.{arith}
 use lib.Bits.{bitOr}
-use lib.Dec.{eqb}
 use lib.ListN.{getD}
 use lib.Pow.{high}
 use Rattle.theory.specs.Results.{throughout, prefix, part}
@@ -19,10 +18,10 @@ use Rattle.theory.proofs.Maximal.{throughout-each}
 use Rattle.theory.proofs.Parts.{part-swap, part-none, part-whole, member-part}
 use Rattle.words.specs.Bits.{bit}
 use Rattle.words.specs.Coverage.{UnderMembers, WhollyCovered}
-use Rattle.words.specs.Positions.{position, atLevel}
+use Rattle.words.specs.Positions.{position}
 use Rattle.words.specs.Rules.{PushedSlots}
 use Rattle.words.proofs.BitLaws.{bit-or}
-use Rattle.words.proofs.PositionLaws.{in-word, level-of}
+use Rattle.words.proofs.PositionLaws.{in-word, pushed-is}
 use Rattle.positions.specs.Runs.{isIn, inside, sizeAt, placeAt, memberOver}
 use Rattle.positions.specs.Walk.{walk, stateOf, stateAt, slots}
 use Rattle.positions.specs.Walks.{maximalOut, maximalNext}
@@ -118,6 +117,7 @@ uncovered-slot m a t c = part-swap (isIn wide m (placeAt m a 5 c)) stays t ∙ g
     go true e = part-none stays here (λ r i. rw (at r i, e))
     go false e = part-whole stays here (λ r i. rw (at r i, e))
 
+-- So they are chosen slot by slot.
 pub uncovered-selects : (m a : ℕ) (t : List Route) → Selects m a t (uncovered m a t)
 uncovered-selects m a t c = go (memberOver wide m a t 5 c) (uncovered-slot m a t c)
   where
@@ -196,9 +196,15 @@ pub record Opened (t : List ℕ) (lo hi depth key : ℕ) (first end : List ℕ) 
   pub members : UnderMembers present covered under
   pub chosen : (c : ℕ) → c < 32 → bit walked c ≡ (bit occupied c && not (bit under c))
 
+-- A member of the node stands above slot c, or else the slot has no record.
+abbrev Passed : List ℕ → ℕ → ℕ → ℕ → ℕ → List ℕ → List ℕ → ℕ → Type 0
+Passed t lo hi depth key first end c =
+    (memberOver wide (slotSize depth) key (run t lo hi) 5 c ≡ true)
+    ⊎ ((memberOver wide (slotSize depth) key (run t lo hi) 5 c ≡ false) × (getD end (31 + c) 0 ≤ getD first (31 + c) 0))
+
 module _ {t : List ℕ} {lo hi depth key : ℕ} {first end : List ℕ} {present under walked : ℕ}
     (s : Opened t lo hi depth key first end present under walked) (c : ℕ) (lt : c < 32) where
-  -- One that is walked has a record,
+  -- A slot that is walked has a record,
   pub walked-has : bit walked c ≡ true → getD first (31 + c) 0 < getD end (31 + c) 0
   walked-has e = slot-occupied (s .gathered) (s .occupied) (s .filled) c lt (go (bit (s .occupied) c) (bit under c) (sym (s .chosen c lt) ∙ e))
     where
@@ -215,18 +221,15 @@ module _ {t : List ℕ} {lo hi depth key : ℕ} {first end : List ℕ} {present 
       go true true e = sym e
       go false true e = sym e
 
-  -- One that is not has a member above it, or else no record.
-  passed-is : bit walked c ≡ false
-      → (memberOver wide (slotSize depth) key (run t lo hi) 5 c ≡ true)
-      ⊎ ((memberOver wide (slotSize depth) key (run t lo hi) 5 c ≡ false) × (getD end (31 + c) 0 ≤ getD first (31 + c) 0))
+  -- One that is not is passed over for one of the two.
+  passed-is : bit walked c ≡ false → Passed t lo hi depth key first end c
   passed-is e = go (bit under c) (slot-is (s .gathered) (s .members) c lt) (bit (s .occupied) c) refl (sym (s .chosen c lt) ∙ e)
     where
       go : (u : Bool) → u ≡ memberOver wide (slotSize depth) key (run t lo hi) 5 c → (o : Bool) → bit (s .occupied) c ≡ o → (o && not u) ≡ false
-          → (memberOver wide (slotSize depth) key (run t lo hi) 5 c ≡ true)
-          ⊎ ((memberOver wide (slotSize depth) key (run t lo hi) 5 c ≡ false) × (getD end (31 + c) 0 ≤ getD first (31 + c) 0))
+          → Passed t lo hi depth key first end c
       go true m o p e = inl (sym m)
       go false m false p e = inr (sym m, slot-vacant (s .gathered) (s .occupied) (s .filled) c lt p)
-      go false m true p e = absurd (let z : _≡_ {A = ℕ} 0 1 = cc in omega arith)
+      go false m true p e = absurd (true≢false e)
 
   -- Of a slot that is walked all routes are,
   pub walked-routes : bit walked c ≡ true
@@ -241,8 +244,7 @@ module _ {t : List ℕ} {lo hi depth key : ℕ} {first end : List ℕ} {present 
       here : List Route
       here = inside wide (slotSize depth) (placeAt (slotSize depth) key 5 c) (run t lo hi)
 
-      go : (memberOver wide (slotSize depth) key (run t lo hi) 5 c ≡ true)
-          ⊎ ((memberOver wide (slotSize depth) key (run t lo hi) 5 c ≡ false) × (getD end (31 + c) 0 ≤ getD first (31 + c) 0))
+      go : Passed t lo hi depth key first end c
           → inside wide (slotSize depth) (placeAt (slotSize depth) key 5 c) (uncovered (slotSize depth) key (run t lo hi))
           ≡ cond (memberOver wide (slotSize depth) key (run t lo hi) 5 c) [] here
           → inside wide (slotSize depth) (placeAt (slotSize depth) key 5 c) (uncovered (slotSize depth) key (run t lo hi)) ≡ []
@@ -267,28 +269,15 @@ module _ {t : List ℕ} {lo hi depth key : ℕ} {first end : List ℕ} {present 
       found : Bool
       found = coveredAt (held wide (run t lo hi)) (slotSize depth) key 5 c
 
-      none : (over ≡ true) ⊎ ((over ≡ false) × (getD end (31 + c) 0 ≤ getD first (31 + c) 0)) → over ≡ found
+      none : Passed t lo hi depth key first end c → over ≡ found
       none (inl m) = m ∙ sym (here-is (s .node) (s .gathered) 5 c (omega arith) lt ∙ rw m)
       none (inr (m, free)) = m ∙ sym (empty-here (s .node) (s .gathered) c lt free m)
 
       go : (b : Bool) → bit walked c ≡ b → ((b && found) || over) ≡ found
-      go true e = rw (walked-free e) (or-nothing found)
-        where
-          or-nothing : (b : Bool) → (b || false) ≡ b
-          or-nothing true = refl
-          or-nothing false = refl
+      go true e = rw (walked-free e) (or-false found)
       go false e = none (passed-is e)
 
 -- ---- The second walk's words.
-
--- With bit 31 of the word clear nothing strays: a slot is marked exactly when the position above it is in the word.
-pub pushed-is : (cov pushed : ℕ) → bit cov 31 ≡ false → PushedSlots cov pushed → (c : ℕ) → c < 32 → bit pushed c ≡ bit cov (position 4 (c / 2))
-pushed-is cov pushed z f c lt =
-    let e : c + 31 ≡ position 5 c = omega arith in
-    let q : (c + 31 - 1) / 2 ≡ position 4 (c / 2) = omega arith in
-    f c lt
-    ∙ ap₂ _||_ (ap (λ (b : Bool). eqb (c / 2) 8 && b) z ∙ and-false (eqb (c / 2) 8))
-    (ap₂ _&&_ (ap (atLevel 5) e ∙ level-of 5 5 c lt) (ap (bit cov) q))
 
 -- What the walk lists of slot c, where the word says which slots are below a covered position of the node, and `above` whether one above the
 -- node is covered.
@@ -401,8 +390,6 @@ pub passed-nothing : {t : List ℕ} {lo hi depth key : ℕ} {first end : List �
     → PushedSlots cov pushed → (c : ℕ) → c < 32 → bit walked c ≡ false → maximalSlot t depth key above first end pushed c ≡ []
 passed-nothing {t} {lo} {hi} {depth} {key} {first} {end} s is above pushed f c lt e = go (passed-is s c lt e)
   where
-    go : (memberOver wide (slotSize depth) key (run t lo hi) 5 c ≡ true)
-        ⊎ ((memberOver wide (slotSize depth) key (run t lo hi) 5 c ≡ false) × (getD end (31 + c) 0 ≤ getD first (31 + c) 0))
-        → maximalSlot t depth key above first end pushed c ≡ []
+    go : Passed t lo hi depth key first end c → maximalSlot t depth key above first end pushed c ≡ []
     go (inl m) = below-member-slot (s .node) (s .gathered) is above pushed f c lt m
     go (inr (m, none)) = no-child-slot (s .node) (s .gathered) is above pushed f c lt none

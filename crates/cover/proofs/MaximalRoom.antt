@@ -1,7 +1,7 @@
 -- The two walks of mode 1 at a node, a slot at a time: the first lays the coverage of the nodes in the work room, from the last slot to the first,
 -- and the second reads it there, from the first slot to the last. Both pass over the slots that are not walked.
 use Prim.Native.Nat.{ℕ, zero, suc, _+_, _-_, _*_, _^_, _≤_, _<_}
-use mathlib.Core.Path.{_≡_, refl, sym, ap, _∙_}
+use mathlib.Core.Path.{_≡_, refl, ap, _∙_}
 use mathlib.Core.Bool.{Bool, true, false, _&&_, _||_}
 use mathlib.Core.List.{List, [], _∷_}
 use native.Mathlib.Omega.{arith}
@@ -13,7 +13,7 @@ use Rattle.theory.specs.Routes.{Route, held}
 use Rattle.words.specs.Bits.{bit, NextBit, LastBit}
 use Rattle.words.specs.Coverage.{WhollyCovered}
 use Rattle.words.specs.Rules.{PushedSlots}
-use Rattle.words.proofs.BitLaws.{bit-or}
+use Rattle.words.proofs.BitLaws.{neither}
 use Rattle.positions.specs.Runs.{inside, placeAt}
 use Rattle.positions.specs.Walk.{heads}
 use Rattle.nodes.specs.Gathered.{runAt}
@@ -25,7 +25,7 @@ use Rattle.nodes.proofs.OutputWalk.{Past, lent, relaid, Walked, Begun, walked-n
 use Rattle.nodes.proofs.RoomBlocks.{run-length, slot-some, block-by-deep}
 use Rattle.nodes.proofs.RoomLaws.{pushed-word, begins-word}
 use Rattle.nodes.proofs.RoomSizes.{Sized, nodes-below-deep, slot-nodes-le, block-by-length, room-child, room-own}
-use Rattle.nodes.proofs.RoomWalk.{laid-start, laid-next, laid-skip, laid-length, laid-own, ahead-start, ahead-next, ahead-skip, ahead-end}
+use Rattle.nodes.proofs.RoomWalk.{laid-start, laid-next, laid-skip, laid-length, laid-own, ahead-start, ahead-next, ahead-past, ahead-end}
 use Rattle.cover.specs.Coverage.{IsCoverage, coverageWord, uncovered, Entries}
 use Rattle.cover.proofs.CoverLaws.{SlotsCovered, passes-down, slots-none, slots-take, slots-skip, slots-all}
 use Rattle.cover.proofs.MaximalLaws.{maximalWalk, coveredAt, uncovered-selects, coverage-is, Opened, walked-has, walked-routes, passed-routes, child-bit, joined-bit, maximalSlot, maximal-slots, passed-nothing}
@@ -42,16 +42,17 @@ coverage-sized k = block-by-length 160 uncovered uncovered-selects coverageWord 
 abbrev pub openRoutes : List ℕ → ℕ → ℕ → ℕ → ℕ → List Route
 openRoutes t lo hi depth key = uncovered (slotSize depth) key (run t lo hi)
 
--- A slot that is walked has some of them, and the block of its node as its own; another has none.
 module _ {t : List ℕ} {lo hi depth key : ℕ} {first end : List ℕ} {present under walked : ℕ}
     (s : Opened t lo hi depth key first end present under walked) (c : ℕ) (lt : c < 32) where
+  -- A slot that is walked has some of them,
   slot-routes : bit walked c ≡ true → 0 < length (inside wide (slotSize depth) (placeAt (slotSize depth) key 5 c) (openRoutes t lo hi depth key))
   slot-routes e = rw (walked-routes s c lt e) (omega (arith, run-length t (getD first (31 + c) 0) (getD end (31 + c) 0), walked-has s c lt e))
 
+  -- another has none.
   slot-none : bit walked c ≡ false → length (inside wide (slotSize depth) (placeAt (slotSize depth) key 5 c) (openRoutes t lo hi depth key)) ≡ 0
   slot-none e = ap length (passed-routes s c lt e)
 
-  -- Its records are those of a node.
+  -- The records of one that is walked are those of a node.
   pub slot-node : bit walked c ≡ true → Node t (getD first (31 + c) 0) (getD end (31 + c) 0) (depth + 5) (placeAt (slotSize depth) key 5 c)
   slot-node e = child-node (s .node) (s .gathered) c lt (walked-has s c lt e)
 
@@ -100,7 +101,7 @@ module _ {t : List ℕ} {lo hi depth key : ℕ} {first end : List ℕ} {present 
         slots = slots-skip (w .slots) (b - 1) (λ i. leb (b - 1) i) (passes-down b pos) (rw e);
       }
 
-  -- and so are all down to the next that is.
+  -- and so are d of them,
   collect-past : (d : ℕ) {b k at covered : ℕ} {o′ : List ℕ} → b ≡ k + d → ((i : ℕ) → k ≤ i → i < b → bit walked i ≡ false)
       → Collecting t lo hi depth key first end present under walked top o b at covered o′
       → Collecting t lo hi depth key first end present under walked top o k at covered o′
@@ -108,6 +109,7 @@ module _ {t : List ℕ} {lo hi depth key : ℕ} {first end : List ℕ} {present 
   collect-past (suc d) {b} e clear w =
       collect-past d (omega arith) (λ i low lt. clear i low (omega arith)) (collect-skip w (omega arith) (clear (b - 1) (omega arith) (omega arith)))
 
+  -- down to one past the next that is walked.
   collect-down : {b k at covered : ℕ} {o′ : List ℕ} → LastBit walked b k → Collecting t lo hi depth key first end present under walked top o b at covered o′
       → Collecting t lo hi depth key first end present under walked top o k at covered o′
   collect-down {b} {k} l w = collect-past (b - k) (omega (arith, l .high)) (λ i low lt. l .clear i low lt) w
@@ -250,14 +252,13 @@ module _ {t : List ℕ} {lo hi depth key : ℕ} {first end : List ℕ} {present 
     ahead-child ends = record { each = λ ws b i. let k = child-block ws b i in rw (ends (k .0) (k .1) (k .2)) (k .3) }
 
   -- Slots that are not walked are passed over.
-  ahead-past : (d : ℕ) {c r at : ℕ} → c + d ≡ r → r ≤ 32 → ((i : ℕ) → c ≤ i → i < r → bit walked i ≡ false) → Ahead t lo hi depth key top o c at
+  ahead-on : {c r at : ℕ} → Ahead t lo hi depth key top o c at → c ≤ r → r ≤ 32 → ((i : ℕ) → c ≤ i → i < r → bit walked i ≡ false)
       → Ahead t lo hi depth key top o r at
-  ahead-past zero {c} {r} e le clear ahead = let same : c ≡ r = omega arith in rw same at ahead
-  ahead-past (suc d) {c} {r} e le clear ahead =
-      ahead-past d {c = c + 1} (omega arith) le (λ i low lt. clear i (omega arith) lt) (record {
-        each = λ ws b i. ahead-skip (deeperBlock depth) (slotSize depth) key (openRoutes t lo hi depth key) (ahead .each ws b i) (omega arith)
-            (slot-none s c (omega arith) (clear c (omega arith) (omega arith)));
-      })
+  ahead-on ahead from upto clear =
+      record {
+        each = λ ws b i. ahead-past (deeperBlock depth) (slotSize depth) key (openRoutes t lo hi depth key) (ahead .each ws b i) from upto
+            (λ c low lt. slot-none s c (omega arith) (clear c low lt));
+      }
 
 -- After the last slot the node's block has ended.
 pub ahead-all : {t : List ℕ} {lo hi depth key top c at : ℕ} {o : List ℕ} → Ahead t lo hi depth key top o c at → c ≡ 32
@@ -290,15 +291,12 @@ pub record Walking (t : List ℕ) (lo hi depth key : ℕ) (above : Bool) (o : Li
   pub done : Walked entries hops depth key (maximalSlot t depth key above first end pushed) c n out₀ out
 
 module _ {t : List ℕ} {lo hi depth key : ℕ} {above : Bool} {o : List ℕ} {top : ℕ} {first end hops : List ℕ} {walked entries pushed busy : ℕ} where
-  -- At a slot that is not busy nothing is walked, and nothing begins.
   module _ (f : Found t lo hi depth key above o top first end hops walked entries pushed busy) (c : ℕ) (lt : c < 32) (idle : bit busy c ≡ false) where
+    -- A slot that is not busy is not walked, and no entry begins there,
     idle-both : (bit walked c ≡ false) × (bit (f .marked) c ≡ false)
-    idle-both = go (bit walked c) (bit (f .marked) c) (sym (bit-or walked (f .marked) c) ∙ rw (f .either) at idle)
-      where
-        go : (w m : Bool) → (w || m) ≡ false → (w ≡ false) × (m ≡ false)
-        go true m e = absurd (let z : _≡_ {A = ℕ} 0 1 = cc in omega arith)
-        go false m e = (refl, e)
+    idle-both = neither walked (f .marked) c (rw (f .either) at idle)
 
+    -- so there is nothing to write at it.
     idle-slot : (heads (entryAt entries hops depth key) 5 c ≡ []) × (maximalSlot t depth key above first end pushed c ≡ [])
     idle-slot = (
       no-heads entries (f .marked) (f .begin) hops depth key c lt (idle-both .1),
@@ -314,8 +312,7 @@ module _ {t : List ℕ} {lo hi depth key : ℕ} {above : Bool} {o : List ℕ} {t
       record {
         found = w .found;
         ahead =
-            ahead-past (w .found .opened) (r - c) (omega (arith, next .low)) high
-            (λ i low lt. idle-both (w .found) i (omega arith) (next .clear i low lt) .0) (w .ahead);
+            ahead-on (w .found .opened) (w .ahead) (next .low) high (λ i low lt. idle-both (w .found) i (omega arith) (next .clear i low lt) .0);
         done = walked-past (w .done) (next .low) high (λ i low lt. idle-slot (w .found) i (omega arith) (next .clear i low lt));
       }
 
@@ -351,7 +348,7 @@ module _ {t : List ℕ} {lo hi depth key : ℕ} {above : Bool} {o : List ℕ} {t
         walk-next next (record {
           found = f;
           ahead =
-              ahead-past (f .opened) 1 refl (omega (arith, b .within)) (λ i low lt. let same : c ≡ i = omega arith in rw same at e) (w .ahead);
+              ahead-on (f .opened) (w .ahead) (omega arith) (omega (arith, b .within)) (λ i low lt. let same : c ≡ i = omega arith in rw same at e);
           done = walked-alone b (passed-nothing (f .opened) (f .word) above pushed (f .below) c (b .within) e);
         })
 

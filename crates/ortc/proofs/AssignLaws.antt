@@ -2,7 +2,7 @@
 -- first position to the last, and the entries that these hops say, which are those of ORTC.
 use Prim.Native.Nat.{ℕ, zero, suc, _+_, _-_, _*_, _/_, _%_, _^_, _≤_, _<_}
 use mathlib.Core.Path.{_≡_, refl, sym, ap, subst, _∙_}
-use mathlib.Core.Bool.{Bool, true, false, true≢false, cond, not, _&&_, _||_, and-false}
+use mathlib.Core.Bool.{Bool, true, false, true≢false, cond, not, _&&_, _||_, and-false, or-false}
 use mathlib.Core.List.{List, [], _∷_}
 use mathlib.Core.Logic.{_⊎_, inl, inr}
 use native.Mathlib.Nat.{pow-suc, eq-or-lt-of-le}
@@ -17,10 +17,11 @@ use Rattle.theory.specs.Results.{Cand, hole, of, sets, combine, leaf, assigned,
 use Rattle.theory.proofs.Chosen.{smallest-chooses}
 use Rattle.words.specs.Positions.{position}
 use Rattle.words.specs.Bits.{bit}
+use Rattle.words.specs.Rules.{PushedSlots}
 use Rattle.words.proofs.BitLaws.{if-lt, if-eq, bit-zero}
-use Rattle.words.proofs.PositionLaws.{in-word, below-left, below-right}
+use Rattle.words.proofs.PositionLaws.{in-word, below-left, below-right, pushed-is}
 use Rattle.words.proofs.PositionLaws as places
-use Rattle.positions.specs.Runs.{hopOf, sizeAt, placeAt}
+use Rattle.positions.specs.Runs.{hopOf, orElse, sizeAt, placeAt}
 use Rattle.positions.specs.Walk.{stateOf, stateAt}
 use Rattle.positions.specs.Walks.{ortcOut, ortcNext}
 use Rattle.positions.proofs.RunsNode.{size-halves, size-slot, place-left, place-right}
@@ -30,7 +31,7 @@ use Rattle.nodes.specs.Node.{wide, slotSize}
 use Rattle.nodes.specs.Gathered.{overAt}
 use Rattle.nodes.specs.Output.{entryAt}
 use Rattle.nodes.specs.Room.{Begins}
-use Rattle.ortc.specs.Answers.{ShowsNode, assignedAt, entryOver, Stepped}
+use Rattle.ortc.specs.Answers.{ShowsNode, assignedAt, entryOver, Stepped, LeafSlots}
 use Rattle.ortc.specs.Packed.{stored, packed}
 use Rattle.ortc.proofs.PackedLaws.{left-parent, Reading, reading-start, reading-stored, reading-taken, reading-next}
 
@@ -256,10 +257,6 @@ module _ {o : List ℕ} {top above : ℕ} {hops : List ℕ} {entries mask at b :
         before-is : (k : ℕ) → k < b → getD (set hops b hop) k 0 ≡ getD hops k 0
         before-is k less = getD-set-other hops b k hop 0 (λ e. omega arith)
 
-        or-false : (t : Bool) → (t || false) ≡ t
-        or-false true = refl
-        or-false false = refl
-
         hops-are : (f : ℕ → Answer) (m a : ℕ) (xs : List ℕ) → ShowsNode f m a xs → Begins (packed xs) top o → (l j : ℕ) → l ≤ 4 → j < 2 ^ l
             → (suc (position l j) ≡ b + 1) ⊎ (suc (position l j) < b + 1) → AssignedHop f m a above (set hops b hop) l j
         hops-are f m a xs n h l j le lt (inl e) =
@@ -352,3 +349,51 @@ module _ (f : ℕ → Answer) (depth key above entries : ℕ) (hops xs : List �
           × (hopOf (overAt hops (position l j) above) ≡ assignedOver f (slotSize depth) key (hopOf above) l j)
       over = over-assigned f (slotSize depth) key above hops first l j
           (λ k q. assigns k (j / 2) (omega arith) (let half : j < 2 ^ suc k = rw q lt in omega (arith, pow-suc 2 k))) lt
+
+-- ---- The slots that have an entry with no record in them.
+
+-- Two hops that say the same are entries under the same hops.
+same-entry : (v w over : ℕ) → hopOf v ≡ hopOf w → (not (eqb v over) && ltb v 64) ≡ (not (eqb w over) && ltb w 64)
+same-entry v w over q = go (ltb w 64) refl
+  where
+    go : (t : Bool) → ltb w 64 ≡ t → (not (eqb v over) && ltb v 64) ≡ (not (eqb w over) && ltb w 64)
+    go true e =
+        let s : hopOf w ≡ via w = rw e in
+        rw (hop-via v w (q ∙ s) .0)
+    go false e =
+        let s : hopOf w ≡ none = rw e in
+        rw (hop-none v (q ∙ s), e) (and-false (not (eqb v over)) ∙ sym (and-false (not (eqb w over))))
+
+-- The positions of the last level before p are marked where what answers the slots under them is a hop, and not the one they are assigned.
+pub record LeavesMarked (covering hops : List ℕ) (fill marked p : ℕ) : Type 0 where
+  pub done : (i v : ℕ) → 15 ≤ i → i < p → hopOf v ≡ orElse (hopOf (getD covering i 0)) (hopOf fill)
+      → bit marked i ≡ (not (eqb v (getD hops i 0)) && ltb v 64)
+  pub clear : (i : ℕ) → p ≤ i → i < 32 → bit marked i ≡ false
+
+-- At the start none is.
+pub leaves-start : (covering hops : List ℕ) (fill : ℕ) → LeavesMarked covering hops fill 0 15
+leaves-start covering hops fill = record { done = λ i v le lt e. absurd (omega arith); clear = λ i le lt. bit-zero i }
+
+module _ {covering hops : List ℕ} {fill marked p : ℕ} (h : LeavesMarked covering hops fill marked p) where
+  -- One position more.
+  pub leaves-next : p < 31 → (w : ℕ) → hopOf w ≡ orElse (hopOf (getD covering p 0)) (hopOf fill) → (marked′ : ℕ)
+      → ((i : ℕ) → i < 32 → bit marked′ i ≡ ((eqb i p && (not (eqb w (getD hops p 0)) && ltb w 64)) || bit marked i))
+      → LeavesMarked covering hops fill marked′ (p + 1)
+  leaves-next small w is marked′ bits = record {
+    done = λ i v le lt e. go i v le (eq-or-lt-of-le lt) e;
+    clear = λ i le lt. bits i lt ∙ rw (ne-eqb i p (λ z. omega arith)) (h .clear i (omega arith) lt);
+  }
+    where
+      go : (i v : ℕ) → 15 ≤ i → (suc i ≡ p + 1) ⊎ (suc i < p + 1) → hopOf v ≡ orElse (hopOf (getD covering i 0)) (hopOf fill)
+          → bit marked′ i ≡ (not (eqb v (getD hops i 0)) && ltb v 64)
+      go i v le (inl z) e =
+          let q : i ≡ p = omega arith in
+          rw q (bits p (omega arith)
+          ∙ rw (eq-eqb p p refl, h .clear p (omega arith) (omega arith), or-false)
+          (same-entry w v (getD hops p 0) (is ∙ sym (rw q at e))))
+      go i v le (inr less) e = bits i (omega arith) ∙ rw (ne-eqb i p (λ z. omega arith)) (h .done i v le (omega arith) e)
+
+  -- After the last, both slots under each are marked as it is.
+  pub leaves-end : p ≡ 31 → (r : ℕ) → PushedSlots marked r → LeafSlots covering hops fill r
+  leaves-end z r f c v lt e =
+      pushed-is marked r (h .clear 31 (omega arith) (omega arith)) f c lt ∙ h .done (15 + c / 2) v (omega arith) (omega arith) e

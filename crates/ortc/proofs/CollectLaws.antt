@@ -1,23 +1,26 @@
 -- The first walk of a node: its sets and its blocks by those of its slots, from the last slot to the first.
-use Prim.Native.Nat.{ℕ, zero, suc, _+_, _-_, _*_, _/_, _≤_, _<_}
+use Prim.Native.Nat.{ℕ, zero, suc, _+_, _-_, _*_, _/_, _^_, _≤_, _<_}
 use mathlib.Core.Path.{_≡_, refl, sym, ap, subst, _∙_}
 use mathlib.Core.Bool.{Bool, true, false, cond}
 use mathlib.Core.List.{List, [], _∷_}
 use mathlib.Core.Logic.{_⊎_, inl, inr}
+use native.Mathlib.Decide.{decLt}
 use native.Mathlib.Nat.{eq-or-lt-of-le}
 use native.Mathlib.Omega.{arith}
 use lib.ListN.{length, getD, set, length-set}
 use lib.Seq.{getD-set-same, getD-set-other}
 use Rattle.theory.specs.Routes.{Route, Answer}
-use Rattle.theory.specs.Results.{leaf, sets}
+use Rattle.theory.specs.Results.{Cand, leaf, sets}
 use Rattle.theory.proofs.Agree.{sets-agree}
 use Rattle.theory.proofs.Uniform.{sets-uniform}
+use Rattle.words.specs.Bits.{LastBit}
+use Rattle.words.specs.Positions.{position}
 use Rattle.positions.specs.Runs.{hopOf, orElse, placeAt}
 use Rattle.hops.specs.Sets.{ShowsSet}
 use Rattle.nodes.specs.Node.{wide, run, slotSize, Node}
-use Rattle.nodes.specs.Gathered.{runAt, Gathered, coveringAt}
+use Rattle.nodes.specs.Gathered.{runAt, Gathered, Occupied, coveringAt}
 use Rattle.nodes.specs.Room.{Pushed, Block, nodesDeep, slotNodes, nodesBelow, Laid, SlotsLaid}
-use Rattle.nodes.proofs.GatherLaws.{slot-records, no-child}
+use Rattle.nodes.proofs.GatherLaws.{slot-records, no-child, slot-vacant}
 use Rattle.nodes.proofs.RoomLaws.{pushed-length}
 use Rattle.nodes.proofs.RoomBlocks.{block-deep}
 use Rattle.nodes.proofs.RoomSizes.{Sized, nodes-below-deep, block-length, room-child}
@@ -57,111 +60,190 @@ sets-sized f k =
     block-length 160 (setWords f)
     (λ m a t u w. subst (λ (v : List ℕ). length v ≤ 160) (sym (w .2)) (omega (arith, packed-length (w .0)))) k
 
--- ---- The loop over the slots of a node, from the last to the first.
+-- ---- The sets of the slots that have no record.
 
--- The sets of the slots from c on are in their places, and the blocks of those that have a record are laid.
-pub record Collecting (f : ℕ → Answer) (depth key : ℕ) (t : List Route) (c top at : ℕ) (slots o o′ : List ℕ) : Type 0 where
+-- The set of slot i if it has no record, by the hops that cover the node's positions.
+abbrev pub leafAt : List ℕ → ℕ → ℕ → Cand
+leafAt covering fill i = leaf (orElse (hopOf (getD covering (15 + i / 2) 0)) (hopOf fill))
+
+-- Those of the slots under the first p positions of the lowest level are in their places.
+pub record Leaves (covering : List ℕ) (fill p : ℕ) (slots : List ℕ) : Type 0 where
   pub count : length slots ≡ 63
-  pub shown : (i : ℕ) → c ≤ i → i < 32 → ShowsSet (getD slots (31 + i) 0) (sets f (slotSize depth) (placeAt (slotSize depth) key 5 i))
+  pub shown : (i : ℕ) → i < 2 * p → ShowsSet (getD slots (31 + i) 0) (leafAt covering fill i)
+
+-- One more position: the two slots under it.
+pub leaves-next : {covering : List ℕ} {fill p : ℕ} {slots : List ℕ} → Leaves covering fill p slots → p < 16
+    → (v : ℕ) → ShowsSet v (leaf (orElse (hopOf (getD covering (15 + p) 0)) (hopOf fill)))
+    → Leaves covering fill (p + 1) (set (set slots (31 + 2 * p) v) (32 + 2 * p) v)
+leaves-next {covering} {fill} {p} {slots} h lt v is =
+    record { count = length-set one (32 + 2 * p) v ∙ sized; shown = λ i le. go i le (decLt i (2 * p)) (decLt i (2 * p + 1)) }
+  where
+    one : List ℕ
+    one = set slots (31 + 2 * p) v
+
+    sized : length one ≡ 63
+    sized = length-set slots (31 + 2 * p) v ∙ h .count
+
+    -- The set is that of both slots under the position.
+    under : (i : ℕ) → i / 2 ≡ p → ShowsSet v (leafAt covering fill i)
+    under i e = rw e is
+
+    go : (i : ℕ) → i < 2 * (p + 1) → Dec (i < 2 * p) → Dec (i < 2 * p + 1)
+        → ShowsSet (getD (set one (32 + 2 * p) v) (31 + i) 0) (leafAt covering fill i)
+    go i le (yes before) d =
+        rw (getD-set-other one (32 + 2 * p) (31 + i) v 0 (λ z. omega arith), getD-set-other slots (31 + 2 * p) (31 + i) v 0 (λ z. omega arith)) (h .shown i before)
+    go i le (no n) (yes left) =
+        let e : i ≡ 2 * p = omega arith in
+        rw (getD-set-other one (32 + 2 * p) (31 + i) v 0 (λ z. omega arith), e, getD-set-same slots (31 + 2 * p) v 0 (omega (arith, h .count))) (under (2 * p) (omega arith))
+    go i le (no n) (no m) =
+        let e : i ≡ 2 * p + 1 = omega arith in
+        let f : 31 + i ≡ 32 + 2 * p = omega arith in
+        rw (f, getD-set-same one (32 + 2 * p) v 0 (omega (arith, sized))) (under i (omega arith))
+
+-- ---- The loop over the slots of a node that have a record, from the last to the first.
+
+-- The set of slot i is in its place.
+abbrev pub Shown : (ℕ → Answer) → ℕ → ℕ → List ℕ → ℕ → Type 0
+Shown f depth key slots i = ShowsSet (getD slots (31 + i) 0) (sets f (slotSize depth) (placeAt (slotSize depth) key 5 i))
+
+-- The sets of the slots from c on are in their places, those before have their leaves, and the blocks of the slots from c on that have a
+-- record are laid.
+pub record Collecting (f : ℕ → Answer) (covering : List ℕ) (fill depth key : ℕ) (t : List Route) (c top at : ℕ) (slots o o′ : List ℕ) : Type 0 where
+  pub count : length slots ≡ 63
+  pub ahead : (i : ℕ) → i < c → ShowsSet (getD slots (31 + i) 0) (leafAt covering fill i)
+  pub shown : (i : ℕ) → c ≤ i → i < 32 → Shown f depth key slots i
   pub laid : SlotsLaid 160 (Block (setWords f) (nodesDeep (depth + 5))) (nodesBelow (nodesDeep (depth + 5))) (slotSize depth) key t c top at o o′
 
 -- Before the last slot.
-pub collecting-start : {t : List ℕ} {lo hi depth key : ℕ} (f : ℕ → Answer) (top : ℕ) (slots o : List ℕ) → Node t lo hi depth key
+pub collecting-start : {t : List ℕ} {lo hi depth key : ℕ} (f : ℕ → Answer) (covering : List ℕ) (fill top : ℕ) (slots o : List ℕ) → Node t lo hi depth key
     → 160 * nodesBelow (nodesDeep depth) key (run t lo hi) ≤ top → length slots ≡ 63
-    → Collecting f depth key (run t lo hi) 32 top top slots o o
-collecting-start {t} {lo} {hi} {depth} {key} f top slots o n room e =
+    → ((i : ℕ) → i < 32 → ShowsSet (getD slots (31 + i) 0) (leafAt covering fill i))
+    → Collecting f covering fill depth key (run t lo hi) 32 top top slots o o
+collecting-start {t} {lo} {hi} {depth} {key} f covering fill top slots o n room e leaves =
     record {
       count = e;
+      ahead = leaves;
       shown = λ i le lt. absurd (omega arith);
       laid = laid-start 160 _ _ (slotSize depth) key (run t lo hi) top o
           (rw (nodes-below-deep depth (n .level) key (run t lo hi) (n .fives) (n .deep)) at room);
     }
 
 -- What is laid ends in the room, and there is room for the node's own words.
-pub collecting-within : {f : ℕ → Answer} {depth key : ℕ} {t : List Route} {c top at : ℕ} {slots o o₁ : List ℕ}
-    → Collecting f depth key t c top at slots o o₁ → top ≤ length o → (length o₁ ≡ length o) × ((63 ≤ at) × (at ≤ length o₁))
+pub collecting-within : {f : ℕ → Answer} {covering : List ℕ} {fill depth key : ℕ} {t : List Route} {c top at : ℕ} {slots o o₁ : List ℕ}
+    → Collecting f covering fill depth key t c top at slots o o₁ → top ≤ length o → (length o₁ ≡ length o) × ((63 ≤ at) × (at ≤ length o₁))
 collecting-within h le =
     let e = pushed-length (h .laid .pushed) le in
     let ends = h .laid .pushed .ends in
     let room = h .laid .room in
     (e, (omega arith, omega arith))
 
--- One more slot, by its set.
-collecting-set : {f : ℕ → Answer} {depth key : ℕ} {t : List Route} {b c top at r : ℕ} {slots o o₁ o₂ : List ℕ}
-    → Collecting f depth key t b top at slots o o₁ → b ≡ c + 1 → b ≤ 32
-    → (v : ℕ) → ShowsSet v (sets f (slotSize depth) (placeAt (slotSize depth) key 5 c))
-    → SlotsLaid 160 (Block (setWords f) (nodesDeep (depth + 5))) (nodesBelow (nodesDeep (depth + 5))) (slotSize depth) key t c top r o o₂
-    → Collecting f depth key t c top r (set slots (31 + c) v) o o₂
-collecting-set {f} {depth} {key} {c = c} {slots = slots} h e le v is laid =
-    record { count = length-set slots (31 + c) v ∙ h .count; shown = λ i from lt. go i lt (eq-or-lt-of-le from); laid = laid }
+-- What holds of slot c and of the slots after it holds from c on.
+from-slot : (P : ℕ → Type 0) (c : ℕ) → P c → ((i : ℕ) → c + 1 ≤ i → i < 32 → P i) → (i : ℕ) → c ≤ i → i < 32 → P i
+from-slot P c here after i le lt = go (eq-or-lt-of-le le)
   where
-    go : (i : ℕ) → i < 32 → (c ≡ i) ⊎ (c < i) → ShowsSet (getD (set slots (31 + c) v) (31 + i) 0) (sets f (slotSize depth) (placeAt (slotSize depth) key 5 i))
-    go i lt (inl same) =
-        rw (← same, getD-set-same slots (31 + c) v 0 (omega (arith, h .count))) is
-    go i lt (inr later) =
-        rw (getD-set-other slots (31 + c) (31 + i) v 0 (λ z. omega arith)) (h .shown i (omega arith) lt)
+    go : (c ≡ i) ⊎ (c < i) → P i
+    go (inl same) = subst P same here
+    go (inr later) = after i (omega arith) lt
 
--- Slot c, where `cov` covers the position above it:
+-- The slots of a node whose positions are covered by `covering`.
 module _ {t : List ℕ} {lo hi depth key : ℕ} {first end : List ℕ} {present : ℕ} (n : Node t lo hi depth key)
-    (g : Gathered t lo hi depth key first end present) (inherited fill c : ℕ) {b cov : ℕ} (e : b ≡ c + 1) (le : b ≤ 32)
-    (is : cov ≡ coveringAt t first end inherited 4 (c / 2)) where
-  -- The routes of the slot.
-  abbrev slotRoutes : List Route
-  slotRoutes = runAt t first end (31 + c)
-
-  -- What the node answers, and what the slot does.
+    (g : Gathered t lo hi depth key first end present) (inherited fill : ℕ) (covering : List ℕ)
+    (is : (l j : ℕ) → l ≤ 4 → j < 2 ^ l → getD covering (position l j) 0 ≡ coveringAt t first end inherited l j) where
+  -- What the node answers, and what slot c does.
   abbrev inNode : ℕ → Answer
   inNode = answerIn (run t lo hi) (hopOf inherited) (hopOf fill)
 
-  abbrev inSlot : ℕ → Answer
-  inSlot = answerIn slotRoutes (hopOf cov) (hopOf fill)
+  abbrev inSlot : ℕ → ℕ → Answer
+  inSlot c = answerIn (runAt t first end (31 + c)) (hopOf (getD covering (15 + c / 2) 0)) (hopOf fill)
 
-  small : c < 32
-  small = omega arith
+  -- The hop that covers the position above slot c.
+  over-slot : (c : ℕ) → c < 32 → getD covering (15 + c / 2) 0 ≡ coveringAt t first end inherited 4 (c / 2)
+  over-slot c lt = is 4 (c / 2) (omega arith) (omega arith)
 
-  slot-sets : sets inNode (slotSize depth) (placeAt (slotSize depth) key 5 c) ≡ sets inSlot (slotSize depth) (placeAt (slotSize depth) key 5 c)
-  slot-sets = sets-agree inNode inSlot (slotSize depth) (placeAt (slotSize depth) key 5 c) (slot-alike n g inherited fill c small is)
+  -- Slot c has the same candidates in the node as by its own routes.
+  slot-sets : (c : ℕ) → c < 32
+      → sets inNode (slotSize depth) (placeAt (slotSize depth) key 5 c) ≡ sets (inSlot c) (slotSize depth) (placeAt (slotSize depth) key 5 c)
+  slot-sets c lt =
+      sets-agree inNode (inSlot c) (slotSize depth) (placeAt (slotSize depth) key 5 c) (slot-alike n g inherited fill c lt (over-slot c lt))
 
-  -- A slot without records has one answer.
-  pub leaf-sets : getD end (31 + c) 0 ≤ getD first (31 + c) 0
-      → sets inNode (slotSize depth) (placeAt (slotSize depth) key 5 c) ≡ leaf (orElse (hopOf cov) (hopOf fill))
-  leaf-sets none =
-      let z : slotRoutes ≡ [] = slot-records g c small ∙ no-child g c small none in
-      slot-sets
-      ∙ sets-uniform inSlot (orElse (hopOf cov) (hopOf fill)) (slotSize depth) (placeAt (slotSize depth) key 5 c)
-      (λ x i. ap (λ (rs : List Route). answerIn rs (hopOf cov) (hopOf fill) x) z)
+  -- A slot without records has those of its leaf.
+  vacant-sets : (c : ℕ) → c < 32 → getD end (31 + c) 0 ≤ getD first (31 + c) 0
+      → sets inNode (slotSize depth) (placeAt (slotSize depth) key 5 c) ≡ leafAt covering fill c
+  vacant-sets c lt none =
+      let z : runAt t first end (31 + c) ≡ [] = slot-records g c lt ∙ no-child g c lt none in
+      slot-sets c lt
+      ∙ sets-uniform (inSlot c) (orElse (hopOf (getD covering (15 + c / 2) 0)) (hopOf fill)) (slotSize depth) (placeAt (slotSize depth) key 5 c)
+      (λ x i. ap (λ (rs : List Route). answerIn rs (hopOf (getD covering (15 + c / 2) 0)) (hopOf fill) x) z)
 
-  module _ {top at : ℕ} {slots o o₁ : List ℕ} (h : Collecting inNode depth key (run t lo hi) b top at slots o o₁) (within : top ≤ length o) where
-    -- It is done by its leaf,
-    pub collecting-leaf : getD end (31 + c) 0 ≤ getD first (31 + c) 0 → (v : ℕ) → ShowsSet v (leaf (orElse (hopOf cov) (hopOf fill)))
-        → Collecting inNode depth key (run t lo hi) c top at (set slots (31 + c) v) o o₁
-    collecting-leaf none v shows =
-        collecting-set h e le v (rw (leaf-sets none) shows)
-        (laid-skip 160 _ _ (slotSize depth) key (run t lo hi) (sets-sized inNode (nodesDeep (depth + 5))) (h .laid) e le within
-        (ap length (no-child g c small none)))
+  -- The walk has come to slot c.
+  abbrev At : ℕ → ℕ → ℕ → List ℕ → List ℕ → List ℕ → Type 0
+  At = Collecting inNode covering fill depth key (run t lo hi)
 
-    -- or by the node in it, for which there is room.
-    pub collecting-room : getD first (31 + c) 0 < getD end (31 + c) 0 → (slot : ℕ) → slot ≡ placeAt (slotSize depth) key 5 c
-        → 160 * nodesBelow (nodesDeep (depth + 5)) slot slotRoutes ≤ at
-    collecting-room some slot here =
+  module _ (top at : ℕ) (slots o o₁ : List ℕ) (within : top ≤ length o) where
+    -- A slot without records is done by its leaf,
+    collecting-leaf : (c : ℕ) → c < 32 → getD end (31 + c) 0 ≤ getD first (31 + c) 0 → At (c + 1) top at slots o o₁ → At c top at slots o o₁
+    collecting-leaf c lt none h =
+        record {
+          count = h .count;
+          ahead = λ i before. h .ahead i (omega arith);
+          shown = from-slot (Shown inNode depth key slots) c (rw (vacant-sets c lt none) (h .ahead c (omega arith))) (h .shown);
+          laid = laid-skip 160 _ _ (slotSize depth) key (run t lo hi) (sets-sized inNode (nodesDeep (depth + 5))) (h .laid) refl (omega arith) within
+              (ap length (no-child g c lt none));
+        }
+
+    -- and so are d of them from c on.
+    collecting-down : (d c : ℕ) → c + d ≤ 32 → ((i : ℕ) → c ≤ i → i < c + d → getD end (31 + i) 0 ≤ getD first (31 + i) 0)
+        → At (c + d) top at slots o o₁ → At c top at slots o o₁
+    collecting-down zero c le none h = let e : c + 0 ≡ c = omega arith in rw e at h
+    collecting-down (suc d) c le none h =
+        let e : c + suc d ≡ c + 1 + d = omega arith in
+        collecting-leaf c (omega arith) (none c (omega arith) (omega arith))
+        (collecting-down d (c + 1) (omega arith) (λ i from lt. none i (omega arith) (omega arith)) (rw e at h))
+
+    -- The walk goes on from slot b to one past the last slot before it that has a record.
+    pub collecting-seek : {occupied b r : ℕ} → Occupied t lo hi depth key occupied → LastBit occupied b r → b ≤ 32
+        → At b top at slots o o₁ → At r top at slots o o₁
+    collecting-seek {occupied} {b} {r} occ last le h =
+        let e : b ≡ r + (b - r) = omega (arith, last .high) in
+        collecting-down (b - r) r (omega arith) (λ i from lt. slot-vacant g occupied occ i (omega arith) (last .clear i from (omega arith))) (rw e at h)
+
+  -- Slot c, which has records:
+  module _ {top at : ℕ} {slots o o₁ : List ℕ} {b : ℕ} (h : At b top at slots o o₁)
+      (within : top ≤ length o) (c : ℕ) (e : b ≡ c + 1) (le : b ≤ 32) (some : getD first (31 + c) 0 < getD end (31 + c) 0) (slot : ℕ)
+      (here : slot ≡ placeAt (slotSize depth) key 5 c) where
+    small : c < 32
+    small = omega arith
+
+    -- There is room for the node in it,
+    pub collecting-room : 160 * nodesBelow (nodesDeep (depth + 5)) slot (runAt t first end (31 + c)) ≤ at
+    collecting-room =
         let room : 160 * (1 + slotNodes (nodesBelow (nodesDeep (depth + 5))) (slotSize depth) key (run t lo hi) (c + 1)) ≤ at = rw e at (h .laid .room) in
         rw (here, slot-records g c small)
-        (room-child 160 (nodesBelow (nodesDeep (depth + 5))) (slotSize depth) key (run t lo hi) c at room (slot-some-routes n g inherited fill c small is some))
+        (room-child 160 (nodesBelow (nodesDeep (depth + 5))) (slotSize depth) key (run t lo hi) c at room
+        (slot-some-routes n g inherited fill c small (over-slot c small) some))
 
-    pub collecting-child : getD first (31 + c) 0 < getD end (31 + c) 0 → (slot v : ℕ) {r : ℕ} {o₂ : List ℕ} → slot ≡ placeAt (slotSize depth) key 5 c
-        → ShowsSet v (sets inSlot (wide - (depth + 5)) slot)
-        → Laid (setWords inSlot) (nodesDeep (depth + 5)) slot slotRoutes at r o₁ o₂
-        → Collecting inNode depth key (run t lo hi) c top r (set slots (31 + c) v) o o₂
-    collecting-child some slot v here shows laid =
-        let size : wide - (depth + 5) ≡ slotSize depth = omega (arith, n .deep) in
-        collecting-set h e le v (rw slot-sets (rw (size, here) at shows))
-        (laid-next 160 _ _ (slotSize depth) key (run t lo hi) (sets-sized inNode (nodesDeep (depth + 5))) (h .laid) e le within
-        (slot-block n g inherited fill c small is some (laid .words) .1 (rw here at (laid .block)))
-        (laid .pushed))
+    -- and it is done by that node.
+    pub collecting-child : (v : ℕ) {r : ℕ} {o₂ : List ℕ} → ShowsSet v (sets (inSlot c) (wide - (depth + 5)) slot)
+        → Laid (setWords (inSlot c)) (nodesDeep (depth + 5)) slot (runAt t first end (31 + c)) at r o₁ o₂
+        → At c top r (set slots (31 + c) v) o o₂
+    collecting-child v shows laid =
+        record {
+          count = length-set slots (31 + c) v ∙ h .count;
+          ahead = λ i before. rw (getD-set-other slots (31 + c) (31 + i) v 0 (λ z. omega arith)) (h .ahead i (omega arith));
+          shown = from-slot (Shown inNode depth key (set slots (31 + c) v)) c
+              (rw (getD-set-same slots (31 + c) v 0 (omega (arith, h .count)), slot-sets c small) (rw (size, here) at shows))
+              (λ i after lt. rw (getD-set-other slots (31 + c) (31 + i) v 0 (λ z. omega arith)) (h .shown i (omega arith) lt));
+          laid = laid-next 160 _ _ (slotSize depth) key (run t lo hi) (sets-sized inNode (nodesDeep (depth + 5))) (h .laid) e le within
+              (slot-block n g inherited fill c small (over-slot c small) some (laid .words) .1 (rw here at (laid .block)))
+              (laid .pushed);
+        }
+      where
+        size : wide - (depth + 5) ≡ slotSize depth
+        size = omega (arith, n .deep)
 
 -- After the first slot the node's own words are laid.
-pub collecting-end : {t : List ℕ} {lo hi depth key : ℕ} {f : ℕ → Answer} {top at r : ℕ} {slots xs o o₁ o₂ : List ℕ} → Node t lo hi depth key
-    → Collecting f depth key (run t lo hi) 0 top at slots o o₁ → top ≤ length o
+pub collecting-end : {t : List ℕ} {lo hi depth key : ℕ} {f : ℕ → Answer} {covering : List ℕ} {fill top at r : ℕ} {slots xs o o₁ o₂ : List ℕ} → Node t lo hi depth key
+    → Collecting f covering fill depth key (run t lo hi) 0 top at slots o o₁ → top ≤ length o
     → ShowsNode f (slotSize depth) key xs → Pushed (packed xs) at r o₁ o₂
     → ShowsSet (getD xs 0 0) (sets f (wide - depth) key) × Laid (setWords f) (nodesDeep depth) key (run t lo hi) top r o o₂
 collecting-end {t} {lo} {hi} {depth} {key} {f} {xs = xs} n h within shows pushed =

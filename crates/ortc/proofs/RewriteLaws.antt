@@ -1,32 +1,36 @@
 -- The second walk of a node: its rewrite by its slots, the rewrite of a slot without routes, and the loop over the slots, a step at a time.
-use Prim.Native.Nat.{ℕ, _+_, _-_, _*_, _/_, _^_, _≤_, _<_}
+use Prim.Native.Nat.{ℕ, zero, suc, _+_, _-_, _*_, _/_, _^_, _≤_, _<_}
 use mathlib.Core.Path.{_≡_, refl, sym, ap, _∙_}
-use mathlib.Core.List.{List, []}
+use mathlib.Core.Bool.{Bool, false, cond}
+use mathlib.Core.List.{List, [], _∷_}
 use native.Mathlib.Decide.{decLt}
 use native.Mathlib.Omega.{arith}
+use lib.Bits.{bitOr}
 use lib.ListN.{length, getD}
+use borrow.Author.Tests.{lt-ltb, le-ltb}
 use Rattle.theory.specs.Routes.{Route, Answer}
 use Rattle.theory.specs.Results.{smallest, ortc}
 use Rattle.theory.proofs.Agree.{ortc-agree}
 use Rattle.theory.proofs.Chosen.{smallest-chooses}
 use Rattle.theory.proofs.Quick.{ortc-uniform}
+use Rattle.words.specs.Bits.{bit, NextBit}
 use Rattle.words.specs.Positions.{position}
+use Rattle.words.proofs.BitLaws.{neither}
 use Rattle.positions.specs.Runs.{hopOf, orElse, sizeAt, placeAt}
-use Rattle.positions.specs.Walk.{walk, stateAt, slots}
+use Rattle.positions.specs.Walk.{walk, stateAt, heads, slots}
 use Rattle.positions.specs.Walks.{ortcOut, ortcNext}
 use Rattle.positions.proofs.Modes.{ortc-walk}
 use Rattle.positions.proofs.Slots.{walk-slots, slots-agree}
 use Rattle.nodes.specs.Node.{wide, run, slotSize, Node}
-use Rattle.nodes.specs.Gathered.{runAt, Gathered, coveringAt}
-use Rattle.nodes.specs.Output.{Wrote, entryAt, slotHeads}
+use Rattle.nodes.specs.Gathered.{runAt, Gathered, Occupied, coveringAt}
+use Rattle.nodes.specs.Output.{Wrote, entryAt, HeadSlots}
 use Rattle.nodes.specs.Room.{Begins, Block, nodesDeep, Stored, SlotsAhead}
-use Rattle.nodes.proofs.GatherLaws.{no-child, covering-le}
+use Rattle.nodes.proofs.GatherLaws.{no-child, slot-vacant, covering-le}
 use Rattle.nodes.proofs.GatherRuns.{run-none}
-use Rattle.nodes.proofs.OutputLaws.{wrote-none, slots-zero, slots-more, slots-count, node-count}
+use Rattle.nodes.proofs.OutputWalk.{Walked, walked-none, walked-past, walked-all, no-heads}
 use Rattle.nodes.proofs.RoomBlocks.{slot-nested, block-deep}
 use Rattle.nodes.proofs.RoomWalk.{ahead-start, ahead-next, ahead-skip, ahead-end}
-use Rattle.words.specs.Bits.{bit}
-use Rattle.ortc.specs.Answers.{answerIn, ShowsNode, setWords, assignedAt, entryOver}
+use Rattle.ortc.specs.Answers.{answerIn, ShowsNode, setWords, assignedAt, entryOver, LeafSlots}
 use Rattle.ortc.specs.Packed.{packed}
 use Rattle.ortc.proofs.AssignLaws.{state-assigned, AssignedHop, hasEntry, leaf-entry, entries-are}
 use Rattle.ortc.proofs.SlotLaws.{slot-alike, slot-block}
@@ -66,6 +70,14 @@ leaf-rewrite t lo hi depth key covering fill hop above none deep hop-low above-l
     (hopOf above) (λ x i. refl)
     ∙ rw (← e) (sym (leaf-entry (wide - depth) key depth hop above (omega arith) hop-low above-low)))
 
+-- Some hop says which that is.
+leaf-hop : (covering fill : ℕ) → covering ≤ 64 → fill ≤ 64 → (v : ℕ) × (v ≤ 64) × (hopOf v ≡ orElse (hopOf covering) (hopOf fill))
+leaf-hop covering fill p q = go (decLt covering 64)
+  where
+    go : Dec (covering < 64) → (v : ℕ) × (v ≤ 64) × (hopOf v ≡ orElse (hopOf covering) (hopOf fill))
+    go (yes lt) = (covering, p, rw (lt-ltb covering 64 lt))
+    go (no ge) = (fill, q, rw (le-ltb covering 64 (omega arith)))
+
 -- ---- A node in the room.
 
 -- The sets of a node whose block stands in the room are read there.
@@ -92,10 +104,21 @@ slotRewrite t first end covering hops depth key fill c =
     ortc smallest wide (answerIn (runAt t first end (31 + c)) (hopOf (getD covering (15 + c / 2) 0)) (hopOf fill))
     (wide - (depth + 5)) (placeAt (slotSize depth) key 5 c) (hopOf (getD hops (15 + c / 2) 0))
 
--- What is found of a node before its slots are walked: the records of its places, what covers them and what they are assigned, and its rewrite
--- by its slots.
-pub record Opened (t : List ℕ) (lo hi depth key inherited fill above : ℕ) (work : List ℕ) (top : ℕ) (first end covering hops : List ℕ) (entries : ℕ) :
-    Type 0 where
+-- One without records lists nothing where no entry of its own is marked.
+leaf-none : (t first end covering hops : List ℕ) (depth key fill leaves : ℕ) → LeafSlots covering hops fill leaves → depth ≤ 30 → fill ≤ 64
+    → (c : ℕ) → c < 32 → getD end (31 + c) 0 ≤ getD first (31 + c) 0 → getD covering (15 + c / 2) 0 ≤ 64 → getD hops (15 + c / 2) 0 ≤ 64
+    → bit leaves c ≡ false → slotRewrite t first end covering hops depth key fill c ≡ []
+leaf-none t first end covering hops depth key fill leaves marks deep fill-low c lt none covers-low hops-low clear =
+    let v = leaf-hop (getD covering (15 + c / 2) 0) fill covers-low fill-low in
+    leaf-rewrite t (getD first (31 + c) 0) (getD end (31 + c) 0) (depth + 5) (placeAt (slotSize depth) key 5 c) (getD covering (15 + c / 2) 0) fill (v .0)
+    (getD hops (15 + c / 2) 0) none (omega arith) (v .1) hops-low (v .2)
+    ∙ ap (λ (b : Bool). cond b (record { addr = placeAt (slotSize depth) key 5 c; len = depth + 5; hop = v .0 } ∷ []) [])
+    (sym (marks c (v .0) lt (v .2)) ∙ clear)
+
+-- What is found of a node before its slots are walked: the records of its places, what covers them and what they are assigned, its rewrite by its
+-- slots, and the slots that are busy: at each other one there is no record and nothing to write.
+pub record Opened (t : List ℕ) (lo hi depth key inherited fill above : ℕ) (work : List ℕ) (top : ℕ) (first end covering hops : List ℕ)
+    (entries busy : ℕ) : Type 0 where
   pub node : Node t lo hi depth key
   pub present : ℕ
   pub gathered : Gathered t lo hi depth key first end present
@@ -105,33 +128,35 @@ pub record Opened (t : List ℕ) (lo hi depth key inherited fill above : ℕ) (w
   pub rewritten : ortc smallest wide (answerIn (run t lo hi) (hopOf inherited) (hopOf fill)) (wide - depth) key (hopOf above)
       ≡ slots (entryAt entries hops depth key) (slotRewrite t first end covering hops depth key fill) 32
   pub stored : Stored (setWords (answerIn (run t lo hi) (hopOf inherited) (hopOf fill))) (nodesDeep depth) key (run t lo hi) top work
+  pub quiet : (c : ℕ) → c < 32 → bit busy c ≡ false
+      → (getD end (31 + c) 0 ≤ getD first (31 + c) 0)
+      × (heads (entryAt entries hops depth key) 5 c ≡ []) × (slotRewrite t first end covering hops depth key fill c ≡ [])
 
--- What the walk over its slots has done before slot c.
+-- What the walk over its slots has done before slot c: it has written those before it, and read their blocks.
 pub record Walking (t : List ℕ) (lo hi depth key inherited fill above : ℕ) (work : List ℕ) (top : ℕ) (first end covering hops : List ℕ) (entries : ℕ)
     (c at n : ℕ) (out₀ out : List ℕ) : Type 0 where
-  pub within : c ≤ 32
-  pub count : n + c ≤ c * (8 * 2 ^ slotSize depth)
-  pub same : length out ≡ length out₀
-  pub wrote : Wrote (slots (entryAt entries hops depth key) (slotRewrite t first end covering hops depth key fill) c) 0 n out₀ out
+  pub walked : Walked entries hops depth key (slotRewrite t first end covering hops depth key fill) c n out₀ out
   pub ahead : Ahead (answerIn (run t lo hi) (hopOf inherited) (hopOf fill)) (run t lo hi) depth key top work c at
 
 module _ {t : List ℕ} {lo hi depth key : ℕ} {first end : List ℕ} {present : ℕ} (n : Node t lo hi depth key)
-    (g : Gathered t lo hi depth key first end present) (inherited fill above : ℕ) (inherited-low : inherited ≤ 64) (above-low : above ≤ 64) where
+    (g : Gathered t lo hi depth key first end present) (inherited fill above : ℕ) (inherited-low : inherited ≤ 64) (fill-low : fill ≤ 64)
+    (above-low : above ≤ 64) where
   -- By what the passes over the node find.
-  pub opened : {work : List ℕ} {top : ℕ} {covering hops : List ℕ} {entries : ℕ}
+  pub opened : {work : List ℕ} {top : ℕ} {covering hops : List ℕ} {entries : ℕ} (occupied marked leaves : ℕ)
       → Stored (setWords (answerIn (run t lo hi) (hopOf inherited) (hopOf fill))) (nodesDeep depth) key (run t lo hi) top work
       → ((l j : ℕ) → l ≤ 4 → j < 2 ^ l → getD covering (position l j) 0 ≡ coveringAt t first end inherited l j)
       → ((l j : ℕ) → l ≤ 4 → j < 2 ^ l → AssignedHop (answerIn (run t lo hi) (hopOf inherited) (hopOf fill)) (slotSize depth) key above hops l j)
       → ((b : ℕ) → b < 31 → bit entries b ≡ hasEntry hops above b)
-      → Opened t lo hi depth key inherited fill above work top first end covering hops entries
-  opened {work} {top} {covering} {hops} {entries} s cover assigned bits =
+      → Occupied t lo hi depth key occupied → HeadSlots entries marked → LeafSlots covering hops fill leaves
+      → Opened t lo hi depth key inherited fill above work top first end covering hops entries (bitOr (bitOr occupied marked) leaves)
+  opened {work} {top} {covering} {hops} {entries} occupied marked leaves s cover assigned bits taken begins own =
       record {
         node = n;
         present = present;
         gathered = g;
         covers = covers;
-        covers-low = λ c lt. rw (covers c lt) (covering-le n g inherited 4 (c / 2) inherited-low (omega arith) (omega arith));
-        hops-low = λ c lt. assigned 4 (c / 2) (omega arith) (omega arith) .0;
+        covers-low = covers-low;
+        hops-low = hops-low;
         rewritten =
             rw size (rewrite-slots f (slotSize depth) key (hopOf above))
             ∙ slots-agree 5 (ownEntry f (slotSize depth) key (hopOf above)) (entryAt entries hops depth key)
@@ -139,6 +164,14 @@ module _ {t : List ℕ} {lo hi depth key : ℕ} {first end : List ℕ} {present 
             (λ c. ortc smallest wide f (slotSize depth) (placeAt (slotSize depth) key 5 c) (assignedAt f (slotSize depth) key (hopOf above) 4 (c / 2)))
             (slotRewrite t first end covering hops depth key fill) slot 32 (omega arith);
         stored = s;
+        quiet = λ c lt clear.
+            let p = neither (bitOr occupied marked) leaves c clear in
+            let q = neither occupied marked c (p .0) in
+            let none = slot-vacant g occupied taken c lt (q .0) in (
+              none,
+              no-heads entries marked begins hops depth key c lt (q .1),
+              leaf-none t first end covering hops depth key fill leaves own (n .deep) fill-low c lt none (covers-low c lt) (hops-low c lt) (p .1),
+            );
       }
     where
       f : ℕ → Answer
@@ -153,6 +186,12 @@ module _ {t : List ℕ} {lo hi depth key : ℕ} {first end : List ℕ} {present 
       covers : (c : ℕ) → c < 32 → getD covering (15 + c / 2) 0 ≡ coveringAt t first end inherited 4 (c / 2)
       covers c lt = cover 4 (c / 2) (omega arith) (omega arith)
 
+      covers-low : (c : ℕ) → c < 32 → getD covering (15 + c / 2) 0 ≤ 64
+      covers-low c lt = rw (covers c lt) (covering-le n g inherited 4 (c / 2) inherited-low (omega arith) (omega arith))
+
+      hops-low : (c : ℕ) → c < 32 → getD hops (15 + c / 2) 0 ≤ 64
+      hops-low c lt = assigned 4 (c / 2) (omega arith) (omega arith) .0
+
       slot : (c : ℕ) → c < 32
           → ortc smallest wide f (slotSize depth) (placeAt (slotSize depth) key 5 c) (assignedAt f (slotSize depth) key (hopOf above) 4 (c / 2))
           ≡ slotRewrite t first end covering hops depth key fill c
@@ -165,17 +204,14 @@ module _ {t : List ℕ} {lo hi depth key : ℕ} {first end : List ℕ} {present 
 
 -- ---- The loop over the slots.
 
-module _ {t : List ℕ} {lo hi depth key inherited fill above : ℕ} {work : List ℕ} {top : ℕ} {first end covering hops : List ℕ} {entries : ℕ}
-    (q : Opened t lo hi depth key inherited fill above work top first end covering hops entries) where
+module _ {t : List ℕ} {lo hi depth key inherited fill above : ℕ} {work : List ℕ} {top : ℕ} {first end covering hops : List ℕ} {entries busy : ℕ}
+    (q : Opened t lo hi depth key inherited fill above work top first end covering hops entries busy) where
   -- The room is read up to the blocks of the slots.
   pub walking-start : (at : ℕ) (out : List ℕ) → ((xs : List ℕ) → Begins (packed xs) top work → at ≡ top + length (packed xs))
       → Walking t lo hi depth key inherited fill above work top first end covering hops entries 0 at 0 out out
   walking-start at out tops =
       record {
-        within = omega arith;
-        count = omega arith;
-        same = refl;
-        wrote = rw slots-zero (wrote-none 0 out);
+        walked = walked-none out;
         ahead = λ ws b s.
             let f = answerIn (run t lo hi) (hopOf inherited) (hopOf fill) in
             let n = q .node in
@@ -231,45 +267,35 @@ module _ {t : List ℕ} {lo hi depth key inherited fill above : ℕ} {work : Lis
             let le : getD end (31 + c) 0 ≤ getD first (31 + c) 0 = omega arith in
             rw (skipped le) (ahead-skip block (slotSize depth) key (run t lo hi) (h ws b s) lt (ap length (no-child (q .gathered) c lt le)))
 
-    -- After the slot there are few enough to count.
-    pub walking-few : {at n : ℕ} (e k : ℕ) {out₀ out : List ℕ}
-        → Walking t lo hi depth key inherited fill above work top first end covering hops entries c at n out₀ out → e ≤ 5
-        → k + 6 ≤ 8 * 2 ^ (wide - (depth + 5)) → (n + (e + k)) + (c + 1) ≤ (c + 1) * (8 * 2 ^ slotSize depth)
-    walking-few {n = n} e k h few some =
-        let less : k + 6 ≤ 8 * 2 ^ slotSize depth = rw slot-size at some in
-        slots-count (8 * 2 ^ slotSize depth) c n e k (h .count) (omega arith)
+  -- Slots without records have no block to read.
+  ahead-past : (k : ℕ) {c r at : ℕ} → c + k ≡ r → r ≤ 32
+      → ((i : ℕ) → c ≤ i → i < r → getD end (31 + i) 0 ≤ getD first (31 + i) 0)
+      → Ahead (answerIn (run t lo hi) (hopOf inherited) (hopOf fill)) (run t lo hi) depth key top work c at
+      → Ahead (answerIn (run t lo hi) (hopOf inherited) (hopOf fill)) (run t lo hi) depth key top work r at
+  ahead-past zero {c} {r} e all none h = let same : c ≡ r = omega arith in rw same at h
+  ahead-past (suc k) {c} e all none h =
+      ahead-past k {c = c + 1} (omega arith) all (λ i a b. none i (omega arith) b)
+      (ahead-child c (omega arith) h (λ le. refl) (λ has. absurd (omega (arith, none c (omega arith) (omega arith)))))
 
-    -- One slot more: the entries that begin there, and then the slot's.
-    pub walking-next : {at at′ n : ℕ} (e k : ℕ) {out₀ out out₁ out₂ : List ℕ}
-        → Walking t lo hi depth key inherited fill above work top first end covering hops entries c at n out₀ out
-        → Wrote (slotHeads entries hops depth (placeAt (slotSize depth) key 5 c) c 5) n (n + e) out out₁ → length out₁ ≡ length out → e ≤ 5
-        → Wrote (slotRewrite t first end covering hops depth key fill c) (n + e) (n + e + k) out₁ out₂ → length out₂ ≡ length out₁
-        → k + 6 ≤ 8 * 2 ^ (wide - (depth + 5))
-        → (getD end (31 + c) 0 ≤ getD first (31 + c) 0 → at′ ≡ at)
-        → (getD first (31 + c) 0 < getD end (31 + c) 0 → (ws : List ℕ)
-        → Block (setWords (answerIn (runAt t first end (31 + c)) (hopOf (getD covering (15 + c / 2) 0)) (hopOf fill))) (nodesDeep (depth + 5))
-        (placeAt (slotSize depth) key 5 c) (runAt t first end (31 + c)) ws
-        → Begins ws at work → at′ ≡ at + length ws)
-        → Walking t lo hi depth key inherited fill above work top first end covering hops entries (c + 1) at′ (n + e + k) out₀ out₂
-    walking-next {n = n} e k h wrote same few own same′ some skipped read =
-        let count = walking-few e k h few some in
-        record {
-          within = omega arith;
-          count = omega arith;
-          same = same′ ∙ same ∙ h .same;
-          wrote = slots-more entries hops depth key (slotRewrite t first end covering hops depth key fill) c (h .wrote) (h .same) wrote same own;
-          ahead = ahead-child (h .ahead) skipped read;
-        }
+  -- The walk goes on at the next slot that is busy.
+  pub walking-on : {k r at n : ℕ} {out₀ out : List ℕ} → NextBit busy k r
+      → Walking t lo hi depth key inherited fill above work top first end covering hops entries k at n out₀ out
+      → Walking t lo hi depth key inherited fill above work top first end covering hops entries r at n out₀ out
+  walking-on {k} {r} b h =
+      record {
+        walked = walked-past (h .walked) (b .low) (b .high) (λ i le lt.
+            let s = q .quiet i (omega (arith, b .high)) (b .clear i le lt) in
+            (s .1, s .2));
+        ahead = ahead-past (r - k) (omega (arith, b .low)) (b .high) (λ i le lt. q .quiet i (omega (arith, b .high)) (b .clear i le lt) .0) (h .ahead);
+      }
 
   -- After the last slot the node's rewrite is written, few enough, and its block is read.
   pub walking-end : {c at n : ℕ} {out₀ out : List ℕ}
-      → Walking t lo hi depth key inherited fill above work top first end covering hops entries c at n out₀ out → c ≡ 32
+      → Walking t lo hi depth key inherited fill above work top first end covering hops entries c at n out₀ out → 32 ≤ c
       → (n + 6 ≤ 8 * 2 ^ (wide - depth))
       × (((ws : List ℕ) → Block (setWords (answerIn (run t lo hi) (hopOf inherited) (hopOf fill))) (nodesDeep depth) key (run t lo hi) ws → Begins ws top work → at ≡ top + length ws)
       × Wrote (ortc smallest wide (answerIn (run t lo hi) (hopOf inherited) (hopOf fill)) (wide - depth) key (hopOf above)) 0 n out₀ out)
-  walking-end {c} {at} {n} {out₀} {out} h z =
-      let size : wide - depth ≡ slotSize depth + 5 = omega (arith, q .node .deep) in
-      let count : n + 32 ≤ 8 * 2 ^ (slotSize depth + 5) = node-count (slotSize depth) n (rw z at (h .count)) in (
-        rw size (omega arith),
-        (λ ws b s. ahead-end _ _ _ _ (h .ahead ws b s) z, rw (q .rewritten) (rw z at (h .wrote))),
-      )
+  walking-end {c} {at} {n} {out₀} {out} h all =
+      let z : c ≡ 32 = omega (arith, h .walked .within) in
+      let done = walked-all (q .node .deep) (h .walked) all in
+      (done .0, (λ ws b s. ahead-end _ _ _ _ (h .ahead ws b s) z, rw (q .rewritten) (done .1)))

@@ -7,6 +7,7 @@ use lib.Dec.{eqb, ltb}
 use lib.ListN.{length, getD}
 use Rattle.theory.specs.Routes.{Route, Answer, lookup, under}
 use Rattle.theory.specs.Results.{Cand, sets, assigned, smallest}
+use Rattle.words.specs.Bits.{bit}
 use Rattle.words.specs.Positions.{position}
 use Rattle.positions.specs.Runs.{hopOf, orElse, sizeAt, placeAt}
 use Rattle.hops.specs.Sets.{ShowsSet}
@@ -34,6 +35,13 @@ assignedAt f m a g (suc l) j = assigned smallest (sets f (sizeAt m (suc l)) (pla
 -- One record, if it is by a hop and not by the one above.
 abbrev pub entryOver : ℕ → ℕ → ℕ → ℕ → List Route
 entryOver addr len hop above = cond (not (eqb hop above) && ltb hop 64) (record { addr = addr; len = len; hop = hop } ∷ []) []
+
+-- The bits of a word mark the slots that, with no record in them, have an entry: v, which answers there, is a hop, and not the one that the
+-- position above the slot is assigned.
+abbrev pub LeafSlots : List ℕ → List ℕ → ℕ → ℕ → Type 0
+LeafSlots covering hops fill marked =
+    (c v : ℕ) → c < 32 → hopOf v ≡ orElse (hopOf (getD covering (15 + c / 2) 0)) (hopOf fill)
+    → bit marked c ≡ (not (eqb v (getD hops (15 + c / 2) 0)) && ltb v 64)
 
 -- A position was assigned `hop` under `over`, by the words of the room from top on, the lowest bit of the mask saying whether its set is there.
 pub record Stepped (o : List ℕ) (mask top over hop mask′ top′ : ℕ) : Type 0 where

@@ -4,27 +4,46 @@
 use super::room::NodeReader;
 use hops::assign;
 use hops::combine;
+use hops::leaf_set;
+use hops::leaf_value;
 use nodes::emit::put;
 use nodes::gather::over_at;
 use words::bits::with_bit;
+use words::ladder::push_l4;
 ghost use mathlib.Core.Path.{_≡_};
 ghost use mathlib.Core.Bool.{true, not, _&&_, _||_};
 ghost use mathlib.Core.List.{List};
-ghost use Prim.Native.Nat.{ℕ, _+_, _%_, _^_, _≤_, _<_};
+ghost use Prim.Native.Nat.{ℕ, _+_, _/_, _%_, _^_, _≤_, _<_};
 ghost use lib.Dec.{eqb, ltb};
 ghost use lib.ListN.{length, getD};
 ghost use Rattle.theory.specs.Routes.{Answer};
-ghost use Rattle.theory.specs.Results.{sets};
+ghost use Rattle.theory.specs.Results.{leaf, sets};
 ghost use Rattle.words.specs.Bits.{bit};
 ghost use Rattle.words.specs.Positions.{position};
-ghost use Rattle.positions.specs.Runs.{hopOf, placeAt};
+ghost use Rattle.positions.specs.Runs.{hopOf, orElse, placeAt};
 ghost use Rattle.hops.specs.Sets.{ShowsSet};
 ghost use Rattle.nodes.specs.Node.{wide};
 ghost use Rattle.nodes.specs.Gathered.{overAt};
 ghost use Rattle.nodes.specs.Output.{Wrote};
 ghost use Rattle.nodes.specs.Room.{Begins};
 ghost use Rattle.ortc.specs.Packed.{packed};
-ghost use Rattle.ortc.specs.Answers.{ShowsNode, assignedAt, entryOver, Stepped};
+ghost use Rattle.ortc.specs.Answers.{ShowsNode, assignedAt, entryOver, Stepped, LeafSlots};
+
+// The sets of a node's slots if none of them has a record: by pairs, since two slots stand under one position. The other places are 0.
+pub fn leaf_sets(covering: &[u8; 31], fill: u8) -> [u64; 63]
+    ensures { λ r. ⌜ length r ≡ 63 ⌝ }
+    ensures { λ r. ⌜ ((c : ℕ) → c < 32 → ShowsSet (getD r (31 + c) 0) (leaf (orElse (hopOf (getD (now (covering .entry)) (15 + c / 2) 0)) (hopOf fill)))) ⌝ }
+{
+    let mut slots = [0u64; 63];
+    let mut p: usize = 0;
+    while p < 16 {
+        let s = leaf_set(covering[15 + p], fill);
+        slots[31 + 2 * p] = s;
+        slots[32 + 2 * p] = s;
+        p += 1;
+    }
+    slots
+}
 
 // Combines the sets of a node's slots upward into those of its positions.
 pub fn fold_sets(slots: &mut [u64; 63])
@@ -66,7 +85,7 @@ pub fn step_at(work: &[u32], reader: NodeReader, over: u8) -> Step
 // The entries, with position b's if it is assigned a hop other than the one above.
 pub fn with_entry(entries: u32, b: u32, hop: u8, over: u8) -> u32
     requires { ⌜ b < 31 ⌝ }
-    ensures { λ r. ⌜ ((i : ℕ) → i < 31 → bit r i ≡ ((eqb i b && (not (eqb hop over) && ltb hop 64)) || bit entries i)) ⌝ }
+    ensures { λ r. ⌜ ((i : ℕ) → i < 32 → bit r i ≡ ((eqb i b && (not (eqb hop over) && ltb hop 64)) || bit entries i)) ⌝ }
 {
     if hop == over {
         return entries;
@@ -111,6 +130,21 @@ pub fn assign_nodes(work: &[u32], top: usize, above: u8) -> Assigned
         entries,
         top: reader.top,
     }
+}
+
+// The slots that, with no record in them, have an entry: what answers there is a hop, and not the one assigned above. By pairs, since two slots
+// stand under one position.
+pub fn leaf_slots(covering: &[u8; 31], hops: &[u8; 31], fill: u8) -> u32
+    ensures { λ r. ⌜ LeafSlots (now (covering .entry)) (now (hops .entry)) fill r ⌝ }
+{
+    let mut other: u32 = 0;
+    let mut p: usize = 15;
+    while p < 31 {
+        let v = leaf_value(covering[p], fill);
+        other = with_entry(other, p as u32, v, hops[p]);
+        p += 1;
+    }
+    push_l4(other)
 }
 
 // Writes one record, if it is by a hop and not by the one above, and says how many it wrote.

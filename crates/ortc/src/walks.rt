@@ -3,14 +3,18 @@
 use super::assign::assign_nodes;
 use super::assign::emit;
 use super::assign::fold_sets;
+use super::assign::leaf_sets;
+use super::assign::leaf_slots;
 use super::room::push_sets;
-use hops::leaf_set;
 use hops::leaf_value;
 use nodes::emit::emit_slot;
+use nodes::emit::head_slots;
 use nodes::emit::past;
-use nodes::gather::covering_values;
-use nodes::gather::gather;
+use nodes::gather::covering_hops;
+use nodes::gather::gather_run;
 use nodes::gather::slot_key;
+use words::bits::last_bit;
+use words::bits::next_bit;
 ghost use mathlib.Core.Path.{_≡_};
 ghost use mathlib.Core.List.{List};
 ghost use Prim.Native.Nat.{ℕ, _+_, _-_, _*_, _^_, _≤_, _<_};
@@ -50,33 +54,30 @@ pub fn collect_sets(
 {
     let mut first = [0usize; 63];
     let mut end = [0usize; 63];
-    gather(table, lo, hi, depth, key, &mut first, &mut end);
-    let covering = covering_values(table, &first, &end, inherited);
-    let mut slots = [0u64; 63];
+    let g = gather_run(table, lo, hi, depth, key, &mut first, &mut end);
+    let covering = covering_hops(table, g.present, &first, &end, inherited);
+    let mut slots = leaf_sets(&covering, fill);
+    let occupied = g.occupied;
     let mut at = top;
-    let mut c: usize = 32;
-    while 0 < c {
-        c -= 1;
-        let from = first[31 + c];
-        let to = end[31 + c];
+    // k is one past the slot to visit next, the last one before those that are done that has a record.
+    let mut k = last_bit(occupied, 32);
+    while 0 < k {
+        let c = k - 1;
         let cover = covering[15 + c / 2];
-        if from < to {
-            let child = collect_sets(
-                table,
-                from,
-                to,
-                depth + 5,
-                slot_key(key, depth, c),
-                cover,
-                fill,
-                work,
-                at,
-            );
-            slots[31 + c] = child.set;
-            at = child.top;
-        } else {
-            slots[31 + c] = leaf_set(cover, fill);
-        }
+        let child = collect_sets(
+            table,
+            first[31 + c],
+            end[31 + c],
+            depth + 5,
+            slot_key(key, depth, c),
+            cover,
+            fill,
+            work,
+            at,
+        );
+        slots[31 + c] = child.set;
+        at = child.top;
+        k = last_bit(occupied, c);
     }
     fold_sets(&mut slots);
     let last = push_sets(&slots, work, at);
@@ -92,7 +93,8 @@ pub struct Walked {
     pub top: usize,
 }
 
-// The second walk: writes the entries of a node and of all below it, where `above` is assigned above the node.
+// The second walk: writes the entries of a node and of all below it, where `above` is assigned above the node. It goes through the slots that
+// have a record, at which an entry begins or that have one of their own.
 pub fn rewrite(
     table: &[u8],
     lo: usize,
@@ -115,14 +117,15 @@ pub fn rewrite(
 {
     let mut first = [0usize; 63];
     let mut end = [0usize; 63];
-    gather(table, lo, hi, depth, key, &mut first, &mut end);
-    let covering = covering_values(table, &first, &end, inherited);
+    let g = gather_run(table, lo, hi, depth, key, &mut first, &mut end);
+    let covering = covering_hops(table, g.present, &first, &end, inherited);
     let node = assign_nodes(work, top, above);
     let hops = node.hops;
     let entries = node.entries;
+    let busy = g.occupied | head_slots(entries) | leaf_slots(&covering, &hops, fill);
     let mut at = node.top;
     let mut n: usize = 0;
-    let mut c: usize = 0;
+    let mut c = next_bit(busy, 0);
     while c < 32 {
         let slot = slot_key(key, depth, c);
         let here = past(n, out.len());
@@ -143,7 +146,7 @@ pub fn rewrite(
         );
         n += child.count;
         at = child.top;
-        c += 1;
+        c = next_bit(busy, c + 1);
     }
     Walked { count: n, top: at }
 }

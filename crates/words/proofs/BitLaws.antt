@@ -107,6 +107,14 @@ bit-or a b k =
     ∙ digits-mod (bitOr (a / 2 ^ k / 2) (b / 2 ^ k / 2)) (let p : digit a k < 2 = digit-lt a k in let q : digit b k < 2 = digit-lt b k in omega arith))
     ∙ test-max (digit a k) (digit b k) (digit-lt a k) (digit-lt b k)
 
+-- Where `a | b` has a bit clear, neither has it.
+pub neither : (a b k : ℕ) → bit (bitOr a b) k ≡ false → (bit a k ≡ false) × (bit b k ≡ false)
+neither a b k e = go (bit a k) (bit b k) (sym (bit-or a b k) ∙ e)
+  where
+    go : (s t : Bool) → (s || t) ≡ false → (s ≡ false) × (t ≡ false)
+    go true t z = absurd (true≢false z)
+    go false t z = (refl, z)
+
 -- The bits of `x >> j`.
 pub bit-shr : (x j k : ℕ) → bit (x / 2 ^ j) k ≡ bit x (j + k)
 unfolding bit

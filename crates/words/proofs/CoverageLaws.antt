@@ -1,6 +1,6 @@
 -- The coverage sweeps, one law a step, over the level. Assumes nothing.
 use mathlib.Core.Path.{_≡_, refl, sym, ap, ap₂, _∙_, subst}
-use mathlib.Core.Bool.{Bool, true, false, cond, not, _&&_, _||_, and-true, and-false, or-true, or-false, and-or-distrib-right}
+use mathlib.Core.Bool.{Bool, true, false, cond, not, _&&_, _||_, and-true, or-true, or-false, and-or-distrib-right}
 use Prim.Native.Nat.{ℕ, zero, suc, _+_, _-_, _*_, _/_, _^_, _≤_, _<_}
 use native.Mathlib.Nat.{pow-suc}
 use native.Mathlib.Omega.{arith}
@@ -9,10 +9,10 @@ use lib.Bits.{bitOr}
 use borrow.Author.Tests.{le-leb, lt-leb, lt-ltb, ne-eqb}
 use Rattle.words.specs.Bits.{bit}
 use Rattle.words.specs.Coverage.{UnderMembers, WhollyCovered, ParentCovered, Kept}
-use Rattle.words.specs.Positions.{position, atLevel, first, member, under, whole}
+use Rattle.words.specs.Positions.{position, first, member, under, whole}
 use Rattle.words.specs.Rules.{stray, Folded, Pushed, PushedSlots}
 use Rattle.words.proofs.BitLaws.{if-le, if-eq, bit-zero, bit-or}
-use Rattle.words.proofs.PositionLaws.{in-word, level-of, above, fold-at, push-at}
+use Rattle.words.proofs.PositionLaws.{in-word, above, fold-at, push-at, push-slot, no-stray}
 
 -- Two thresholds that differ at n alone.
 past : (n l : ℕ) → (n ≡ l → ⊥) → leb (suc n) l ≡ leb n l
@@ -152,17 +152,14 @@ under-end {d} {v} u s f = record { inside = inside; slot = slot; top = u .at 5 0
 
     slot : (c : ℕ) → c < 32 → bit s c ≡ (stray d c || under d 5 c)
     slot c h =
-        let e : c + 31 ≡ position 5 c = omega arith in
-        let q : (c + 31 - 1) / 2 ≡ position 4 (c / 2) = omega arith in
         let i : c / 2 < 2 ^ 4 = omega arith in
-        f c h
+        push-slot (bitOr d v) s f c h
         ∙ ap₂ _||_ (ap (λ (t : Bool). eqb (c / 2) 8 && t) (bit-or d v 31 ∙ ap (λ (t : Bool). bit d 31 || t) (u .at 5 0 (lit< tt) (lit< tt)) ∙ or-false (bit d 31)))
-        (ap₂ _&&_ (ap (atLevel 5) e ∙ level-of 5 5 c h)
-        (ap (bit (bitOr d v)) q ∙ bit-or d v (position 4 (c / 2)) ∙ ap (λ (t : Bool). member d 4 (c / 2) || t) (inside 4 (c / 2) (lit≤ tt) i)))
+        (bit-or d v (position 4 (c / 2)) ∙ ap (λ (t : Bool). member d 4 (c / 2) || t) (inside 4 (c / 2) (lit≤ tt) i))
 
 -- With bit 31 of the members clear nothing strays: a slot is marked exactly when it stands below a member.
 pub slot-under : {d v s : ℕ} → bit d 31 ≡ false → UnderMembers d v s → (c : ℕ) → c < 32 → bit s c ≡ under d 5 c
-slot-under {d} {v} {s} z m c h = m .slot c h ∙ ap (λ (t : Bool). (eqb (c / 2) 8 && t) || under d 5 c) z ∙ ap (λ (t : Bool). t || under d 5 c) (and-false (eqb (c / 2) 8))
+slot-under {d} {v} {s} z m c h = m .slot c h ∙ ap (λ (t : Bool). t || under d 5 c) (no-stray d c z)
 
 -- ---- pushes of a word by itself: the positions below its own
 

@@ -188,7 +188,3 @@ pushed-slots e t x h k b =
     bits e x h k ∙ ap (anyOf x) (tab-at 32 (formula e) slotRule t k b)
     ∙ any-append x (pick (eqb (k / 2) 8) ((31 ∷ []) ∷ [])) (pushRule 4 k)
     ∙ ap₂ _||_ (picked x (eqb (k / 2) 8) ((31 ∷ []) ∷ []) ∙ ap (λ (s : Bool). eqb (k / 2) 8 && s) (single x 31)) (one-push x 4 k)
-
--- Where bit 31 is clear, the push into the slots is the rule.
-pub slots-rule : (x r : ℕ) → bit x 31 ≡ false → PushedSlots x r → Pushed 4 x r
-slots-rule x r z p k h = p k h ∙ ap (λ (s : Bool). (eqb (k / 2) 8 && s) || pushBit 4 x k) z ∙ ap (λ (s : Bool). s || pushBit 4 x k) (and-comm (eqb (k / 2) 8) false)

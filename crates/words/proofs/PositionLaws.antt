@@ -1,7 +1,7 @@
 -- Positions by level and index: where each stands in its level, what stands above and below it, and the rules of the folds and pushes read
 -- at a position. Assumes nothing.
 use mathlib.Core.Path.{_≡_, ap, ap₂, _∙_}
-use mathlib.Core.Bool.{Bool, true, false, cond, _&&_, and-false}
+use mathlib.Core.Bool.{Bool, true, false, cond, _&&_, _||_, and-false}
 use Prim.Native.Nat.{ℕ, suc, _+_, _-_, _*_, _/_, _^_, _≤_, _<_}
 use native.Mathlib.Nat.{pow-suc}
 use native.Mathlib.Numerals.{add-one}
@@ -11,7 +11,7 @@ use lib.Pow.{pow-pos, pow-mono}
 use borrow.Author.Tests.{lt-ltb, le-ltb, le-leb, lt-leb}
 use Rattle.words.specs.Bits.{bit}
 use Rattle.words.specs.Positions.{position, atLevel, first}
-use Rattle.words.specs.Rules.{Folded, Pushed}
+use Rattle.words.specs.Rules.{stray, Folded, Pushed, PushedSlots}
 use Rattle.words.proofs.BitLaws.{if-lt, if-eq}
 
 -- ---- numbers of positions
@@ -97,3 +97,18 @@ push-at l x r k f m j h b =
     let e : position m j + first (l + 1) ≡ position m j = omega arith in
     f (position m j) b
     ∙ ap₂ _&&_ (ap (atLevel (l + 1)) e ∙ level-of (l + 1) m j h ∙ ap (λ (n : ℕ). eqb n m) (add-one l)) (ap (λ (n : ℕ). bit x ((n - 1) / 2)) e)
+
+-- The push into the slots: at each slot what stands above it, and what strays.
+pub push-slot : (x r : ℕ) → PushedSlots x r → (c : ℕ) → c < 32 → bit r c ≡ (stray x c || bit x (position 4 (c / 2)))
+push-slot x r f c lt =
+    let e : c + 31 ≡ position 5 c = omega arith in
+    let q : (c + 31 - 1) / 2 ≡ position 4 (c / 2) = omega arith in
+    f c lt ∙ ap (λ (t : Bool). stray x c || t) (ap₂ _&&_ (ap (atLevel 5) e ∙ level-of 5 5 c lt) (ap (bit x) q))
+
+-- With bit 31 of the word clear nothing strays,
+pub no-stray : (x c : ℕ) → bit x 31 ≡ false → stray x c ≡ false
+no-stray x c z = ap (λ (t : Bool). eqb (c / 2) 8 && t) z ∙ and-false (eqb (c / 2) 8)
+
+-- and a slot is marked exactly when the position above it is in the word.
+pub pushed-is : (x r : ℕ) → bit x 31 ≡ false → PushedSlots x r → (c : ℕ) → c < 32 → bit r c ≡ bit x (position 4 (c / 2))
+pushed-is x r z f c lt = push-slot x r f c lt ∙ ap (λ (t : Bool). t || bit x (position 4 (c / 2))) (no-stray x c z)

@@ -1,28 +1,28 @@
--- `consistent::maps::aggregate_consistent_map` meets its contract: one cycle of calls, by falling bits below the node. The loop's invariant: the node
--- is found, and its slots before c are written. Assumes nothing.
-use Prim.Native.Nat.{ℕ, _+_, _-_, _*_, _^_, _≤_, _<_}
-use mathlib.Core.Path.{_≡_, refl, sym, _∙_}
-use lib.ListN.{length, getD-replicate}
+-- `consistent::maps::aggregate_consistent_map` meets its contract: one cycle of calls, by falling bits below the node. The loop's invariant: the
+-- node is found, the word has the slots to visit, and the node's slots before c are written. Assumes nothing.
+use Prim.Native.Nat.{ℕ, _+_, _-_, _<_}
+use mathlib.Core.Path.{refl}
+use lib.ListN.{getD-replicate}
 use native.Mathlib.Omega.{arith}
 use borrow.Author.Needs.{needs}
 use borrow.Fn.Kinds.{In}
 use borrow.Fn.PlainCycle.{Measures, is, falls, and}
-use Rattle.positions.specs.Walk.{slots}
-use Rattle.nodes.specs.Node.{wide, slotSize}
-use Rattle.nodes.specs.Output.{Wrote, entryAt}
-use Rattle.nodes.proofs.OutputLaws.{wrote-none, wrote-tail, slots-zero, slots-more, slot-below, slots-small}
-use Rattle.nodes.proofs.GatherLaws.{ends-in, child-node}
-use Rattle.consistent.proofs.KeptSlots.{few-child, few-alone, few-all}
-use Rattle.consistent.proofs.MapLaws.{Found, mapSlot, slot-le, map-slots, map-child, map-no-child}
+use Rattle.nodes.proofs.OutputLaws.{slot-below}
+use Rattle.nodes.proofs.OutputWalk.{relaid, Walked, Begun, walked-none, walked-small, begun, walked-alone, child-small, walked-child, walked-all}
+use Rattle.nodes.proofs.GatherLaws.{absent, ends-in, child-node}
+use Rattle.consistent.proofs.BusySlots.{Busy, busy-slots, walked-next}
+use Rattle.consistent.proofs.MapLaws.{mapSlot, map-no-child, Found, slot-le, map-slots, map-child}
 use Rattle.consistent.proofs.maps.aggregate_consistent_map.Reads as reads
 use Rattle.consistent.proofs.maps.aggregate_consistent_map.Kinds as kinds
 use Rattle.consistent.proofs.maps.+aggregate_consistent_map.Lts-aggregate_consistent_map as lts
 use Rattle.consistent.proofs.maps.entries_of.Reads as entries-of-reads
 use Rattle.nodes.proofs.emit.emit_slot.Reads as emit-slot-reads
+use Rattle.nodes.proofs.emit.head_slots.Reads as head-slots-reads
 use Rattle.nodes.proofs.emit.past.Reads as past-reads
-use Rattle.nodes.proofs.gather.covering_values.Reads as covering-values-reads
-use Rattle.nodes.proofs.gather.gather.Reads as gather-reads
+use Rattle.nodes.proofs.gather.covering_hops.Reads as covering-hops-reads
+use Rattle.nodes.proofs.gather.gather_run.Reads as gather-run-reads
 use Rattle.nodes.proofs.gather.slot_key.Reads as slot-key-reads
+use Rattle.words.proofs.bits.next_bit.Reads as next-bit-reads
 use Rattle.consistent.proofs.maps.+aggregate_consistent_map.{statement}
 use Rattle.consistent.proofs.maps.+aggregate_consistent_map.Tie.{close}
 
@@ -37,12 +37,16 @@ below t = and 2 kinds.ps (falls 2 kinds.ps _<_ μ-depth t) reads.Pre
 
 abbrev claims : ℕ → lts.Claims
 claims t = (
-  gather-reads.Asked,
-  gather-reads.Learnt,
-  covering-values-reads.Asked,
-  covering-values-reads.Learnt,
+  gather-run-reads.Asked,
+  gather-run-reads.Learnt,
+  covering-hops-reads.Asked,
+  covering-hops-reads.Learnt,
   entries-of-reads.Asked,
   entries-of-reads.Learnt,
+  head-slots-reads.Asked,
+  head-slots-reads.Learnt,
+  next-bit-reads.Asked,
+  next-bit-reads.Learnt,
   slot-key-reads.Asked,
   slot-key-reads.Learnt,
   past-reads.Asked,
@@ -54,42 +58,47 @@ claims t = (
 )
 
 abbrev Inv-loop : lts.InvT-loop
-Inv-loop table lo hi depth key inherited out₀ first end hops entries n₀ c₀ out n c =
-    Found table lo hi depth key inherited first end hops entries × ((c ≤ 32)
-    × ((n + c ≤ c * (8 * 2 ^ slotSize depth))
-    × ((length out ≡ length out₀) × Wrote (slots (entryAt entries hops depth key) (mapSlot table first end hops depth key) c) 0 n out₀ out)))
+Inv-loop table lo hi depth key inherited out₀ first end hops entries busy n₀ c₀ out n c =
+    Found table lo hi depth key inherited first end hops entries × (Busy entries hops depth key (mapSlot table first end hops depth key) busy
+    × Walked entries hops depth key (mapSlot table first end hops depth key) c n out₀ out)
 
 abbrev μ-loop : lts.MeasureT-loop
-μ-loop table lo hi depth key inherited out₀ first end hops entries n₀ c₀ out n c = 32 - c
+μ-loop table lo hi depth key inherited out₀ first end hops entries busy n₀ c₀ out n c = 32 - c
 
-gather-requires : (t : ℕ) → lts.Need-gather-requires (claims t) (at t) reads.Post Inv-loop μ-loop
-gather-requires t c κs =
-    (c .before .before .before .before .pre .1 .0, ((refl, refl), λ b lt. (getD-replicate 63 b 0 0 lt, getD-replicate 63 b 0 0 lt)))
+gather-run-requires : (t : ℕ) → lts.Need-gather-run-requires (claims t) (at t) reads.Post Inv-loop μ-loop
+gather-run-requires t c κs = (c .before .before .before .before .pre .1 .0, ((refl, refl), λ b lt. (getD-replicate 63 b 0 0 lt, getD-replicate 63 b 0 0 lt)))
 
-covering-values-requires : (t : ℕ) → lts.Need-covering-values-requires (claims t) (at t) reads.Post Inv-loop μ-loop
-covering-values-requires t c κs = ends-in (c .before .before .before .before .before .before .before .pre .1 .0) (c .before .before .gather .ensures)
+covering-hops-requires : (t : ℕ) → lts.Need-covering-hops-requires (claims t) (at t) reads.Post Inv-loop μ-loop
+covering-hops-requires t c κs = let g = c .before .before .gather-run .ensures .0 in (ends-in (c .before .before .before .before .before .before .before .pre .1 .0) g, absent g)
 
 entries-of-requires : (t : ℕ) → lts.Need-entries-of-requires (claims t) (at t) reads.Post Inv-loop μ-loop
-entries-of-requires t c κs = search needs
+entries-of-requires t c κs = absent (c .before .before .before .before .before .before .gather-run .ensures .0)
+
+head-slots-requires : (t : ℕ) → lts.Need-head-slots-requires (claims t) (at t) reads.Post Inv-loop μ-loop
+head-slots-requires t c κs = search needs
+
+next-bit-requires : (t : ℕ) → lts.Need-next-bit-requires (claims t) (at t) reads.Post Inv-loop μ-loop
+next-bit-requires t c κs = search needs
 
 loop-holds : (t : ℕ) → lts.Need-loop-holds (claims t) (at t) reads.Post Inv-loop μ-loop
 loop-holds t c =
-    let pre = c .before .before .before .before .before .before .before .before .before .before .before .before .pre in (
+    let start = c .before .before .before .before .before .before .before .before .before .before .before .before .before .before .before in
+    let run = c .before .before .before .before .before .before .before .before .before .before .gather-run in
+    let hops = c .before .before .before .before .before .before .before .covering-hops in
+    let busy = busy-slots (run .ensures .0) _ (run .ensures .1) _ _ (c .before .before .head-slots .ensures) _ (map-no-child (run .ensures .0) (hops .result)) in (
       record {
-        node = pre .1 .0;
-        known = pre .1 .1;
-        present = c .before .before .before .before .before .before .before .gather .result;
-        gathered = c .before .before .before .before .before .before .before .gather .ensures;
-        covering = c .before .before .before .before .covering-values .ensures;
-        bits = c .entries-of .ensures;
+        node = start .pre .1 .0;
+        known = start .pre .1 .1;
+        present = run .result .present;
+        gathered = run .ensures .0;
+        covering = hops .ensures;
+        bits = c .before .before .before .entries-of .ensures;
       },
-      (omega arith, (omega arith, (refl, rw slots-zero (wrote-none _ _)))),
+      (busy, walked-next busy (c .next-bit .ensures) (walked-none (start .args .out .now))),
     )
 
 slot-key-requires : (t : ℕ) → lts.Need-slot-key-requires (claims t) (at t) reads.Post Inv-loop μ-loop
-slot-key-requires t c κs =
-    let n = c .before .loop .inv .0 .node in
-    (n .deep, (c .loop-test .taken, n .small))
+slot-key-requires t c κs = search needs
 
 past-requires : (t : ℕ) → lts.Need-past-requires (claims t) (at t) reads.Post Inv-loop μ-loop
 past-requires t c κs = search needs
@@ -111,10 +120,8 @@ emit-slot-requires t c κs =
 
 add-n : (t : ℕ) → lts.Need-add-n (claims t) (at t) reads.Post Inv-loop μ-loop
 add-n t c =
-    let l = c .before .before .before .before .before .before .before .before .loop in
-    let a = c .before .before .before .before .before .before .before .before .before .before .before .before .before .before .before .before .before .before .before .before .before .args in
-    let small = slots-small (slotSize (a .depth)) (l .c) (l .n) (omega arith) (l .inv .1 .0) (l .inv .1 .1 .0) in
-    let e = c .before .before .emit-slot .ensures .0 in
+    let small = walked-small (c .before .before .before .before .before .before .before .before .loop .inv .1 .1) in
+    let five = c .before .before .emit-slot .ensures .0 in
     search needs
 
 add-from : (t : ℕ) → lts.Need-add-from (claims t) (at t) reads.Post Inv-loop μ-loop
@@ -141,14 +148,17 @@ add-cover t c = search needs
 array-read-cover : (t : ℕ) → lts.Need-array-read-cover (claims t) (at t) reads.Post Inv-loop μ-loop
 array-read-cover t c = search needs
 
-add-c : (t : ℕ) → lts.Need-add-c (claims t) (at t) reads.Post Inv-loop μ-loop
-add-c t c = search needs
+add-next-bit : (t : ℕ) → lts.Need-add-next-bit (claims t) (at t) reads.Post Inv-loop μ-loop
+add-next-bit t c = search needs
+
+next-bit-requires-2 : (t : ℕ) → lts.Need-next-bit-requires-2 (claims t) (at t) reads.Post Inv-loop μ-loop
+next-bit-requires-2 t c κs = search needs
 
 past-requires-2 : (t : ℕ) → lts.Need-past-requires-2 (claims t) (at t) reads.Post Inv-loop μ-loop
 past-requires-2 t c κs = search needs
 
 add-aggregate-consistent-map : (t : ℕ) → lts.Need-add-aggregate-consistent-map (claims t) (at t) reads.Post Inv-loop μ-loop
-add-aggregate-consistent-map t c = let d = c .before .before .before .before .before .before .before .before .before .before .loop .inv .0 .node .deep in search needs
+add-aggregate-consistent-map t c = let deep = c .before .before .before .before .before .before .before .before .before .before .before .loop .inv .0 .node .deep in omega arith
 
 sub-aggregate-consistent-map : (t : ℕ) → lts.Need-sub-aggregate-consistent-map (claims t) (at t) reads.Post Inv-loop μ-loop
 sub-aggregate-consistent-map t c = search needs
@@ -161,101 +171,80 @@ part-aggregate-consistent-map-end t c = search needs
 
 aggregate-consistent-map-requires : (t : ℕ) → lts.Need-aggregate-consistent-map-requires (claims t) (at t) reads.Post Inv-loop μ-loop
 aggregate-consistent-map-requires t c κs =
-    let f = c .before .before .before .before .before .before .before .before .before .before .before .loop .inv .0 in
-    let lt = c .before .before .before .before .before .before .before .before .before .before .loop-test .taken in
-    let falls = c .before .before .before .before .before .before .before .before .before .before .before .before .before .before .before .before .before .before .before .before .before .before .before .before .pre .0 in
-    let key = c .before .before .before .before .before .before .before .before .before .slot-key .ensures in
-    let has = c .before .before .if1 .taken in
-    (omega (arith, falls, f .node .deep), (rw key (child-node (f .node) (f .gathered) _ lt has), slot-le f _ lt))
+    let lp = c .before .before .before .before .before .before .before .before .before .before .before .before .loop in
+    let f = lp .inv .0 in
+    let lt = c .before .before .before .before .before .before .before .before .before .before .before .loop-test .taken in
+    let child = child-node (f .node) (f .gathered) (lp .c) lt (c .before .before .if1 .taken) in
+    let bits = c .before .before .before .before .before .before .before .before .before .before .before .before .before .before .before .before .before .before .before .before .before .before .before .before .before .before .before .before .pre .0 in
+    (omega (arith, f .node .deep, bits), (rw (c .before .before .before .before .before .before .before .before .before .before .slot-key .ensures) child, slot-le f (lp .c) lt))
+
+-- The entries that begin at a slot are written once they come back.
+entered : (t : ℕ) (c : lts.After-slice-known2 (claims t) (at t) reads.Post Inv-loop μ-loop)
+    → let a = c .before .before .before .before .before .before .before .before .before .before .before .before .before .before .before .before .before .before .before .before .before .before .before .before .args in
+    let run = c .before .before .before .before .before .before .before .before .before .before .before .before .before .before .before .before .before .before .before .gather-run .last .1 .1 .1 .1 .1 in
+    let hops = c .before .before .before .before .before .before .before .before .before .before .before .before .before .before .before .before .covering-hops .result in
+    let lp = c .before .before .before .before .before .before .before .before .loop in
+    let heads = c .before .before .emit-slot in
+    Begun (c .before .before .before .before .before .before .before .before .before .before .before .before .entries-of .result) hops (a .depth) (a .key) (mapSlot (a .table .now) (run .0) (run .1 .0) hops (a .depth) (a .key)) (lp .c)
+    (lp .n + heads .result) (a .out .now) (relaid (c .before .before .before .before .before .past .result) (heads .last .1 .1 .1 .1 .1 .0) (lp .out))
+entered t c =
+    let heads = c .before .before .emit-slot in
+    let lt = c .before .before .before .before .before .before .before .loop-test .taken in
+    let key = c .before .before .before .before .before .before .slot-key .ensures in
+    begun (c .before .before .before .before .before .before .before .before .loop .inv .1 .1) lt (c .before .before .before .before .before .past .ensures) key (heads .ensures .0) (heads .ensures .1) (c .before .out .given .1)
 
 add-n-2 : (t : ℕ) → lts.Need-add-n-2 (claims t) (at t) reads.Post Inv-loop μ-loop
 add-n-2 t c =
-    let l = c .before .before .before .before .before .before .before .before .before .before .before .before .before .before .loop in
-    let lt = c .before .before .before .before .before .before .before .before .before .before .before .before .before .loop-test .taken in
-    let a = c .before .before .before .before .before .before .before .before .before .before .before .before .before .before .before .before .before .before .before .before .before .before .before .before .before .before .before .args in
-    let heads = c .before .before .before .before .before .before .before .before .emit-slot in
-    let child = c .before .before .aggregate-consistent-map in
-    let few = few-child (a .depth) (l .c) (l .n) (heads .result) (child .result) (l .inv .0 .node .deep) (l .inv .1 .1 .0) (heads .ensures .0) (child .ensures .0) in
-    let small = slots-small (slotSize (a .depth)) (l .c + 1) _ (omega arith) (omega arith) few in
-    search needs
+    let call = c .before .before .aggregate-consistent-map in
+    let deep = c .before .before .before .before .before .before .before .before .before .before .before .before .before .before .before .loop .inv .0 .node .deep in
+    let small = child-small deep (entered t (c .before .before .before .before .before .before .before)) (call .result) (call .ensures .0) in
+    omega arith
 
 loop-less : (t : ℕ) → lts.Need-loop-less (claims t) (at t) reads.Post Inv-loop μ-loop
-loop-less t c = search needs
+loop-less t c =
+    let lt = c .before .before .before .before .before .before .before .before .before .before .before .before .before .before .loop-test .taken in
+    omega (arith, lt, c .before .before .before .before .before .before .next-bit2 .ensures .low)
 
 loop-again : (t : ℕ) → lts.Need-loop-again (claims t) (at t) reads.Post Inv-loop μ-loop
 loop-again t c =
-    let l = c .before .before .before .before .before .before .before .before .before .before .before .before .before .before .loop in
-    let f = l .inv .0 in
-    let lt = c .before .before .before .before .before .before .before .before .before .before .before .before .before .loop-test .taken in
-    let a = c .before .before .before .before .before .before .before .before .before .before .before .before .before .before .before .before .before .before .before .before .before .before .before .before .before .before .before .args in
-    let heads = c .before .before .before .before .before .before .before .before .emit-slot in
-    let child = c .before .before .aggregate-consistent-map in
-    let few = few-child (a .depth) (l .c) (l .n) (heads .result) (child .result) (l .inv .0 .node .deep) (l .inv .1 .1 .0) (heads .ensures .0) (child .ensures .0) in
-    let key = c .before .before .before .before .before .before .before .before .before .before .before .before .slot-key .ensures in
-    let here = c .before .before .before .before .before .before .before .before .before .before .before .past .ensures in
-    let then = c .before .before .before .before .past2 .ensures in
-    let same = c .before .before .before .before .before .before .before .out .given .1 in (
-      f,
-      (
-        omega arith,
-        (
-          omega arith,
-          (
-            c .before .out2 .given .1 ∙ same ∙ l .inv .1 .1 .1 .0,
-            slots-more _ _ _ _ _ _ (l .inv .1 .1 .1 .1) (l .inv .1 .1 .1 .0)
-                (wrote-tail _ _ _ (here .1) (here .0) (rw key at (heads .ensures .1))) same
-                (wrote-tail _ _ _ (then .1) (then .0) (rw (map-child f (l .c) _ key) at (child .ensures .1))),
-          ),
-        ),
-      ),
-    )
+    let lp = c .before .before .before .before .before .before .before .before .before .before .before .before .before .before .before .loop in
+    let f = lp .inv .0 in
+    let call = c .before .before .aggregate-consistent-map in
+    let key = c .before .before .before .before .before .before .before .before .before .before .before .before .before .slot-key .ensures in
+    let own = rw (map-child f (lp .c) _ key) at (call .ensures .1) in
+    let slot = walked-child (f .node .deep) (entered t (c .before .before .before .before .before .before .before)) (call .result) (call .ensures .0) (c .before .before .before .before .past2 .ensures) own
+    (c .before .out2 .given .1) in
+    (f, (lp .inv .1 .0, walked-next (lp .inv .1 .0) (c .before .before .before .before .before .before .next-bit2 .ensures) slot))
 
 loop-less-2 : (t : ℕ) → lts.Need-loop-less-2 (claims t) (at t) reads.Post Inv-loop μ-loop
-loop-less-2 t c = search needs
+loop-less-2 t c = omega (arith, c .before .before .before .before .before .before .before .before .before .loop-test .taken, c .before .next-bit2 .ensures .low)
 
 loop-again-2 : (t : ℕ) → lts.Need-loop-again-2 (claims t) (at t) reads.Post Inv-loop μ-loop
 loop-again-2 t c =
-    let l = c .before .before .before .before .before .before .before .before .before .loop in
-    let f = l .inv .0 in
-    let lt = c .before .before .before .before .before .before .before .before .loop-test .taken in
-    let a = c .before .before .before .before .before .before .before .before .before .before .before .before .before .before .before .before .before .before .before .before .before .before .args in
-    let heads = c .before .before .before .emit-slot in
-    let few = few-alone (a .depth) (l .c) (l .n) (heads .result) (l .inv .1 .1 .0) (heads .ensures .0) in
-    let key = c .before .before .before .before .before .before .before .slot-key .ensures in
-    let here = c .before .before .before .before .before .before .past .ensures in
-    let same = c .before .before .out .given .1 in (
-      f,
-      (
-        omega arith,
-        (
-          omega arith,
-          (
-            same ∙ l .inv .1 .1 .1 .0,
-            slots-more _ _ _ _ _ _ (l .inv .1 .1 .1 .1) (l .inv .1 .1 .1 .0)
-                (wrote-tail _ _ _ (here .1) (here .0) (rw key at (heads .ensures .1))) same
-                (rw (map-no-child f (l .c) lt (c .if1 .left)) (wrote-none _ _)),
-          ),
-        ),
-      ),
-    )
+    let lp = c .before .before .before .before .before .before .before .before .before .before .loop in
+    let f = lp .inv .0 in
+    let lt = c .before .before .before .before .before .before .before .before .before .loop-test .taken in
+    let hops = c .before .before .before .before .before .before .before .before .before .before .before .before .before .before .before .before .before .before .covering-hops .result in
+    let slot = walked-alone (entered t (c .before .before)) (map-no-child (f .gathered) hops (lp .c) lt (c .if1 .left)) in
+    (f, (lp .inv .1 .0, walked-next (lp .inv .1 .0) (c .before .next-bit2 .ensures) slot))
 
 same-length : (t : ℕ) → lts.Need-same-length (claims t) (at t) reads.Post Inv-loop μ-loop
-same-length t c = c .before .loop .inv .1 .1 .1 .0
+same-length t c = c .before .loop .inv .1 .1 .sized
 
 returns : (t : ℕ) → lts.Need-returns (claims t) (at t) reads.Post Inv-loop μ-loop
 returns t c =
-    let l = c .before .loop in
-    let f = l .inv .0 in
-    let a = c .before .before .before .before .before .before .before .before .before .before .before .before .before .before .args in
-    let all : l .c ≡ 32 = omega arith in
-    (few-all (a .depth) (l .c) (l .n) (f .node .deep) all (l .inv .1 .1 .0), rw (map-slots f) (rw all at (l .inv .1 .1 .1 .1)))
+    let f = c .before .loop .inv .0 in
+    let all = walked-all (f .node .deep) (c .before .loop .inv .1 .1) (c .loop-test .left) in
+    (all .0, rw (map-slots f) (all .1))
 
 pub +aggregate-consistent-map-spec : {M : Type 1} → statement M
 +aggregate-consistent-map-spec =
     close μ-depth λ t. lts.spec (claims t) (at t) reads.Post Inv-loop μ-loop
-    (gather-requires t)
-    (covering-values-requires t)
+    (gather-run-requires t)
+    (covering-hops-requires t)
     (entries-of-requires t)
+    (head-slots-requires t)
+    (next-bit-requires t)
     (loop-holds t)
     (slot-key-requires t)
     (past-requires t)
@@ -272,7 +261,8 @@ pub +aggregate-consistent-map-spec : {M : Type 1} → statement M
     (array-read-to t)
     (add-cover t)
     (array-read-cover t)
-    (add-c t)
+    (add-next-bit t)
+    (next-bit-requires-2 t)
     (past-requires-2 t)
     (add-aggregate-consistent-map t)
     (sub-aggregate-consistent-map t)

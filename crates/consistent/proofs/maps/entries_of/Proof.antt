@@ -1,23 +1,23 @@
 -- `consistent::maps::entries_of` meets its contract. The loop's invariant: the bits of the positions before b are found. Assumes nothing.
 use Prim.Native.Nat.{_-_, _≤_}
-use mathlib.Core.Path.{ap, _∙_}
-use mathlib.Core.Bool.{Bool, _&&_, _||_}
 use native.Mathlib.Omega.{arith}
-use lib.Dec.{eqb}
-use lib.ListN.{getD}
-use Rattle.words.specs.Bits.{bit}
-use Rattle.consistent.proofs.MapLaws.{isEntry, entryBit, Marked, marked-none, marked-next, marked-all}
+use Rattle.consistent.proofs.MapLaws.{entryBit, Marked, marked-none, marked-next, marked-past, marked-all}
 use Rattle.consistent.proofs.maps.entries_of.Statement.{statement}
 use Rattle.consistent.proofs.maps.entries_of.Tie as tie
 
 abbrev Inv-loop : tie.InvT-loop
-Inv-loop first end hops inherited entries₀ b₀ entries b = (b ≤ 31) × Marked (entryBit first end hops inherited) b entries
+Inv-loop present first end hops inherited entries₀ b₀ entries b = (b ≤ 32) × Marked (entryBit first end hops inherited) b entries
 
 abbrev μ-loop : tie.MeasureT-loop
-μ-loop first end hops inherited entries₀ b₀ entries b = 31 - b
+μ-loop present first end hops inherited entries₀ b₀ entries b = 32 - b
+
+next-bit-requires : tie.Need-next-bit-requires Inv-loop μ-loop
+next-bit-requires c κs = omega arith
 
 loop-holds : tie.Need-loop-holds Inv-loop μ-loop
-loop-holds c = (omega arith, marked-none _)
+loop-holds c =
+    let a = c .before .args in
+    (c .next-bit .ensures .high, marked-past (a .first .now) (a .end .now) (a .hops .now) (a .inherited) 0 (c .before .pre) (c .next-bit .ensures) (marked-none _))
 
 cast-with-entry : tie.Need-cast-with-entry Inv-loop μ-loop
 cast-with-entry c = omega arith
@@ -43,21 +43,24 @@ over-at-requires c κs = omega arith
 with-entry-requires : tie.Need-with-entry-requires Inv-loop μ-loop
 with-entry-requires c κs = omega arith
 
-add-b : tie.Need-add-b Inv-loop μ-loop
-add-b c = omega arith
+add-next-bit : tie.Need-add-next-bit Inv-loop μ-loop
+add-next-bit c = omega arith
+
+next-bit-requires-2 : tie.Need-next-bit-requires-2 Inv-loop μ-loop
+next-bit-requires-2 c κs = omega arith
 
 loop-less : tie.Need-loop-less Inv-loop μ-loop
-loop-less c = omega arith
+loop-less c = omega (arith, c .next-bit2 .ensures .low)
 
 loop-again : tie.Need-loop-again Inv-loop μ-loop
 loop-again c =
-    let l = c .before .before .before .before .before .before .loop in
-    let a = c .before .before .before .before .before .before .before .args in
-    let over = c .before .over-at .ensures in (
-      omega arith,
-      marked-next (entryBit (a .first .now) (a .end .now) (a .hops .now) (a .inherited)) (l .b) (l .entries) (c .with-entry .result) (l .inv .1) (λ i h.
-          c .with-entry .ensures i h
-          ∙ ap (λ o. (eqb i (l .b) && isEntry (getD (a .first .now) (l .b) 0) (getD (a .end .now) (l .b) 0) (getD (a .hops .now) (l .b) 0) o) || bit (l .entries) i) over),
+    let l = c .before .before .before .before .before .before .before .loop in
+    let start = c .before .before .before .before .before .before .before .before .before in
+    let a = start .args in
+    let with = c .before .with-entry in (
+      c .next-bit2 .ensures .high,
+      marked-past (a .first .now) (a .end .now) (a .hops .now) (a .inherited) (with .result) (start .pre) (c .next-bit2 .ensures)
+          (marked-next _ (l .b) (l .entries) (with .result) (l .inv .1) (rw (c .before .before .over-at .ensures) at (with .ensures))),
     )
 
 returns : tie.Need-returns Inv-loop μ-loop
@@ -69,6 +72,7 @@ entries-of-spec =
     (tie.spec
     Inv-loop
     μ-loop
+    next-bit-requires
     loop-holds
     cast-with-entry
     mul-with-entry
@@ -78,7 +82,8 @@ entries-of-spec =
     element-copy-out-with-entry-3
     over-at-requires
     with-entry-requires
-    add-b
+    add-next-bit
+    next-bit-requires-2
     loop-less
     loop-again
     returns)

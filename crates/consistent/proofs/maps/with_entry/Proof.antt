@@ -1,10 +1,8 @@
 -- `consistent::maps::with_entry` meets its contract. Assumes nothing.
-use mathlib.Core.Path.{refl, sym, ap, _∙_}
-use mathlib.Core.Bool.{Bool, and-true, and-false, _&&_, _||_}
+use mathlib.Core.Bool.{and-true, and-false}
 use native.Mathlib.Omega.{arith}
 use borrow.Author.Needs.{needs}
 use lib.Dec.{eqb}
-use Rattle.words.specs.Bits.{bit}
 use Rattle.consistent.proofs.MapLaws.{is-entry, same-no-entry, bare-no-entry}
 use Rattle.consistent.proofs.maps.with_entry.Statement.{statement}
 use Rattle.consistent.proofs.maps.with_entry.Tie as tie

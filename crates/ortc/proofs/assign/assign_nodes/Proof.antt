@@ -1,7 +1,7 @@
 -- `ortc::assign::assign_nodes` meets its contract. The loop's invariant: the positions before b are assigned, and the reader stands before b.
 -- Assumes nothing.
 use Prim.Native.Nat.{_-_, _≤_}
-use mathlib.Core.Path.{_≡_, refl, sym, _∙_}
+use mathlib.Core.Path.{_≡_, refl}
 use native.Mathlib.Omega.{arith}
 use borrow.Author.Needs.{needs}
 use Rattle.words.proofs.PositionLaws.{in-word}
@@ -60,7 +60,7 @@ loop-again c =
     let l = c .before .before .before .before .before .before .loop in (
       omega arith,
       assigning-next (l .inv .1) (omega arith) (a .pre .1) (c .before .before .before .over-at .ensures) (c .before .before .step-at .ensures)
-          (c .before .with-entry .result) (c .before .with-entry .ensures),
+          (c .before .with-entry .result) (λ i lt. c .before .with-entry .ensures i (omega arith)),
     )
 
 returns : tie.Need-returns Inv-loop μ-loop

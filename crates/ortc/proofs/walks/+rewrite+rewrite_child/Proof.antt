@@ -1,17 +1,18 @@
 -- `ortc::walks::rewrite` and `rewrite_child` meet their contracts: one cycle of calls, by falling bits below the node. The loop's invariant: the node
 -- is opened, and its slots before c are walked. Assumes nothing.
-use Prim.Native.Nat.{ℕ, _+_, _-_, _*_, _^_, _≤_, _<_}
-use mathlib.Core.Path.{_≡_, refl}
+use Prim.Native.Nat.{ℕ, _+_, _-_, _*_, _≤_, _<_}
+use mathlib.Core.Path.{refl}
 use lib.ListN.{getD-replicate}
 use lib.Pow.{pow-pos}
 use native.Mathlib.Omega.{arith}
 use borrow.Author.Needs.{needs}
 use borrow.Fn.Kinds.{In}
 use borrow.Fn.PlainCycle.{Measures, is, falls, and}
-use Rattle.nodes.specs.Node.{wide, slotSize}
-use Rattle.nodes.proofs.GatherLaws.{ends-in, child-node}
-use Rattle.nodes.proofs.OutputLaws.{wrote-tail, slot-below, slots-small}
-use Rattle.ortc.proofs.RewriteLaws.{own-stored, Opened, Walking, opened, walking-start, slot-within, child-stored, walking-few, walking-next, walking-end, leaf-rewrite}
+use Rattle.nodes.specs.Node.{wide}
+use Rattle.nodes.proofs.GatherLaws.{ends-in, absent, child-node}
+use Rattle.nodes.proofs.OutputLaws.{slot-below}
+use Rattle.nodes.proofs.OutputWalk.{walked-small, begun, child-small, walked-child}
+use Rattle.ortc.proofs.RewriteLaws.{own-stored, Opened, Walking, opened, walking-start, walking-on, slot-within, child-stored, ahead-child, walking-end, leaf-rewrite}
 use Rattle.ortc.proofs.walks.rewrite.Reads as rewrite
 use Rattle.ortc.proofs.walks.rewrite.Kinds as rewrite-kinds
 use Rattle.ortc.proofs.walks.+rewrite+rewrite_child.Lts-rewrite as rewrite-lts
@@ -20,12 +21,15 @@ use Rattle.ortc.proofs.walks.rewrite_child.Kinds as child-kinds
 use Rattle.ortc.proofs.walks.+rewrite+rewrite_child.Lts-rewrite_child as child-lts
 use Rattle.hops.proofs.leaf_value.Reads as leaf-value-reads
 use Rattle.nodes.proofs.emit.emit_slot.Reads as emit-slot-reads
+use Rattle.nodes.proofs.emit.head_slots.Reads as head-slots-reads
 use Rattle.nodes.proofs.emit.past.Reads as past-reads
-use Rattle.nodes.proofs.gather.covering_values.Reads as covering-values-reads
-use Rattle.nodes.proofs.gather.gather.Reads as gather-reads
+use Rattle.nodes.proofs.gather.covering_hops.Reads as covering-hops-reads
+use Rattle.nodes.proofs.gather.gather_run.Reads as gather-run-reads
 use Rattle.nodes.proofs.gather.slot_key.Reads as slot-key-reads
+use Rattle.words.proofs.bits.next_bit.Reads as next-bit-reads
 use Rattle.ortc.proofs.assign.assign_nodes.Reads as assign-nodes-reads
 use Rattle.ortc.proofs.assign.emit.Reads as emit-reads
+use Rattle.ortc.proofs.assign.leaf_slots.Reads as leaf-slots-reads
 use Rattle.ortc.proofs.walks.+rewrite+rewrite_child.{statement}
 use Rattle.ortc.proofs.walks.+rewrite+rewrite_child.Tie.{close}
 
@@ -50,12 +54,18 @@ child-below t = and 3 child-kinds.ps (falls 3 child-kinds.ps _<_ μ-child t) chi
 
 abbrev rewrite-claims : ℕ → rewrite-lts.Claims
 rewrite-claims t = (
-  gather-reads.Asked,
-  gather-reads.Learnt,
-  covering-values-reads.Asked,
-  covering-values-reads.Learnt,
+  gather-run-reads.Asked,
+  gather-run-reads.Learnt,
+  covering-hops-reads.Asked,
+  covering-hops-reads.Learnt,
   assign-nodes-reads.Asked,
   assign-nodes-reads.Learnt,
+  head-slots-reads.Asked,
+  head-slots-reads.Learnt,
+  leaf-slots-reads.Asked,
+  leaf-slots-reads.Learnt,
+  next-bit-reads.Asked,
+  next-bit-reads.Learnt,
   slot-key-reads.Asked,
   slot-key-reads.Learnt,
   past-reads.Asked,
@@ -70,18 +80,20 @@ abbrev child-claims : ℕ → child-lts.Claims
 child-claims t = (rewrite-below t, rewrite.Post, leaf-value-reads.Asked, leaf-value-reads.Learnt, emit-reads.Asked, emit-reads.Learnt)
 
 abbrev Inv-loop : rewrite-lts.InvT-loop
-Inv-loop table lo hi depth key inherited fill above work top out₀ first end covering hops entries at₀ n₀ c₀ out at n c =
-    Opened table lo hi depth key inherited fill above work top first end covering hops entries
+Inv-loop table lo hi depth key inherited fill above work top out₀ first end covering hops entries busy at₀ n₀ c₀ out at n c =
+    Opened table lo hi depth key inherited fill above work top first end covering hops entries busy
     × Walking table lo hi depth key inherited fill above work top first end covering hops entries c at n out₀ out
 
 abbrev μ-loop : rewrite-lts.MeasureT-loop
-μ-loop table lo hi depth key inherited fill above work top out₀ first end covering hops entries at₀ n₀ c₀ out at n c = 32 - c
+μ-loop table lo hi depth key inherited fill above work top out₀ first end covering hops entries busy at₀ n₀ c₀ out at n c = 32 - c
 
-rewrite-gather-requires : (t : ℕ) → rewrite-lts.Need-gather-requires (rewrite-claims t) (rewrite-at t) rewrite.Post Inv-loop μ-loop
-rewrite-gather-requires t c κs = (c .before .before .before .before .before .pre .1 .0, ((refl, refl), λ b lt. (getD-replicate 63 b 0 0 lt, getD-replicate 63 b 0 0 lt)))
+rewrite-gather-run-requires : (t : ℕ) → rewrite-lts.Need-gather-run-requires (rewrite-claims t) (rewrite-at t) rewrite.Post Inv-loop μ-loop
+rewrite-gather-run-requires t c κs = (c .before .before .before .before .before .pre .1 .0, ((refl, refl), λ b lt. (getD-replicate 63 b 0 0 lt, getD-replicate 63 b 0 0 lt)))
 
-rewrite-covering-values-requires : (t : ℕ) → rewrite-lts.Need-covering-values-requires (rewrite-claims t) (rewrite-at t) rewrite.Post Inv-loop μ-loop
-rewrite-covering-values-requires t c κs = ends-in (c .before .before .before .before .before .before .before .before .pre .1 .0) (c .before .before .gather .ensures)
+rewrite-covering-hops-requires : (t : ℕ) → rewrite-lts.Need-covering-hops-requires (rewrite-claims t) (rewrite-at t) rewrite.Post Inv-loop μ-loop
+rewrite-covering-hops-requires t c κs =
+    let found = c .before .before .gather-run .ensures .0 in
+    (ends-in (c .before .before .before .before .before .before .before .before .pre .1 .0) found, absent found)
 
 rewrite-assign-nodes-requires : (t : ℕ) → rewrite-lts.Need-assign-nodes-requires (rewrite-claims t) (rewrite-at t) rewrite.Post Inv-loop μ-loop
 rewrite-assign-nodes-requires t c κs =
@@ -89,16 +101,28 @@ rewrite-assign-nodes-requires t c κs =
     let s = own-stored (pre .0) (pre .1 .1) in
     ((s .0, s .2), pre .1 .0 .1 .1)
 
+rewrite-head-slots-requires : (t : ℕ) → rewrite-lts.Need-head-slots-requires (rewrite-claims t) (rewrite-at t) rewrite.Post Inv-loop μ-loop
+rewrite-head-slots-requires t c κs = search needs
+
+rewrite-leaf-slots-requires : (t : ℕ) → rewrite-lts.Need-leaf-slots-requires (rewrite-claims t) (rewrite-at t) rewrite.Post Inv-loop μ-loop
+rewrite-leaf-slots-requires t c κs = search needs
+
+rewrite-next-bit-requires : (t : ℕ) → rewrite-lts.Need-next-bit-requires (rewrite-claims t) (rewrite-at t) rewrite.Post Inv-loop μ-loop
+rewrite-next-bit-requires t c κs = search needs
+
 rewrite-loop-holds : (t : ℕ) → rewrite-lts.Need-loop-holds (rewrite-claims t) (rewrite-at t) rewrite.Post Inv-loop μ-loop
 rewrite-loop-holds t c =
-    let pre = c .before .before .before .before .before .before .before .before .before .before .before .pre .1 in
+    let pre = c .before .before .before .before .before .before .before .before .before .before .before .before .before .before .before .before .before .pre .1 in
     let low = pre .1 .0 in
     let s = own-stored (pre .0) (pre .1 .1) in
-    let found = c .before .before .before .before .before .gather .ensures in
-    let does = c .before .assign-nodes .ensures in
+    let found = c .before .before .before .before .before .before .before .before .before .before .before .gather-run in
+    let does = c .before .before .before .before .before .before .before .assign-nodes .ensures in
+    let begins = c .before .before .before .before .before .head-slots in
+    let leaves = c .before .leaf-slots in
     let o =
-    opened (pre .0) found _ _ _ (low .0) (low .1 .1) (pre .1 .1) (c .before .before .covering-values .ensures) (does .1 .0 _ _ _ (s .0) (s .1) (s .2)) (does .1 .1) in
-    (o, walking-start o _ _ (does .0))
+    opened (pre .0) (found .ensures .0) _ _ _ (low .0) (low .1 .0) (low .1 .1) (found .result .occupied) (begins .result) (leaves .result) (pre .1 .1) (c .before .before .before .before .before .before .before .before .covering-hops .ensures) (does .1 .0 _ _ _ (s .0) (s .1) (s .2)) (does .1 .1)
+    (found .ensures .1) (begins .ensures) (leaves .ensures) in
+    (o, walking-on o (c .next-bit .ensures) (walking-start o _ _ (does .0)))
 
 rewrite-slot-key-requires : (t : ℕ) → rewrite-lts.Need-slot-key-requires (rewrite-claims t) (rewrite-at t) rewrite.Post Inv-loop μ-loop
 rewrite-slot-key-requires t c κs =
@@ -125,9 +149,7 @@ rewrite-emit-slot-requires t c κs =
 
 rewrite-add-n : (t : ℕ) → rewrite-lts.Need-add-n (rewrite-claims t) (rewrite-at t) rewrite.Post Inv-loop μ-loop
 rewrite-add-n t c =
-    let l = c .before .before .before .before .before .before .before .before .loop in
-    let start = c .before .before .before .before .before .before .before .before .before .before .before .before .before .before .before .before .before .before .before .before in
-    let small = slots-small (slotSize (start .args .depth)) (l .c) (l .n) (omega arith) (l .inv .1 .within) (l .inv .1 .count) in
+    let small = walked-small (c .before .before .before .before .before .before .before .before .loop .inv .1 .walked) in
     let few = c .before .before .emit-slot .ensures .0 in
     search needs
 
@@ -181,7 +203,7 @@ rewrite-rewrite-child-requires t c κs =
     let l = c .before .before .before .before .before .before .before .before .before .before .loop in
     let o = l .inv .0 in
     let lt = c .before .before .before .before .before .before .before .before .before .loop-test .taken in
-    let start = c .before .before .before .before .before .before .before .before .before .before .before .before .before .before .before .before .before .before .before .before .before .before in (
+    let start = c .before .before .before .before .before .before .before .before .before .before .before .before .before .before .before .before .before .before .before .before .before .before .before .before .before .before .before .before in (
       omega (arith, start .pre .0, o .node .deep),
       rw (c .before .before .before .before .before .before .before .before .slot-key .ensures) (
         λ has. child-node (o .node) (o .gathered) (l .c) lt has,
@@ -198,43 +220,46 @@ rewrite-rewrite-child-requires t c κs =
 rewrite-add-n-2 : (t : ℕ) → rewrite-lts.Need-add-n-2 (rewrite-claims t) (rewrite-at t) rewrite.Post Inv-loop μ-loop
 rewrite-add-n-2 t c =
     let l = c .before .before .before .before .before .before .before .before .before .before .before .before .before .before .loop in
-    let lt = c .before .before .before .before .before .before .before .before .before .before .before .before .before .loop-test .taken in
     let heads = c .before .before .before .before .before .before .before .before .emit-slot in
     let slot = c .before .before .before .rewrite-child in
-    let start = c .before .before .before .before .before .before .before .before .before .before .before .before .before .before .before .before .before .before .before .before .before .before .before .before .before .before in
-    let few = walking-few (l .inv .0) (l .c) lt (heads .result) (slot .result .count) (l .inv .1) (heads .ensures .0) (slot .ensures .0) in
-    let small = slots-small (slotSize (start .args .depth)) (l .c + 1) (l .n + (heads .result + slot .result .count)) (omega arith) (omega arith) few in
+    let b =
+    begun (l .inv .1 .walked) (c .before .before .before .before .before .before .before .before .before .before .before .before .before .loop-test .taken) (c .before .before .before .before .before .before .before .before .before .before .before .past .ensures) (c .before .before .before .before .before .before .before .before .before .before .before .before .slot-key .ensures) (heads .ensures .0) (heads .ensures .1) (c .before .before .before .before .before .before .before .out .given .1) in
+    let small = child-small (l .inv .0 .node .deep) b (slot .result .count) (slot .ensures .0) in
     search needs
 
-rewrite-add-c : (t : ℕ) → rewrite-lts.Need-add-c (rewrite-claims t) (rewrite-at t) rewrite.Post Inv-loop μ-loop
-rewrite-add-c t c = search needs
+rewrite-add-next-bit : (t : ℕ) → rewrite-lts.Need-add-next-bit (rewrite-claims t) (rewrite-at t) rewrite.Post Inv-loop μ-loop
+rewrite-add-next-bit t c = search needs
+
+rewrite-next-bit-requires-2 : (t : ℕ) → rewrite-lts.Need-next-bit-requires-2 (rewrite-claims t) (rewrite-at t) rewrite.Post Inv-loop μ-loop
+rewrite-next-bit-requires-2 t c κs = search needs
 
 rewrite-loop-less : (t : ℕ) → rewrite-lts.Need-loop-less (rewrite-claims t) (rewrite-at t) rewrite.Post Inv-loop μ-loop
-rewrite-loop-less t c = search needs
+rewrite-loop-less t c = omega (arith, c .next-bit2 .ensures .low)
 
 rewrite-loop-again : (t : ℕ) → rewrite-lts.Need-loop-again (rewrite-claims t) (rewrite-at t) rewrite.Post Inv-loop μ-loop
 rewrite-loop-again t c =
-    let l = c .before .before .before .before .before .before .before .before .before .before .before .before .before .before .loop in
-    let lt = c .before .before .before .before .before .before .before .before .before .before .before .before .before .loop-test .taken in
+    let l = c .before .before .before .before .before .before .before .before .before .before .before .before .before .before .before .loop in
+    let lt = c .before .before .before .before .before .before .before .before .before .before .before .before .before .before .loop-test .taken in
     let o = l .inv .0 in
-    let key = c .before .before .before .before .before .before .before .before .before .before .before .before .slot-key .ensures in
-    let here = c .before .before .before .before .before .before .before .before .before .before .before .past .ensures in
-    let heads = c .before .before .before .before .before .before .before .before .emit-slot in
-    let same = c .before .before .before .before .before .before .before .out .given .1 in
-    let then = c .before .before .before .before .before .past2 .ensures in
-    let slot = c .before .before .before .rewrite-child in
-    let does = slot .ensures in (
+    let key = c .before .before .before .before .before .before .before .before .before .before .before .before .before .slot-key .ensures in
+    let heads = c .before .before .before .before .before .before .before .before .before .emit-slot in
+    let slot = c .before .before .before .before .rewrite-child in
+    let does = slot .ensures in
+    let b =
+    begun (l .inv .1 .walked) lt (c .before .before .before .before .before .before .before .before .before .before .before .before .past .ensures) key (heads .ensures .0) (heads .ensures .1) (c .before .before .before .before .before .before .before .before .out .given .1) in (
       o,
-      walking-next o (l .c) lt (heads .result) (slot .result .count) (l .inv .1)
-          (wrote-tail _ _ _ (here .1) (here .0) (rw key at (heads .ensures .1))) same (heads .ensures .0)
-          (wrote-tail _ _ _ (then .1) (then .0) (rw key at (does .1 .1 .1))) (c .before .before .out2 .given .1) (does .0) (does .1 .0) (rw key at (does .1 .1 .0)),
+      walking-on o (c .next-bit2 .ensures)
+          (record {
+            walked = walked-child (o .node .deep) b (slot .result .count) (does .0) (c .before .before .before .before .before .before .past2 .ensures) (rw key at (does .1 .1 .1)) (c .before .before .before .out2 .given .1);
+            ahead = ahead-child o (l .c) lt (l .inv .1 .ahead) (does .1 .0) (rw key at (does .1 .1 .0));
+          }),
     )
 
 rewrite-same-length : (t : ℕ) → rewrite-lts.Need-same-length (rewrite-claims t) (rewrite-at t) rewrite.Post Inv-loop μ-loop
-rewrite-same-length t c = c .before .loop .inv .1 .same
+rewrite-same-length t c = c .before .loop .inv .1 .walked .sized
 
 rewrite-returns : (t : ℕ) → rewrite-lts.Need-returns (rewrite-claims t) (rewrite-at t) rewrite.Post Inv-loop μ-loop
-rewrite-returns t c = walking-end (c .before .loop .inv .0) (c .before .loop .inv .1) (omega arith)
+rewrite-returns t c = walking-end (c .before .loop .inv .0) (c .before .loop .inv .1) (c .loop-test .left)
 
 child-rewrite-requires : (t : ℕ) → child-lts.Need-rewrite-requires (child-claims t) (child-at t) child.Post
 child-rewrite-requires t c κs =
@@ -276,9 +301,12 @@ pub +rewrite+rewrite-child-spec : {M : Type 1} → statement M
 +rewrite+rewrite-child-spec =
     close μ-rewrite μ-child
     (λ t. rewrite-lts.spec (rewrite-claims t) (rewrite-at t) rewrite.Post Inv-loop μ-loop
-    (rewrite-gather-requires t)
-    (rewrite-covering-values-requires t)
+    (rewrite-gather-run-requires t)
+    (rewrite-covering-hops-requires t)
     (rewrite-assign-nodes-requires t)
+    (rewrite-head-slots-requires t)
+    (rewrite-leaf-slots-requires t)
+    (rewrite-next-bit-requires t)
     (rewrite-loop-holds t)
     (rewrite-slot-key-requires t)
     (rewrite-past-requires t)
@@ -304,7 +332,8 @@ pub +rewrite+rewrite-child-spec : {M : Type 1} → statement M
     (rewrite-part-rewrite-child-end t)
     (rewrite-rewrite-child-requires t)
     (rewrite-add-n-2 t)
-    (rewrite-add-c t)
+    (rewrite-add-next-bit t)
+    (rewrite-next-bit-requires-2 t)
     (rewrite-loop-less t)
     (rewrite-loop-again t)
     (rewrite-same-length t)

@@ -23,7 +23,7 @@ use Rattle.positions.proofs.Modes.{set-walk, consistent-set-walk, consistent-ma
 use Rattle.positions.proofs.Wide.{result-narrow, length-narrow}
 use Rattle.nodes.specs.Node.{wide, spare}
 use Rattle.nodes.specs.Output.{wireOf, Wrote}
-use Rattle.nodes.specs.Room.{Laid, Stored}
+use Rattle.nodes.specs.Room.{LaidBy, StoredBy}
 use Rattle.nodes.proofs.GatherLaws.{root-run}
 use Rattle.nodes.proofs.OutputLaws.{wrote-whole, wrote-count}
 use Rattle.nodes.proofs.RoomLaws.{pushed-begins}
@@ -117,6 +117,6 @@ module _ (t : List ℕ) {mode : ℕ} (fill : ℕ) where
 -- ---- The room.
 
 -- A block that was laid is stored.
-pub laid-stored : {own : ℕ → ℕ → List Route → List ℕ → Type 0} {k a : ℕ} {t : List Route} {top r : ℕ} {o o′ : List ℕ}
-    → Laid own k a t top r o o′ → top ≤ length o → Stored own k a t r o′
+pub laid-stored : {deeper : ℕ → ℕ → List Route → List Route} {own : ℕ → ℕ → List Route → List ℕ → Type 0} {k a : ℕ} {t : List Route} {top r : ℕ}
+    {o o′ : List ℕ} → LaidBy deeper own k a t top r o o′ → top ≤ length o → StoredBy deeper own k a t r o′
 laid-stored laid within = record { words = laid .words; block = laid .block; begins = pushed-begins (laid .pushed) within }

@@ -11,8 +11,8 @@ use Rattle.table.specs.Rules.{rule, Reply, judge}
 use Rattle.table.specs.Wire.{records}
 use Rattle.positions.specs.Runs.{hopOf}
 use Rattle.nodes.specs.Node.{wide, run, Node}
-use Rattle.nodes.specs.Room.{Stored}
-use Rattle.cover.specs.Coverage.{coverageWord}
+use Rattle.nodes.specs.Room.{Stored, StoredBy}
+use Rattle.cover.specs.Coverage.{coverageWord, uncovered}
 use Rattle.ortc.specs.Answers.{answerIn, setWords}
 use Rattle.calls.specs.Rewriting.{modeOf, takesSet, resultOf, writtenOf, outputOf, rewrittenSays}
 use Rattle.calls.specs.declared.Rewritten.{Rewritten}
@@ -31,9 +31,10 @@ pub record Fills (mode fill : ℕ) : Type 0 where
   pub hop : mode ≡ 5 → fill < 64
   pub none : (mode ≡ 5 → ⊥) → fill ≡ 64
 
--- From `top` on the room holds what the mode's writing walk reads: the nodes' coverage in mode 1, their sets in modes 4 and 5.
+-- From `top` on the room holds what the mode's writing walk reads: the coverage of the nodes below no member in mode 1, the nodes' sets in modes 4
+-- and 5.
 pub record Prepared (t : List ℕ) (mode fill top : ℕ) (work : List ℕ) : Type 0 where
-  pub coverage : mode ≡ 1 → Stored coverageWord 7 0 (whole t) top work
+  pub coverage : mode ≡ 1 → StoredBy uncovered coverageWord 7 0 (whole t) top work
   pub sets : 4 ≤ mode → Stored (setWords (answerIn (whole t) none (hopOf fill))) 7 0 (whole t) top work
 
 -- What the mode makes of the table at wide addresses.

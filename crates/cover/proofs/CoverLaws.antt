@@ -27,7 +27,7 @@ use Rattle.nodes.specs.Gathered.{some, runAt, levelOf, Gathered}
 use Rattle.nodes.proofs.GatherLaws.{node-run, slot-records, no-child, member-is, child-node}
 use Rattle.nodes.proofs.GatherPlaces.{in-heap, same-position, level-slot, place-in, place-at}
 use Rattle.nodes.proofs.GatherRuns.{some-run}
-use Rattle.cover.specs.Coverage.{coveredIn, IsCoverage, recordOver}
+use Rattle.cover.specs.Coverage.{coveredIn, recordOver}
 
 -- ---- Positions covered by the routes inside them.
 
@@ -76,9 +76,9 @@ module _ {t : List ℕ} {lo hi depth key : ℕ} {first end : List ℕ} {present 
 
 -- ---- The word of covered slots, while slots are taken into it.
 
--- covered has the covered slots of those that are passed, and no others.
-pub record SlotsCovered (m a : ℕ) (t : List Route) (passed : ℕ → Bool) (covered : ℕ) : Type 0 where
-  pub each : (i : ℕ) → i < 32 → bit covered i ≡ (passed i && coveredIn m a t 5 i)
+-- covered has, of the slots that are passed, those of which p holds, and no others.
+pub record SlotsCovered (p passed : ℕ → Bool) (covered : ℕ) : Type 0 where
+  pub each : (i : ℕ) → i < 32 → bit covered i ≡ (passed i && p i)
 
 -- Slot c is passed too.
 abbrev pub Passes : (ℕ → Bool) → ℕ → (ℕ → Bool) → Type 0
@@ -96,43 +96,40 @@ passes-down c pos i lt =
     (λ ne. if-le (λ (b : Bool). leb (c - 1) i ≡ b) c i (λ l. le-leb (c - 1) i (omega arith)) (λ l. lt-leb (c - 1) i (omega arith)))
 
 -- At first none is.
-pub slots-none : (m a : ℕ) (t : List Route) (passed : ℕ → Bool) → ((i : ℕ) → i < 32 → passed i ≡ false) → SlotsCovered m a t passed 0
-slots-none m a t passed none = record { each = λ i lt. bit-zero i ∙ sym (ap (λ (b : Bool). b && coveredIn m a t 5 i) (none i lt)) }
+pub slots-none : (p passed : ℕ → Bool) → ((i : ℕ) → i < 32 → passed i ≡ false) → SlotsCovered p passed 0
+slots-none p passed none = record { each = λ i lt. bit-zero i ∙ sym (ap (λ (b : Bool). b && p i) (none i lt)) }
 
-module _ {m a : ℕ} {t : List Route} {passed : ℕ → Bool} {covered : ℕ} (slots : SlotsCovered m a t passed covered) (c : ℕ) (passed′ : ℕ → Bool)
-    (more : Passes passed c passed′) where
-  -- A slot is taken by its coverage.
-  pub slots-take : (child : Bool) (r : ℕ) → child ≡ coveredIn m a t 5 c → ((i : ℕ) → i < 32 → bit r i ≡ ((eqb i c && child) || bit covered i))
-      → SlotsCovered m a t passed′ r
+module _ {p passed : ℕ → Bool} {covered : ℕ} (slots : SlotsCovered p passed covered) (c : ℕ) (passed′ : ℕ → Bool) (more : Passes passed c passed′) where
+  -- A slot is taken by what holds of it.
+  pub slots-take : (child : Bool) (r : ℕ) → child ≡ p c → ((i : ℕ) → i < 32 → bit r i ≡ ((eqb i c && child) || bit covered i)) → SlotsCovered p passed′ r
   slots-take child r e with-slot = record { each = each }
     where
-      either : (b p : Bool) → (b || (p && b)) ≡ b
-      either true p = refl
-      either false p = and-false p
+      either : (b q : Bool) → (b || (q && b)) ≡ b
+      either true q = refl
+      either false q = and-false q
 
-      each : (i : ℕ) → i < 32 → bit r i ≡ (passed′ i && coveredIn m a t 5 i)
+      each : (i : ℕ) → i < 32 → bit r i ≡ (passed′ i && p i)
       each i lt =
           with-slot i lt
           ∙ ap (λ (b : Bool). (eqb i c && child) || b) (slots .each i lt)
-          ∙ if-eq (λ (b : Bool). ((b && child) || (passed i && coveredIn m a t 5 i)) ≡ ((b || passed i) && coveredIn m a t 5 i)) i c
-          (λ q. rw (e, q) (either (coveredIn m a t 5 c) (passed c))) (λ q. refl)
-          ∙ sym (ap (λ (b : Bool). b && coveredIn m a t 5 i) (more i lt))
+          ∙ if-eq (λ (b : Bool). ((b && child) || (passed i && p i)) ≡ ((b || passed i) && p i)) i c
+          (λ q. rw (e, q) (either (p c) (passed c))) (λ q. refl)
+          ∙ sym (ap (λ (b : Bool). b && p i) (more i lt))
 
-  -- One that is not covered is left out.
-  pub slots-skip : coveredIn m a t 5 c ≡ false → SlotsCovered m a t passed′ covered
+  -- One of which it does not hold is left out.
+  pub slots-skip : p c ≡ false → SlotsCovered p passed′ covered
   slots-skip e = record { each = each }
     where
-      each : (i : ℕ) → i < 32 → bit covered i ≡ (passed′ i && coveredIn m a t 5 i)
+      each : (i : ℕ) → i < 32 → bit covered i ≡ (passed′ i && p i)
       each i lt =
           slots .each i lt
-          ∙ if-eq (λ (b : Bool). (passed i && coveredIn m a t 5 i) ≡ ((b || passed i) && coveredIn m a t 5 i)) i c
-          (λ q. rw (q, e) (and-false (passed c))) (λ q. refl)
-          ∙ sym (ap (λ (b : Bool). b && coveredIn m a t 5 i) (more i lt))
+          ∙ if-eq (λ (b : Bool). (passed i && p i) ≡ ((b || passed i) && p i)) i c (λ q. rw (q, e) (and-false (passed c))) (λ q. refl)
+          ∙ sym (ap (λ (b : Bool). b && p i) (more i lt))
 
 -- At last all are.
-pub slots-all : {m a : ℕ} {t : List Route} {passed : ℕ → Bool} {covered : ℕ} → SlotsCovered m a t passed covered
-    → ((i : ℕ) → i < 32 → passed i ≡ true) → (c : ℕ) → c < 32 → bit covered c ≡ coveredIn m a t 5 c
-slots-all {m} {a} {t} slots all c lt = slots .each c lt ∙ ap (λ (b : Bool). b && coveredIn m a t 5 c) (all c lt)
+pub slots-all : {p passed : ℕ → Bool} {covered : ℕ} → SlotsCovered p passed covered → ((i : ℕ) → i < 32 → passed i ≡ true)
+    → (c : ℕ) → c < 32 → bit covered c ≡ p c
+slots-all {p} slots all c lt = slots .each c lt ∙ ap (λ (b : Bool). b && p c) (all c lt)
 
 -- ---- The way up from a position to a record at it or above it, by the numbers of the positions.
 
@@ -183,32 +180,38 @@ climb-top {first} {end} {l} {j} c =
     let z = same-position 0 0 (p .level) (p .index) (omega arith) (p .in-level) (p .is) in
     c .same ∙ ap₂ (recordOver first end) (sym (z .0)) (sym (z .1))
 
-module _ {t : List ℕ} {lo hi depth key : ℕ} {first end : List ℕ} {present : ℕ} (n : Node t lo hi depth key)
-    (g : Gathered t lo hi depth key first end present) where
-  -- ---- From the slots up.
+-- ---- From the slots up.
 
-  -- With the covered slots at hand the fold of the members finds each position's coverage.
-  pub whole-covered : (covered : ℕ) → ((c : ℕ) → c < 32 → bit covered c ≡ coveredIn (slotSize depth) key (run t lo hi) 5 c)
-      → (k l j : ℕ) → k + l ≡ 5 → j < 2 ^ l → whole present covered k j ≡ coveredIn (slotSize depth) key (run t lo hi) l j
+-- Where p holds of a position with a route of its own, and of one of which it holds half by half, and of no others, the fold of the members
+-- finds the positions of which it holds, with the slots at hand.
+module _ {t : List ℕ} {lo hi depth key : ℕ} {first end : List ℕ} {present : ℕ} (g : Gathered t lo hi depth key first end present) (p : ℕ → ℕ → Bool)
+    (halves : (l j : ℕ) → l < 5 → j < 2 ^ l
+    → p l j ≡ (routed (ownAt wide (slotSize depth) key (run t lo hi) l j) || (p (suc l) (2 * j) && p (suc l) (2 * j + 1)))) (covered : ℕ)
+    (slots : (c : ℕ) → c < 32 → bit covered c ≡ p 5 c) where
+  -- By the levels from the slots up,
+  whole-is : (k l j : ℕ) → k + l ≡ 5 → j < 2 ^ l → whole present covered k j ≡ p l j
   unfolding whole
-  whole-covered covered slots zero l j e lt =
+  whole-is zero l j e lt =
       let five : 5 ≡ l = omega arith in
-      subst (λ (i : ℕ). j < 2 ^ i → bit covered j ≡ coveredIn (slotSize depth) key (run t lo hi) i j) five (slots j) lt
-  whole-covered covered slots (suc k) l j e lt =
+      subst (λ (i : ℕ). j < 2 ^ i → bit covered j ≡ p i j) five (slots j) lt
+  whole-is (suc k) l j e lt =
       let at : 4 - k ≡ l = omega arith in
       ap₂ _||_ (ap (λ (i : ℕ). member present i j) at ∙ member-is g l j (omega arith) lt)
-      (ap₂ _&&_ (whole-covered covered slots k (suc l) (2 * j) (omega arith) (omega (arith, pow-suc 2 l)))
-      (whole-covered covered slots k (suc l) (2 * j + 1) (omega arith) (omega (arith, pow-suc 2 l))))
-      ∙ sym (halves-covered wide (slotSize depth) key (node-run n) l j (omega arith))
+      (ap₂ _&&_ (whole-is k (suc l) (2 * j) (omega arith) (omega (arith, pow-suc 2 l)))
+      (whole-is k (suc l) (2 * j + 1) (omega arith) (omega (arith, pow-suc 2 l))))
+      ∙ sym (halves l j (omega arith) lt)
 
-  -- So the wholly covered positions are the covered ones.
-  pub coverage-is : (covered r : ℕ) → ((c : ℕ) → c < 32 → bit covered c ≡ coveredIn (slotSize depth) key (run t lo hi) 5 c)
-      → WhollyCovered present covered r → IsCoverage (slotSize depth) key (run t lo hi) r
-  coverage-is covered r slots w =
-      record {
-        positions = λ l j le lt. w .inside l j le lt ∙ whole-covered covered slots (5 - l) l j (omega arith) lt;
-        top = w .top ∙ g .no-more;
-      }
+  -- and in the word that the fold gives.
+  pub folded-is : (r : ℕ) → WhollyCovered present covered r → (l j : ℕ) → l ≤ 4 → j < 2 ^ l → bit r (position l j) ≡ p l j
+  folded-is r w l j le lt = w .inside l j le lt ∙ whole-is (5 - l) l j (omega arith) lt
+
+module _ {t : List ℕ} {lo hi depth key : ℕ} {first end : List ℕ} {present : ℕ} (n : Node t lo hi depth key)
+    (g : Gathered t lo hi depth key first end present) where
+  -- So it finds the positions that the routes inside them cover.
+  pub folded-covered : (covered r : ℕ) → ((c : ℕ) → c < 32 → bit covered c ≡ coveredIn (slotSize depth) key (run t lo hi) 5 c)
+      → WhollyCovered present covered r → (l j : ℕ) → l ≤ 4 → j < 2 ^ l → bit r (position l j) ≡ coveredIn (slotSize depth) key (run t lo hi) l j
+  folded-covered covered r slots w =
+      folded-is g (coveredIn (slotSize depth) key (run t lo hi)) (λ l j lt small. halves-covered wide (slotSize depth) key (node-run n) l j lt) covered slots r w
 
   -- ---- Records at a position and above it.
 

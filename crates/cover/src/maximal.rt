@@ -2,17 +2,20 @@
 
 use super::query::with_slot;
 use nodes::emit::emit_slot;
+use nodes::emit::head_slots;
 use nodes::emit::past;
-use nodes::gather::gather;
+use nodes::gather::gather_run;
 use nodes::gather::slot_key;
 use words::bits::has_bit;
+use words::bits::last_bit;
+use words::bits::next_bit;
 use words::coverage::fold_coverage;
 use words::coverage::keep_of;
 use words::coverage::member_coverage;
 use words::coverage::parent_coverage;
 use words::ladder::push_l4;
 ghost use mathlib.Core.Path.{_≡_};
-ghost use mathlib.Core.Bool.{_||_};
+ghost use mathlib.Core.Bool.{not, _&&_, _||_};
 ghost use mathlib.Core.List.{List};
 ghost use Prim.Native.Nat.{ℕ, _+_, _-_, _*_, _^_, _≤_, _<_};
 ghost use lib.ListN.{length};
@@ -22,16 +25,23 @@ ghost use Rattle.positions.specs.Walk.{walk};
 ghost use Rattle.positions.specs.Walks.{maximalOut, maximalNext};
 ghost use Rattle.nodes.specs.Node.{wide, run, slotSize, Node};
 ghost use Rattle.nodes.specs.Output.{Wrote};
-ghost use Rattle.nodes.specs.Room.{Block, Begins, nodesDeep, nodesBelow, Laid, Stored};
-ghost use Rattle.cover.specs.Coverage.{IsCoverage, coverageWord, Entries};
+ghost use Rattle.nodes.specs.Room.{BlockBy, Begins, nodesDeep, nodesBelow, LaidBy, StoredBy};
+ghost use Rattle.cover.specs.Coverage.{IsCoverage, coverageWord, uncovered, Entries};
 
-// What the first walk of mode 1 says of a node: the positions that its members at or below them cover, and where its block begins.
+// The slots that both walks visit: those with a record, and below no member of the node.
+fn open_slots(occupied: u32, under: u32) -> u32
+    ensures { λ r. ⌜ ((c : ℕ) → c < 32 → bit r c ≡ (bit occupied c && not (bit under c))) ⌝ }
+{
+    occupied & !under
+}
+
+// What the first walk of mode 1 says of a node: the positions that its members cover, and where its block begins.
 pub struct Covered {
     pub coverage: u32,
     pub top: usize,
 }
 
-// The first walk of mode 1: lays the coverage of a node and of all below it into the room, from `top` downward.
+// The first walk of mode 1: lays the coverage of a node and of those below it, down to a member, into the room, from `top` downward.
 pub fn collect_coverage(
     table: &[u8],
     lo: usize,
@@ -44,33 +54,32 @@ pub fn collect_coverage(
     requires { ⌜ Node (now table) lo hi depth key ⌝ }
     requires { ⌜ (160 * nodesBelow (nodesDeep depth) key (run (now table) lo hi) ≤ top) × (top ≤ length (now work)) ⌝ }
     ensures { λ r. ⌜ IsCoverage (slotSize depth) key (run (now (table .entry)) lo hi) (r .coverage) ⌝ }
-    ensures { λ r. ⌜ Laid coverageWord (nodesDeep depth) key (run (now (table .entry)) lo hi) top (r .top) (now (work .entry)) (now (work .exit)) ⌝ }
+    ensures { λ r. ⌜ LaidBy uncovered coverageWord (nodesDeep depth) key (run (now (table .entry)) lo hi) top (r .top) (now (work .entry)) (now (work .exit)) ⌝ }
 {
     let mut first = [0usize; 63];
     let mut end = [0usize; 63];
-    let present = gather(table, lo, hi, depth, key, &mut first, &mut end);
+    let g = gather_run(table, lo, hi, depth, key, &mut first, &mut end);
+    let under = member_coverage(g.present).children_under_member;
+    let walked = open_slots(g.occupied, under);
     let mut covered: u32 = 0;
     let mut at = top;
-    let mut c: usize = 32;
-    while 0 < c {
-        c -= 1;
-        let from = first[31 + c];
-        let to = end[31 + c];
-        if from < to {
-            let child = collect_coverage(
-                table,
-                from,
-                to,
-                depth + 5,
-                slot_key(key, depth, c),
-                work,
-                at,
-            );
-            at = child.top;
-            covered = with_slot(covered, c as u32, has_bit(child.coverage, 0));
-        }
+    let mut k = last_bit(walked, 32);
+    while 0 < k {
+        let c = k - 1;
+        let child = collect_coverage(
+            table,
+            first[31 + c],
+            end[31 + c],
+            depth + 5,
+            slot_key(key, depth, c),
+            work,
+            at,
+        );
+        at = child.top;
+        covered = with_slot(covered, c as u32, has_bit(child.coverage, 0));
+        k = last_bit(walked, c);
     }
-    let coverage = fold_coverage(present, covered);
+    let coverage = fold_coverage(g.present, covered | under);
     work[at - 1] = coverage;
     Covered {
         coverage,
@@ -84,25 +93,22 @@ pub struct Walked {
     pub top: usize,
 }
 
-// The entries of a node: the positions that are covered, below no member and below no covered position; none if one above the node is covered.
-fn entries_of(above: bool, coverage: u32, covered: u32) -> u32
-    ensures { λ r. ⌜ Entries above coverage covered r ⌝ }
+// The entries of a node: the positions that are covered and below no covered position; none if one above the node is covered.
+fn entries_of(above: bool, coverage: u32) -> u32
+    ensures { λ r. ⌜ Entries above coverage r ⌝ }
 {
     if above {
         return 0;
     }
-    keep_of(coverage, parent_coverage(coverage), covered)
+    keep_of(coverage, parent_coverage(coverage), 0)
 }
 
-// Is slot c below a covered position: below a member, below a covered position of the node, or is one above the node covered?
-fn is_absorbed(above: bool, under: u32, pushed: u32, c: usize) -> bool
+// Is slot c below a covered position: below one of the node, or is one above the node covered?
+fn is_absorbed(above: bool, pushed: u32, c: usize) -> bool
     requires { ⌜ c < 32 ⌝ }
-    ensures { λ r. ⌜ r ≡ (above || (bit under c || bit pushed c)) ⌝ }
+    ensures { λ r. ⌜ r ≡ (above || bit pushed c) ⌝ }
 {
     if above {
-        return true;
-    }
-    if has_bit(under, c as u32) {
         return true;
     }
     has_bit(pushed, c as u32)
@@ -122,40 +128,38 @@ pub fn aggregate_set(
     out: &mut [u8],
 ) -> Walked
     requires { ⌜ Node (now table) lo hi depth key ⌝ }
-    requires { ⌜ Stored coverageWord (nodesDeep depth) key (run (now table) lo hi) top (now work) ⌝ }
+    requires { ⌜ StoredBy uncovered coverageWord (nodesDeep depth) key (run (now table) lo hi) top (now work) ⌝ }
     ensures { λ r. ⌜ r .count + 6 ≤ 8 * 2 ^ (wide - depth) ⌝ }
-    ensures { λ r. ⌜ ((ws : List ℕ) → Block coverageWord (nodesDeep depth) key (run (now (table .entry)) lo hi) ws → Begins ws top (now (work .entry)) → r .top ≡ top + length ws) ⌝ }
+    ensures { λ r. ⌜ ((ws : List ℕ) → BlockBy uncovered coverageWord (nodesDeep depth) key (run (now (table .entry)) lo hi) ws → Begins ws top (now (work .entry)) → r .top ≡ top + length ws) ⌝ }
     ensures { λ r. ⌜ Wrote (walk (maximalOut wide (held wide (run (now (table .entry)) lo hi))) (maximalNext (held wide (run (now (table .entry)) lo hi))) (wide - depth) key above) 0 (r .count) (now (out .entry)) (now (out .exit)) ⌝ }
 {
     let mut first = [0usize; 63];
     let mut end = [0usize; 63];
-    let present = gather(table, lo, hi, depth, key, &mut first, &mut end);
+    let g = gather_run(table, lo, hi, depth, key, &mut first, &mut end);
     let hops = [0u8; 31];
-    let members = member_coverage(present);
+    let walked = open_slots(g.occupied, member_coverage(g.present).children_under_member);
     let coverage = work[top];
-    let entries = entries_of(above, coverage, members.covered);
-    let under = members.children_under_member;
+    let entries = entries_of(above, coverage);
     let pushed = push_l4(coverage);
+    let busy = walked | head_slots(entries);
     let mut at = top + 1;
     let mut n: usize = 0;
-    let mut c: usize = 0;
-    while c < 32 {
+    let mut next = next_bit(busy, 0);
+    while next < 32 {
+        let c = next;
         let slot = slot_key(key, depth, c);
         let here = past(n, out.len());
         n += emit_slot(entries, &hops, c, slot, depth, &mut out[here..]);
-        let from = first[31 + c];
-        let to = end[31 + c];
-        let gone = is_absorbed(above, under, pushed, c);
-        c += 1;
-        if from < to {
+        next = next_bit(busy, c + 1);
+        if has_bit(walked, c as u32) {
             let here = past(n, out.len());
             let child = aggregate_set(
                 table,
-                from,
-                to,
+                first[31 + c],
+                end[31 + c],
                 depth + 5,
                 slot,
-                gone,
+                is_absorbed(above, pushed, c),
                 work,
                 at,
                 &mut out[here..],

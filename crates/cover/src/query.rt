@@ -1,6 +1,6 @@
 // The cover query: does a set cover every address of a prefix?
 
-use nodes::gather::gather;
+use nodes::gather::gather_run;
 use nodes::gather::heap_index;
 use nodes::gather::level_of;
 use nodes::gather::slot_key;
@@ -34,7 +34,7 @@ pub fn bit_covered(table: &[u8], lo: usize, hi: usize, depth: usize, key: u64, b
 {
     let mut first = [0usize; 63];
     let mut end = [0usize; 63];
-    let present = gather(table, lo, hi, depth, key, &mut first, &mut end);
+    let g = gather_run(table, lo, hi, depth, key, &mut first, &mut end);
     let mut covered: u32 = 0;
     let mut c: usize = 0;
     while c < 32 {
@@ -47,7 +47,7 @@ pub fn bit_covered(table: &[u8], lo: usize, hi: usize, depth: usize, key: u64, b
             covered = with_slot(covered, at as u32, child);
         }
     }
-    has_bit(fold_coverage(present, covered), b as u32)
+    has_bit(fold_coverage(g.present, covered), b as u32)
 }
 
 // Does a record stand at position b or above it in the node?
@@ -83,7 +83,7 @@ pub fn covers_in_aggregate(
 {
     let mut first = [0usize; 63];
     let mut end = [0usize; 63];
-    gather(table, lo, hi, depth, key, &mut first, &mut end);
+    gather_run(table, lo, hi, depth, key, &mut first, &mut end);
     let b = heap_index(query, level_of(len, depth), depth, key);
     if b < 31 {
         if record_over(&first, &end, b) {

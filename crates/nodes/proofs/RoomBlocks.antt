@@ -15,7 +15,7 @@ use Rattle.positions.specs.Runs.{isIn, inside, placeAt}
 use Rattle.positions.proofs.Runs.{is-in, Nested, nested-self, inside-nested}
 use Rattle.positions.proofs.RunsNode.{size-slot, place-nested}
 use Rattle.nodes.specs.Node.{wide, spare, run, slotSize}
-use Rattle.nodes.specs.Room.{SlotBlock, SlotBlocks, Block, nodesDeep}
+use Rattle.nodes.specs.Room.{SlotBlock, SlotBlocks, BlockBy, Block, everywhere, nodesDeep}
 
 -- A slot lies in its node.
 pub slot-nested : (m a c : ℕ) → c < 32 → Nested m (placeAt m a 5 c) (m + 5) a
@@ -103,18 +103,24 @@ deep-step depth level e le = omega arith
 pub deep-size : (depth level : ℕ) → depth ≡ level * 5 → depth ≤ 35 → 5 * nodesDeep depth ≡ wide - depth
 deep-size depth level e le = omega arith
 
-module _ (own : ℕ → ℕ → List Route → List ℕ → Type 0) (a : ℕ) (t : List Route) (ws : List ℕ) where
-  -- The block of a node by its parts.
-  pub block-node : (k : ℕ) → Block own (suc k) a t ws ↔ NodeBlock own (Block own k) (5 * k) a t ws
-  unfolding Block
-  block-node k = (λ b. b, λ b. b)
+module _ (deeper : ℕ → ℕ → List Route → List Route) (own : ℕ → ℕ → List Route → List ℕ → Type 0) (a : ℕ) (t : List Route) (ws : List ℕ) where
+  -- The block of a node by its parts: its own words, by its routes, and the blocks of its slots that are walked, by those of its routes.
+  pub block-by-node : (k : ℕ) → BlockBy deeper own (suc k) a t ws ↔ NodeBlock (λ m b s. own m b t) (BlockBy deeper own k) (5 * k) a (deeper (5 * k) a t) ws
+  unfolding BlockBy
+  block-by-node k = (λ b. b, λ b. b)
 
   -- The same of a node at this depth.
-  pub block-deep : (depth level : ℕ) → depth ≡ level * 5 → depth ≤ 30
-      → Block own (nodesDeep depth) a t ws ↔ NodeBlock own (Block own (nodesDeep (depth + 5))) (slotSize depth) a t ws
-  block-deep depth level e le =
+  pub block-by-deep : (depth level : ℕ) → depth ≡ level * 5 → depth ≤ 30
+      → BlockBy deeper own (nodesDeep depth) a t ws
+      ↔ NodeBlock (λ m b s. own m b t) (BlockBy deeper own (nodesDeep (depth + 5))) (slotSize depth) a (deeper (slotSize depth) a t) ws
+  block-by-deep depth level e le =
       let d = deep-step depth level e le in
-      rw (d .0, ← d .1) (block-node (nodesDeep (depth + 5)))
+      rw (d .0, ← d .1) (block-by-node (nodesDeep (depth + 5)))
+
+-- The same where all slots are walked.
+pub block-deep : (own : ℕ → ℕ → List Route → List ℕ → Type 0) (a : ℕ) (t : List Route) (ws : List ℕ) (depth level : ℕ) → depth ≡ level * 5 → depth ≤ 30
+    → Block own (nodesDeep depth) a t ws ↔ NodeBlock own (Block own (nodesDeep (depth + 5))) (slotSize depth) a t ws
+block-deep own = block-by-deep everywhere own
 
 -- ---- Blocks by two rules for the own words.
 
@@ -139,7 +145,7 @@ module _ (own own′ : ℕ → ℕ → List Route → List ℕ → Type 0) where
       → ((k a : ℕ) (t : List Route) (c : ℕ) → c < 32 → P (suc k) a t
       → P k (placeAt (5 * k) a 5 c) (inside wide (5 * k) (placeAt (5 * k) a 5 c) t))
       → (k a : ℕ) (t : List Route) (ws : List ℕ) → P k a t → Block own k a t ws → Block own′ k a t ws
-  unfolding Block
+  unfolding BlockBy
   block-map P same down zero a t ws p b = b
   block-map P same down (suc k) a t ws p (u, v, e, o, b) = (
     u,

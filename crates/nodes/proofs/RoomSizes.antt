@@ -3,7 +3,8 @@
 use Prim.Native.Nat.{ℕ, zero, suc, _+_, _-_, _*_, _≤_, _<_}
 use mathlib.Core.Path.{_≡_, refl, ap, _∙_}
 use mathlib.Core.List.{List, [], _∷_}
-use native.Mathlib.Nat.{mul-add}
+use mathlib.Core.Logic.{_⊎_, inl, inr}
+use native.Mathlib.Nat.{mul-add, mul-le-mul-left}
 use native.Mathlib.Numerals.{add-one}
 use native.Mathlib.Omega.{arith}
 use lib.ListN.{length, length-append}
@@ -11,7 +12,7 @@ use Rattle.theory.specs.Routes.{Route}
 use Rattle.positions.specs.Runs.{inside, placeAt}
 use Rattle.nodes.specs.Node.{wide, slotSize}
 use Rattle.table.proofs.NodeRuns.{orNone}
-use Rattle.nodes.specs.Room.{SlotBlock, SlotBlocks, Block, nodesDeep, slotNodes, nodesBelow}
+use Rattle.nodes.specs.Room.{SlotBlock, SlotBlocks, BlockBy, Block, everywhere, nodesDeep, slotNodes, nodesBelow}
 use Rattle.nodes.proofs.RoomBlocks.{deep-step}
 
 -- ---- The nodes below a node, slot by slot.
@@ -53,6 +54,25 @@ nodes-below-deep depth level a t e le =
     let d = deep-step depth level e le in
     rw (d .0, ← d .1) (nodes-below-next (nodesDeep (depth + 5)) a t)
 
+-- ---- The nodes of the slots that are walked.
+
+-- Of each slot the routes s have all of those of t, or none.
+abbrev pub Selects : ℕ → ℕ → List Route → List Route → Type 0
+Selects m a t s =
+    (c : ℕ) → (inside wide m (placeAt m a 5 c) s ≡ []) ⊎ (inside wide m (placeAt m a 5 c) s ≡ inside wide m (placeAt m a 5 c) t)
+
+-- So they have no more nodes there.
+pub slot-nodes-le : (nodes : ℕ → List Route → ℕ) (m a : ℕ) (t s : List Route) → Selects m a t s → (c : ℕ)
+    → slotNodes nodes m a s c ≤ slotNodes nodes m a t c
+unfolding slotNodes
+slot-nodes-le nodes m a t s some zero = omega arith
+slot-nodes-le nodes m a t s some (suc c) = omega (arith, slot-nodes-le nodes m a t s some c, at (some c))
+  where
+    at : (inside wide m (placeAt m a 5 c) s ≡ []) ⊎ (inside wide m (placeAt m a 5 c) s ≡ inside wide m (placeAt m a 5 c) t)
+        → nodesAt nodes m a s c ≤ nodesAt nodes m a t c
+    at (inl e) = rw e (omega arith)
+    at (inr e) = rw e (omega arith)
+
 -- ---- Lengths.
 
 -- The block of every node is at most so long by its nodes.
@@ -86,15 +106,24 @@ module _ (most : ℕ) (block : ℕ → List Route → List ℕ → Type 0) (node
         let e : 32 - (32 - c) ≡ c = omega arith in
         rw e at (last-length (32 - c) v (omega arith) b)
 
-module _ (most : ℕ) (own : ℕ → ℕ → List Route → List ℕ → Type 0)
-    (sized : (m a : ℕ) (t : List Route) (u : List ℕ) → own m a t u → length u ≤ most) where
+module _ (most : ℕ) (deeper : ℕ → ℕ → List Route → List Route) (selects : (m a : ℕ) (t : List Route) → Selects m a t (deeper m a t))
+    (own : ℕ → ℕ → List Route → List ℕ → Type 0) (sized : (m a : ℕ) (t : List Route) (u : List ℕ) → own m a t u → length u ≤ most) where
   -- A node's block is at most so long, if no node has more own words.
-  pub block-length : (k : ℕ) → Sized most (Block own k) (nodesBelow k)
-  unfolding Block
-  block-length zero a t ws b = absurd b
-  block-length (suc k) a t ws (u, v, e, o, b) =
+  pub block-by-length : (k : ℕ) → Sized most (BlockBy deeper own k) (nodesBelow k)
+  unfolding BlockBy
+  block-by-length zero a t ws b = absurd b
+  block-by-length (suc k) a t ws (u, v, e, o, b) =
       let n : length ws ≡ length u + length v = ap length e ∙ length-append u v in
-      rw nodes-below-next (omega (arith, sized (5 * k) a t u o, slots-length most (Block own k) (nodesBelow k) (block-length k) (5 * k) a t 0 v (omega arith) b))
+      let walked : slotNodes (nodesBelow k) (5 * k) a (deeper (5 * k) a t) 32 ≤ slotNodes (nodesBelow k) (5 * k) a t 32 =
+      slot-nodes-le (nodesBelow k) (5 * k) a t (deeper (5 * k) a t) (selects (5 * k) a t) 32 in
+      let all = mul-le-mul-left most walked in
+      rw nodes-below-next
+      (omega (arith, sized (5 * k) a t u o, slots-length most (BlockBy deeper own k) (nodesBelow k) (block-by-length k) (5 * k) a (deeper (5 * k) a t) 0 v (omega arith) b))
+
+-- The same where all slots are walked.
+pub block-length : (most : ℕ) (own : ℕ → ℕ → List Route → List ℕ → Type 0)
+    → ((m a : ℕ) (t : List Route) (u : List ℕ) → own m a t u → length u ≤ most) → (k : ℕ) → Sized most (Block own k) (nodesBelow k)
+block-length most own = block-by-length most everywhere (λ m a t c. inr refl) own
 
 -- ---- The room left. Before slot c is met from the back, there is room for the slots up to it and for the node itself.
 module _ (most : ℕ) (nodes : ℕ → List Route → ℕ) (m a : ℕ) (t : List Route) where

@@ -1,6 +1,6 @@
 -- The loops over a node's slots, a step at a time: that which lays the blocks of the slots from the last to the first, then the node's own
 -- words, and that which reads the own words, then the blocks from the first slot to the last.
-use Prim.Native.Nat.{ℕ, _+_, _*_, _≤_, _<_}
+use Prim.Native.Nat.{ℕ, zero, suc, _+_, _-_, _*_, _≤_, _<_}
 use mathlib.Core.Path.{_≡_, refl, ap, _∙_}
 use mathlib.Core.List.{List, [], _++_}
 use native.Mathlib.Omega.{arith}
@@ -90,3 +90,16 @@ module _ (block : ℕ → List Route → List ℕ → Type 0) (m a : ℕ) (t : L
         let z : length (h .words) ≡ 0 = ap length (slots-end block m a t c e (h .blocks)) in
         let n = h .ends in
         omega arith
+
+  -- Slots without a route are passed over, d of them.
+  ahead-steps : (d : ℕ) {c r at end : ℕ} {o : List ℕ} → c + d ≡ r → r ≤ 32
+      → ((i : ℕ) → c ≤ i → i < r → length (inside wide m (placeAt m a 5 i) t) ≡ 0) → SlotsAhead block m a t c at end o
+      → SlotsAhead block m a t r at end o
+  ahead-steps zero {c} {r} e all none h = let same : c ≡ r = omega arith in rw same at h
+  ahead-steps (suc d) {c} e all none h =
+      ahead-steps d {c = c + 1} (omega arith) all (λ i low lt. none i (omega arith) lt) (ahead-skip h (omega arith) (none c (omega arith) (omega arith)))
+
+  -- So are all up to slot r.
+  pub ahead-past : {c r at end : ℕ} {o : List ℕ} → SlotsAhead block m a t c at end o → c ≤ r → r ≤ 32
+      → ((i : ℕ) → c ≤ i → i < r → length (inside wide m (placeAt m a 5 i) t) ≡ 0) → SlotsAhead block m a t r at end o
+  ahead-past {c} {r} h from upto none = ahead-steps (r - c) (omega arith) upto none h

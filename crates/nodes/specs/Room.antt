@@ -1,5 +1,5 @@
 -- The work room: words laid from its end downward, a block of words for each node. From its start a node's block reads: the node's own
--- words, then the blocks of its slots that have a record, in order.
+-- words, then the blocks of its slots that have a record, in order. A walk may pass over slots: then these have no block.
 use Prim.Native.Nat.{ℕ, zero, suc, _+_, _-_, _*_, _/_, _≤_}
 use mathlib.Core.Path.{_≡_}
 use mathlib.Core.List.{List, [], _∷_, _++_}
@@ -33,15 +33,24 @@ SlotBlocks block m a t (suc c) ws =
     × SlotBlock block (placeAt m a 5 (31 - c)) (inside wide m (placeAt m a 5 (31 - c)) t) u
     × SlotBlocks block m a t c v
 
--- Is ws the block of the node (5 * k, a) that the routes t lie in, where `own m a t u` says that u are the own words of the node (m + 5, a)?
-unfoldable pub Block : (ℕ → ℕ → List Route → List ℕ → Type 0) → ℕ → ℕ → List Route → List ℕ → Type 0
-Block own zero a t ws = ⊥
-Block own (suc k) a t ws =
+-- Is ws the block of the node (5 * k, a) that the routes t lie in? `own m a t u` says that u are the own words of the node (m + 5, a), and
+-- `deeper m a t` are its routes in the slots that are walked.
+unfoldable pub BlockBy : (ℕ → ℕ → List Route → List Route) → (ℕ → ℕ → List Route → List ℕ → Type 0) → ℕ → ℕ → List Route → List ℕ → Type 0
+BlockBy deeper own zero a t ws = ⊥
+BlockBy deeper own (suc k) a t ws =
     (u : List ℕ)
     × (v : List ℕ)
     × (ws ≡ u ++ v)
     × own (5 * k) a t u
-    × SlotBlocks (Block own k) (5 * k) a t 32 v
+    × SlotBlocks (BlockBy deeper own k) (5 * k) a (deeper (5 * k) a t) 32 v
+
+-- All slots are walked.
+abbrev pub everywhere : ℕ → ℕ → List Route → List Route
+everywhere m a t = t
+
+-- The same where all slots are walked.
+abbrev pub Block : (ℕ → ℕ → List Route → List ℕ → Type 0) → ℕ → ℕ → List Route → List ℕ → Type 0
+Block own = BlockBy everywhere own
 
 -- How many nodes deep the node at this depth still goes, itself included.
 abbrev pub nodesDeep : ℕ → ℕ
@@ -60,16 +69,24 @@ nodesBelow zero a t = 0
 nodesBelow (suc k) a t = 1 + slotNodes (nodesBelow k) (5 * k) a t 32
 
 -- A block of the node (5 * k, a) was laid from r to top.
-pub record Laid (own : ℕ → ℕ → List Route → List ℕ → Type 0) (k a : ℕ) (t : List Route) (top r : ℕ) (o o′ : List ℕ) : Type 0 where
+pub record LaidBy (deeper : ℕ → ℕ → List Route → List Route) (own : ℕ → ℕ → List Route → List ℕ → Type 0) (k a : ℕ) (t : List Route) (top r : ℕ)
+    (o o′ : List ℕ) : Type 0 where
   pub words : List ℕ
-  pub block : Block own k a t words
+  pub block : BlockBy deeper own k a t words
   pub pushed : Pushed words top r o o′
 
+abbrev pub Laid : (ℕ → ℕ → List Route → List ℕ → Type 0) → ℕ → ℕ → List Route → ℕ → ℕ → List ℕ → List ℕ → Type 0
+Laid own k a t top r o o′ = LaidBy everywhere own k a t top r o o′
+
 -- A block of the node (5 * k, a) begins at top.
-pub record Stored (own : ℕ → ℕ → List Route → List ℕ → Type 0) (k a : ℕ) (t : List Route) (top : ℕ) (o : List ℕ) : Type 0 where
+pub record StoredBy (deeper : ℕ → ℕ → List Route → List Route) (own : ℕ → ℕ → List Route → List ℕ → Type 0) (k a : ℕ) (t : List Route) (top : ℕ)
+    (o : List ℕ) : Type 0 where
   pub words : List ℕ
-  pub block : Block own k a t words
+  pub block : BlockBy deeper own k a t words
   pub begins : Begins words top o
+
+abbrev pub Stored : (ℕ → ℕ → List Route → List ℕ → Type 0) → ℕ → ℕ → List Route → ℕ → List ℕ → Type 0
+Stored own k a t top o = StoredBy everywhere own k a t top o
 
 -- ---- The loops over a node's slots.
 

@@ -24,8 +24,9 @@ returns-2 c =
     let k = c .keep-of .ensures in
     let p = c .before .parent-coverage .ensures in
     rw (c .before .before .if1 .left) (record {
-      root = k (position 0 0) (omega arith) ∙ rw (p .root, and-true);
-      below = λ l j le lt. k (position (suc l) j) (omega (arith, in-word (suc l) j le lt)) ∙ rw (p .below l j le lt);
+      root = k (position 0 0) (omega arith) ∙ rw (p .root, bit-zero (position 0 0), and-true, and-true);
+      below = λ l j le lt.
+          k (position (suc l) j) (omega (arith, in-word (suc l) j le lt)) ∙ rw (p .below l j le lt, bit-zero (position (suc l) j), and-true);
     })
 
 pub entries-of-spec : {M : Type 1} → statement M

@@ -13,26 +13,7 @@ has-bit-requires : tie.Need-has-bit-requires
 has-bit-requires c κs = search needs
 
 returns-2 : tie.Need-returns-2
-returns-2 c = rw (c .before .before .if1 .left, ← c .before .has-bit .ensures, c .if2 .taken)
-
-cast-has-bit-2 : tie.Need-cast-has-bit-2
-cast-has-bit-2 c = search needs
-
-has-bit-requires-2 : tie.Need-has-bit-requires-2
-has-bit-requires-2 c κs = search needs
-
-returns-3 : tie.Need-returns-3
-returns-3 c =
-    rw (c .before .before .before .if1 .left, ← c .before .before .has-bit .ensures, c .before .if2 .left) (c .has-bit2 .ensures)
+returns-2 c = rw (c .before .if1 .left) (c .has-bit .ensures)
 
 pub is-absorbed-spec : {M : Type 1} → statement M
-is-absorbed-spec =
-    tie.close
-    (tie.spec
-    returns
-    cast-has-bit
-    has-bit-requires
-    returns-2
-    cast-has-bit-2
-    has-bit-requires-2
-    returns-3)
+is-absorbed-spec = tie.close (tie.spec returns cast-has-bit has-bit-requires returns-2)

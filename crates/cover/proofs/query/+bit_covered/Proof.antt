@@ -10,14 +10,15 @@ use borrow.Author.Tests.{lt-ltb, le-ltb}
 use Rattle.words.specs.Bits.{bit}
 use Rattle.nodes.specs.Node.{run, slotSize}
 use Rattle.nodes.proofs.GatherLaws.{child-node}
-use Rattle.cover.proofs.CoverLaws.{SlotsCovered, passes-up, slots-none, slots-take, slots-skip, slots-all, child-covered, empty-covered, coverage-is}
+use Rattle.cover.specs.Coverage.{coveredIn}
+use Rattle.cover.proofs.CoverLaws.{SlotsCovered, passes-up, slots-none, slots-take, slots-skip, slots-all, child-covered, empty-covered, folded-covered}
 use borrow.Fn.Kinds.{In}
 use borrow.Fn.PlainCycle.{Measures, is, falls, and}
 use Rattle.cover.proofs.query.bit_covered.Reads as bit-covered
 use Rattle.cover.proofs.query.bit_covered.Kinds as bit-covered-kinds
 use Rattle.cover.proofs.query.+bit_covered.Lts-bit_covered as bit-covered-lts
 use Rattle.cover.proofs.query.with_slot.Reads as with-slot-reads
-use Rattle.nodes.proofs.gather.gather.Reads as gather-reads
+use Rattle.nodes.proofs.gather.gather_run.Reads as gather-run-reads
 use Rattle.nodes.proofs.gather.slot_key.Reads as slot-key-reads
 use Rattle.words.proofs.bits.has_bit.Reads as has-bit-reads
 use Rattle.words.proofs.coverage.fold_coverage.Reads as fold-coverage-reads
@@ -36,25 +37,25 @@ bit-covered-below t =
     and 1 bit-covered-kinds.ps (falls 1 bit-covered-kinds.ps _<_ μ-bit-covered t) bit-covered.Pre
 
 abbrev bit-covered-Inv-loop : bit-covered-lts.InvT-loop
-bit-covered-Inv-loop table lo hi depth key b first end present covered₀ c₀ covered c =
-    (c ≤ 32) × SlotsCovered (slotSize depth) key (run table lo hi) (λ i. ltb i c) covered
+bit-covered-Inv-loop table lo hi depth key b first end g covered₀ c₀ covered c =
+    (c ≤ 32) × SlotsCovered (coveredIn (slotSize depth) key (run table lo hi) 5) (λ i. ltb i c) covered
 
 abbrev bit-covered-μ-loop : bit-covered-lts.MeasureT-loop
-bit-covered-μ-loop table lo hi depth key b first end present covered₀ c₀ covered c = 32 - c
+bit-covered-μ-loop table lo hi depth key b first end g covered₀ c₀ covered c = 32 - c
 
 -- What is asked and what is learnt at each call.
 abbrev bit-covered-claims : ℕ → bit-covered-lts.Claims
 bit-covered-claims t =
-    (gather-reads.Asked, gather-reads.Learnt, slot-key-reads.Asked, slot-key-reads.Learnt, bit-covered-below t, bit-covered.Post, with-slot-reads.Asked, with-slot-reads.Learnt, fold-coverage-reads.Asked, fold-coverage-reads.Learnt, has-bit-reads.Asked, has-bit-reads.Learnt)
+    (gather-run-reads.Asked, gather-run-reads.Learnt, slot-key-reads.Asked, slot-key-reads.Learnt, bit-covered-below t, bit-covered.Post, with-slot-reads.Asked, with-slot-reads.Learnt, fold-coverage-reads.Asked, fold-coverage-reads.Learnt, has-bit-reads.Asked, has-bit-reads.Learnt)
 
-bit-covered-gather-requires : (t : ℕ) → bit-covered-lts.Need-gather-requires (bit-covered-claims t) (bit-covered-at t) bit-covered.Post bit-covered-Inv-loop bit-covered-μ-loop
-bit-covered-gather-requires t c κs =
+bit-covered-gather-run-requires : (t : ℕ) → bit-covered-lts.Need-gather-run-requires (bit-covered-claims t) (bit-covered-at t) bit-covered.Post bit-covered-Inv-loop bit-covered-μ-loop
+bit-covered-gather-run-requires t c κs =
     (c .before .before .before .pre .1 .0, ((refl, refl), λ b lt. (getD-replicate 63 b 0 0 lt, getD-replicate 63 b 0 0 lt)))
 
 bit-covered-loop-holds : (t : ℕ) → bit-covered-lts.Need-loop-holds (bit-covered-claims t) (bit-covered-at t) bit-covered.Post bit-covered-Inv-loop bit-covered-μ-loop
 bit-covered-loop-holds t c =
     let a = c .before .before .before .before .args in
-    (omega arith, slots-none (slotSize (a .depth)) (a .key) (run (a .table .now) (a .lo) (a .hi)) (λ i. ltb i 0) (λ i lt. le-ltb i 0 (omega arith)))
+    (omega arith, slots-none (coveredIn (slotSize (a .depth)) (a .key) (run (a .table .now) (a .lo) (a .hi)) 5) (λ i. ltb i 0) (λ i lt. le-ltb i 0 (omega arith)))
 
 bit-covered-add-from : (t : ℕ) → bit-covered-lts.Need-add-from (bit-covered-claims t) (bit-covered-at t) bit-covered.Post bit-covered-Inv-loop bit-covered-μ-loop
 bit-covered-add-from t c = omega arith
@@ -89,7 +90,7 @@ bit-covered-slot-key-requires t c κs =
 bit-covered-bit-covered-requires : (t : ℕ) → bit-covered-lts.Need-bit-covered-requires (bit-covered-claims t) (bit-covered-at t) bit-covered.Post bit-covered-Inv-loop bit-covered-μ-loop
 bit-covered-bit-covered-requires t c κs =
     let pre = c .before .before .before .before .before .before .before .before .pre in
-    let child = child-node (pre .1 .0) (c .before .before .before .before .gather .ensures) (c .before .before .before .loop .c) (c .before .before .loop-test .taken) (c .before .if1 .taken) in
+    let child = child-node (pre .1 .0) (c .before .before .before .before .gather-run .ensures .0) (c .before .before .before .loop .c) (c .before .before .loop-test .taken) (c .before .if1 .taken) in
     (omega (arith, pre .0, child .deep), (rw (c .slot-key .ensures) child, omega arith))
 
 bit-covered-cast-with-slot : (t : ℕ) → bit-covered-lts.Need-cast-with-slot (bit-covered-claims t) (bit-covered-at t) bit-covered.Post bit-covered-Inv-loop bit-covered-μ-loop
@@ -104,7 +105,7 @@ bit-covered-loop-less t c = omega arith
 bit-covered-loop-again : (t : ℕ) → bit-covered-lts.Need-loop-again (bit-covered-claims t) (bit-covered-at t) bit-covered.Post bit-covered-Inv-loop bit-covered-μ-loop
 bit-covered-loop-again t c =
     let n = c .before .before .before .before .before .before .before .before .before .before .pre .1 .0 in
-    let g = c .before .before .before .before .before .before .gather .ensures in
+    let g = c .before .before .before .before .before .before .gather-run .ensures .0 in
     let s = c .before .before .before .before .before .loop in
     let lt = c .before .before .before .before .loop-test .taken in
     let has = c .before .before .before .if1 .taken in
@@ -120,7 +121,7 @@ bit-covered-loop-less-2 t c = omega arith
 bit-covered-loop-again-2 : (t : ℕ) → bit-covered-lts.Need-loop-again-2 (bit-covered-claims t) (bit-covered-at t) bit-covered.Post bit-covered-Inv-loop bit-covered-μ-loop
 bit-covered-loop-again-2 t c =
     let n = c .before .before .before .before .before .before .before .pre .1 .0 in
-    let g = c .before .before .before .gather .ensures in
+    let g = c .before .before .before .gather-run .ensures .0 in
     let s = c .before .before .loop in
     let lt = c .before .loop-test .taken in
     (omega arith, slots-skip (s .inv .1) (s .c) (λ i. ltb i (s .c + 1)) (passes-up (s .c)) (empty-covered n g (s .c) lt (c .if1 .left)))
@@ -137,13 +138,13 @@ bit-covered-has-bit-requires t c κs = search needs
 bit-covered-returns : (t : ℕ) → bit-covered-lts.Need-returns (bit-covered-claims t) (bit-covered-at t) bit-covered.Post bit-covered-Inv-loop bit-covered-μ-loop
 bit-covered-returns t c l j le lt e =
     let n = c .before .before .before .before .before .before .before .before .pre .1 .0 in
-    let g = c .before .before .before .before .gather .ensures in
+    let g = c .before .before .before .before .gather-run .ensures .0 in
     let s = c .before .before .before .loop in
     let full : s .c ≡ 32 = omega (arith, s .inv .0, c .before .before .loop-test .left) in
     let slots = slots-all (rw full at (s .inv .1)) (λ i lt. lt-ltb i 32 lt) in
     c .has-bit .ensures
     ∙ ap (bit (c .before .fold-coverage .result)) e
-    ∙ coverage-is n g (s .covered) (c .before .fold-coverage .result) slots (c .before .fold-coverage .ensures) .positions l j le lt
+    ∙ folded-covered n g (s .covered) (c .before .fold-coverage .result) slots (c .before .fold-coverage .ensures) l j le lt
 
 pub +bit-covered-spec : {M : Type 1} → statement M
 +bit-covered-spec = close μ-bit-covered λ t. bit-covered-lts.spec (bit-covered-claims t)
@@ -151,7 +152,7 @@ pub +bit-covered-spec : {M : Type 1} → statement M
     bit-covered.Post
     bit-covered-Inv-loop
     bit-covered-μ-loop
-    (bit-covered-gather-requires t)
+    (bit-covered-gather-run-requires t)
     (bit-covered-loop-holds t)
     (bit-covered-add-from t)
     (bit-covered-mul-from t)

@@ -17,7 +17,7 @@ use Rattle.cover.proofs.query.covers_in_aggregate.Kinds as covers-in-ag
 use Rattle.cover.proofs.query.+covers_in_aggregate.Lts-covers_in_aggregate as covers-in-aggregate-lts
 use Rattle.cover.proofs.query.bit_covered.Reads as bit-covered-reads
 use Rattle.cover.proofs.query.record_over.Reads as record-over-reads
-use Rattle.nodes.proofs.gather.gather.Reads as gather-reads
+use Rattle.nodes.proofs.gather.gather_run.Reads as gather-run-reads
 use Rattle.nodes.proofs.gather.heap_index.Reads as heap-index-reads
 use Rattle.nodes.proofs.gather.level_of.Reads as level-of-reads
 use Rattle.nodes.proofs.gather.slot_key.Reads as slot-key-reads
@@ -46,10 +46,10 @@ covers-in-aggregate-below t =
 -- What is asked and what is learnt at each call.
 abbrev covers-in-aggregate-claims : ℕ → covers-in-aggregate-lts.Claims
 covers-in-aggregate-claims t =
-    (gather-reads.Asked, gather-reads.Learnt, level-of-reads.Asked, level-of-reads.Learnt, heap-index-reads.Asked, heap-index-reads.Learnt, record-over-reads.Asked, record-over-reads.Learnt, bit-covered-reads.Asked, bit-covered-reads.Learnt, slot-key-reads.Asked, slot-key-reads.Learnt, covers-in-aggregate-below t, covers-in-aggregate.Post)
+    (gather-run-reads.Asked, gather-run-reads.Learnt, level-of-reads.Asked, level-of-reads.Learnt, heap-index-reads.Asked, heap-index-reads.Learnt, record-over-reads.Asked, record-over-reads.Learnt, bit-covered-reads.Asked, bit-covered-reads.Learnt, slot-key-reads.Asked, slot-key-reads.Learnt, covers-in-aggregate-below t, covers-in-aggregate.Post)
 
-covers-in-aggregate-gather-requires : (t : ℕ) → covers-in-aggregate-lts.Need-gather-requires (covers-in-aggregate-claims t) (covers-in-aggregate-at t) covers-in-aggregate.Post
-covers-in-aggregate-gather-requires t c κs =
+covers-in-aggregate-gather-run-requires : (t : ℕ) → covers-in-aggregate-lts.Need-gather-run-requires (covers-in-aggregate-claims t) (covers-in-aggregate-at t) covers-in-aggregate.Post
+covers-in-aggregate-gather-run-requires t c κs =
     (c .before .before .before .pre .1 .0, ((refl, refl), λ b lt. (getD-replicate 63 b 0 0 lt, getD-replicate 63 b 0 0 lt)))
 
 covers-in-aggregate-level-of-requires : (t : ℕ) → covers-in-aggregate-lts.Need-level-of-requires (covers-in-aggregate-claims t) (covers-in-aggregate-at t) covers-in-aggregate.Post
@@ -66,13 +66,13 @@ covers-in-aggregate-heap-index-requires t c κs =
 sought : (t : ℕ) (c : covers-in-aggregate-lts.After-heap-index (covers-in-aggregate-claims t) (covers-in-aggregate-at t) covers-in-aggregate.Post)
     → Sought (c .before .before .before .before .before .before .args .table .now) (c .before .before .before .before .before .before .args .lo) (c .before .before .before .before .before .before .args .hi) (c .before .before .before .before .before .before .args .depth)
     (c .before .before .before .before .before .before .args .key) (c .before .before .before .before .before .before .args .query) (c .before .before .before .before .before .before .args .len)
-    (c .before .before .gather .last .1 .1 .1 .1 .1 .0) (c .before .before .gather .last .1 .1 .1 .1 .1 .1 .0) (c .before .before .gather .result)
+    (c .before .before .gather-run .last .1 .1 .1 .1 .1 .0) (c .before .before .gather-run .last .1 .1 .1 .1 .1 .1 .0) (c .before .before .gather-run .result .present)
     (c .before .level-of .result) (c .heap-index .result)
 sought t c =
     let pre = c .before .before .before .before .before .before .pre .1 in
     record {
       node = pre .0;
-      gathered = c .before .before .gather .ensures;
+      gathered = c .before .before .gather-run .ensures .0;
       lens = pre .1 .0;
       aligned = pre .1 .1 .0;
       lies = pre .1 .1 .1;
@@ -153,7 +153,7 @@ pub +covers-in-aggregate-spec : {M : Type 1} → statement M
 +covers-in-aggregate-spec = close μ-covers-in-aggregate λ t. covers-in-aggregate-lts.spec (covers-in-aggregate-claims t)
     (covers-in-aggregate-at t)
     covers-in-aggregate.Post
-    (covers-in-aggregate-gather-requires t)
+    (covers-in-aggregate-gather-run-requires t)
     (covers-in-aggregate-level-of-requires t)
     (covers-in-aggregate-heap-index-requires t)
     (covers-in-aggregate-record-over-requires t)

@@ -71,34 +71,6 @@ pub fn marked(present: u32, b: usize) -> u32
     }
 }
 
-// Gathers a node's run: for each place of its heap the records first[b]..end[b], and the positions that have one.
-pub fn gather(
-    table: &[u8],
-    lo: usize,
-    hi: usize,
-    depth: usize,
-    key: u64,
-    first: &mut [usize; 63],
-    end: &mut [usize; 63],
-) -> u32
-    requires { ⌜ Node (now table) lo hi depth key ⌝ }
-    requires { ⌜ (length (now first) ≡ 63) × (length (now end) ≡ 63) ⌝ }
-    requires { ⌜ ((b : ℕ) → b < 63 → (getD (now first) b 0 ≡ 0) × (getD (now end) b 0 ≡ 0)) ⌝ }
-    ensures { λ r. ⌜ Gathered (now (table .entry)) lo hi depth key (now (first .exit)) (now (end .exit)) r ⌝ }
-{
-    let mut present: u32 = 0;
-    let mut i = lo;
-    while i < hi {
-        let level = level_of(size_at(table, i), depth);
-        let b = heap_index(wide_at(table, i), level, depth, key);
-        first[b] = first_of(first[b], end[b], i);
-        end[b] = i + 1;
-        present = marked(present, b);
-        i += 1;
-    }
-    present
-}
-
 // The slots with a record, once place b has one; the places from 31 on are slots.
 pub fn with_slot(occupied: u32, b: usize) -> u32
     requires { ⌜ b < 63 ⌝ }

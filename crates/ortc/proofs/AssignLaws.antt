@@ -5,12 +5,12 @@ use mathlib.Core.Path.{_≡_, refl, sym, ap, subst, _∙_}
 use mathlib.Core.Bool.{Bool, true, false, true≢false, cond, not, _&&_, _||_, and-false, or-false}
 use mathlib.Core.List.{List, [], _∷_}
 use mathlib.Core.Logic.{_⊎_, inl, inr}
-use native.Mathlib.Nat.{pow-suc, eq-or-lt-of-le}
+use native.Mathlib.Nat.{pow-suc, eq-or-lt-of-le, add-zero}
 use native.Mathlib.Omega.{arith}
 use lib.Dec.{eqb, ltb}
 use lib.Bits.{bitAnd, bitOr, and-self}
-use lib.ListN.{length, getD, set, length-set}
-use lib.Seq.{getD-set-same, getD-set-other}
+use lib.ListN.{length, getD, set, replicate, length-set, getD-replicate}
+use lib.Seq.{getD-set-same, getD-set-other, set-getD}
 use lib.Pow.{pow-pos, pow-mono}
 use borrow.Author.Tests.{eq-eqb, ne-eqb, ltb-false}
 use Rattle.theory.specs.Routes.{Answer, none, via}
@@ -34,7 +34,7 @@ use Rattle.nodes.specs.Output.{entryAt}
 use Rattle.nodes.specs.Room.{Begins}
 use Rattle.ortc.specs.Answers.{ShowsNode, assignedAt, entryOver, Stepped, LeafSlots}
 use Rattle.ortc.specs.Packed.{stored, packed}
-use Rattle.ortc.proofs.PackedLaws.{left-parent, Reading, reading-start, reading-stored, reading-taken, reading-next}
+use Rattle.ortc.proofs.PackedLaws.{left-parent, Reading, reading-start, reading-stored, reading-taken, reading-next, reading-end}
 
 -- ---- The sets of a node's positions, from those of its slots.
 
@@ -284,6 +284,56 @@ module _ {o : List ℕ} {top above : ℕ} {hops : List ℕ} {entries mask at b :
         bits-are i (inr less) =
             w i (omega arith)
             ∙ rw (ne-eqb i b (λ z. omega arith), before-is i (omega arith), over-kept hops b above hop i (omega arith)) (p .done i (omega arith))
+
+-- The first position, where all are given its hop at once.
+pub assigning-first : (o : List ℕ) (top above : ℕ) {hop mask at mask′ at′ : ℕ} → mask ≡ getD o top 0 → at ≡ top + 1 → above ≤ 64
+    → Stepped o mask at above hop mask′ at′ → (entries : ℕ)
+    → ((i : ℕ) → i < 31 → bit entries i ≡ ((eqb i 0 && (not (eqb hop above) && ltb hop 64)) || bit 0 i))
+    → Assigning o top above (replicate 31 hop) entries mask′ at′ 1
+assigning-first o top above {hop} {mask} {at} e s first p =
+    assigning-next (assigning-start o top above (replicate 31 hop) mask at refl e s) (omega arith) first refl p
+
+module _ {o : List ℕ} {top above entries at : ℕ} (first : above ≤ 64) where
+  -- A position with the hop above it is assigned where none to come is stored.
+  assigning-left : {hops : List ℕ} {b : ℕ} → Assigning o top above hops entries 0 at b → b < 31 → getD hops b 0 ≡ overAt hops b above
+      → Assigning o top above hops entries 0 at (b + 1)
+  assigning-left {hops} {b} p small e =
+      subst (λ (hs : List ℕ). Assigning o top above hs entries 0 at (b + 1)) (set-getD hops b 0)
+      (assigning-next p small first refl left entries (λ i lt. rw (eq-eqb (getD hops b 0) (overAt hops b above) e, and-false)))
+    where
+      left : Stepped o 0 at (overAt hops b above) (getD hops b 0) 0 at
+      left = record {
+        masks = refl;
+        tops = sym (add-zero at);
+        kept = λ z. e;
+        taken = λ z S h. absurd (true≢false (sym z));
+        low = λ h. omega (arith, e);
+      }
+
+  -- So where all have one hop, and none but the first is stored, all are.
+  pub assigning-rest : {hop : ℕ} (n b : ℕ) → b + n ≡ 31 → 0 < b → Assigning o top above (replicate 31 hop) entries 0 at b
+      → Assigning o top above (replicate 31 hop) entries 0 at 31
+  assigning-rest {hop} zero b e low p = subst (Assigning o top above (replicate 31 hop) entries 0 at) (omega arith) p
+  assigning-rest {hop} (suc n) b e low p = assigning-rest n (b + 1) (omega arith) (omega arith) (assigning-left p (omega arith) same)
+    where
+      same : getD (replicate 31 hop) b 0 ≡ overAt (replicate 31 hop) b above
+      same =
+          getD-replicate 31 b hop 0 (omega arith)
+          ∙ rw (ne-eqb b 0 (λ z. omega arith)) (sym (getD-replicate 31 ((b - 1) / 2) hop 0 (omega arith)))
+
+-- After the last position all are assigned, and the reader stands past the node's own words.
+pub assigning-end : {o : List ℕ} {top above : ℕ} {hops : List ℕ} {entries mask at b : ℕ} → Assigning o top above hops entries mask at b → b ≡ 31
+    → ((xs : List ℕ) → Begins (packed xs) top o → at ≡ top + length (packed xs))
+    × (((f : ℕ → Answer) (m a : ℕ) (xs : List ℕ) → ShowsNode f m a xs → Begins (packed xs) top o → (l j : ℕ) → l ≤ 4 → j < 2 ^ l
+    → AssignedHop f m a above hops l j)
+    × ((i : ℕ) → i < 31 → bit entries i ≡ hasEntry hops above i))
+assigning-end p z = (
+  λ xs e. reading-end (p .reads xs e) z,
+  (
+    λ f m a xs n e l j le lt. let q = in-word l j le lt in p .each f m a xs n e l j le lt (omega arith),
+    λ i lt. p .done i (omega arith),
+  ),
+)
 
 -- ---- The entries.
 

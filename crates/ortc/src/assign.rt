@@ -67,31 +67,6 @@ pub fn fold_sets(slots: &mut [u64; 63])
     }
 }
 
-// What a position is assigned, and the reader past it.
-pub struct Step {
-    pub hop: u8,
-    pub reader: NodeReader,
-}
-
-// The next position's hop: assigned by its set, or, where none is stored, the hop above it.
-pub fn step_at(work: &[u32], reader: NodeReader, over: u8) -> Step
-    requires { ⌜ (eqb (reader .mask % 2) 1 ≡ true → reader .top + 2 ≤ length (now work)) ⌝ }
-    ensures { λ r. ⌜ Stepped (now (work .entry)) (reader .mask) (reader .top) over (r .hop) (r .reader .mask) (r .reader .top) ⌝ }
-{
-    if reader.stored() {
-        let p = reader.pop(work);
-        let next = p.reader;
-        return Step {
-            hop: assign(p.set, over),
-            reader: next,
-        };
-    }
-    Step {
-        hop: over,
-        reader: reader.skip(),
-    }
-}
-
 // The entries, with position b's if it is assigned a hop other than the one above.
 pub fn with_entry(entries: u32, b: u32, hop: u8, over: u8) -> u32
     requires { ⌜ b < 31 ⌝ }
@@ -104,6 +79,37 @@ pub fn with_entry(entries: u32, b: u32, hop: u8, over: u8) -> u32
         with_bit(entries, b)
     } else {
         entries
+    }
+}
+
+// What a position is assigned, the entries with it, and the reader past it.
+pub struct Step {
+    pub hop: u8,
+    pub entries: u32,
+    pub reader: NodeReader,
+}
+
+// The next position, b: assigned by its set, or, where none is stored, the hop above it, and then it has no entry.
+pub fn step_at(work: &[u32], reader: NodeReader, over: u8, entries: u32, b: u32) -> Step
+    requires { ⌜ (eqb (reader .mask % 2) 1 ≡ true → reader .top + 2 ≤ length (now work)) ⌝ }
+    requires { ⌜ b < 31 ⌝ }
+    ensures { λ r. ⌜ Stepped (now (work .entry)) (reader .mask) (reader .top) over (r .hop) (r .reader .mask) (r .reader .top) ⌝ }
+    ensures { λ r. ⌜ ((i : ℕ) → i < 32 → bit (r .entries) i ≡ ((eqb i b && (not (eqb (r .hop) over) && ltb (r .hop) 64)) || bit entries i)) ⌝ }
+{
+    if reader.stored() {
+        let p = reader.pop(work);
+        let hop = assign(p.set, over);
+        let next = p.reader;
+        return Step {
+            hop,
+            entries: with_entry(entries, b, hop, over),
+            reader: next,
+        };
+    }
+    Step {
+        hop: over,
+        entries,
+        reader: reader.skip(),
     }
 }
 
@@ -122,15 +128,24 @@ pub fn assign_nodes(work: &[u32], top: usize, above: u8) -> Assigned
     ensures { λ r. ⌜ ((f : ℕ → Answer) (m a : ℕ) (xs : List ℕ) → ShowsNode f m a xs → Begins (packed xs) top (now (work .entry)) → (l j : ℕ) → l ≤ 4 → j < 2 ^ l → (getD (r .hops) (position l j) 0 ≤ 64) × (hopOf (getD (r .hops) (position l j) 0) ≡ assignedAt f m a (hopOf above) l j)) ⌝ }
     ensures { λ r. ⌜ ((b : ℕ) → b < 31 → bit (r .entries) b ≡ (not (eqb (getD (r .hops) b 0) (overAt (r .hops) b above)) && ltb (getD (r .hops) b 0) 64)) ⌝ }
 {
-    let mut hops = [64u8; 31];
-    let mut entries: u32 = 0;
-    let mut reader = NodeReader::new(work, top);
-    let mut b: usize = 0;
+    let first = step_at(work, NodeReader::new(work, top), above, 0, 0);
+    let mut hops = [first.hop; 31];
+    let mut entries = first.entries;
+    let mut reader = first.reader;
+    // With no other position stored, each is assigned what the first is.
+    if reader.mask == 0 {
+        return Assigned {
+            hops,
+            entries,
+            top: reader.top,
+        };
+    }
+    let mut b: usize = 1;
     while b < 31 {
         let over = over_at(&hops, b, above);
-        let s = step_at(work, reader, over);
+        let s = step_at(work, reader, over, entries, b as u32);
         hops[b] = s.hop;
-        entries = with_entry(entries, b as u32, s.hop, over);
+        entries = s.entries;
         let next = s.reader;
         reader = next;
         b += 1;

@@ -425,6 +425,26 @@ same-entry v w over q = go (ltb w 64) refl
         let s : hopOf w ≡ none = rw e in
         rw (hop-none v (q ∙ s), e) (and-false (not (eqb v over)) ∙ sym (and-false (not (eqb w over))))
 
+-- At the positions of the last level before p, what answers the slots under them is what they are assigned.
+abbrev pub LeavesSame : List ℕ → List ℕ → ℕ → ℕ → Type 0
+LeavesSame covering hops fill p = (i : ℕ) → 15 ≤ i → i < p → hopOf (getD hops i 0) ≡ orElse (hopOf (getD covering i 0)) (hopOf fill)
+
+-- One position more.
+pub same-next : (covering hops : List ℕ) (fill p : ℕ) → LeavesSame covering hops fill p → (v : ℕ)
+    → hopOf v ≡ orElse (hopOf (getD covering p 0)) (hopOf fill) → v ≡ getD hops p 0 → LeavesSame covering hops fill (p + 1)
+same-next covering hops fill p h v is e = λ i le lt. go i le (eq-or-lt-of-le lt)
+  where
+    go : (i : ℕ) → 15 ≤ i → (suc i ≡ p + 1) ⊎ (suc i < p + 1) → hopOf (getD hops i 0) ≡ orElse (hopOf (getD covering i 0)) (hopOf fill)
+    go i le (inl z) = let q : i ≡ p = omega arith in rw (q, ← e) is
+    go i le (inr less) = h i le (omega arith)
+
+-- Where it is so at all of them, no slot has an entry.
+pub same-unmarked : (covering hops : List ℕ) (fill : ℕ) → LeavesSame covering hops fill 31 → LeafSlots covering hops fill 0
+same-unmarked covering hops fill h c v lt e =
+    let w = getD hops (15 + c / 2) 0 in
+    let q : (not (eqb w w) && ltb w 64) ≡ false = rw (eq-eqb w w refl) in
+    bit-zero c ∙ sym (same-entry v w w (e ∙ sym (h (15 + c / 2) (omega arith) (omega arith))) ∙ q)
+
 -- The positions of the last level before p are marked where what answers the slots under them is a hop, and not the one they are assigned.
 pub record LeavesMarked (covering hops : List ℕ) (fill marked p : ℕ) : Type 0 where
   pub done : (i v : ℕ) → 15 ≤ i → i < p → hopOf v ≡ orElse (hopOf (getD covering i 0)) (hopOf fill)

@@ -157,11 +157,34 @@ pub fn assign_nodes(work: &[u32], top: usize, above: u8) -> Assigned
     }
 }
 
+// Is it the same still, once v answers the slots under one position more, and `over` is what this is assigned?
+fn still_same(same: bool, v: u8, over: u8) -> bool
+    ensures { λ r. ⌜ r ≡ (eqb v over && same) ⌝ }
+{
+    if v == over { same } else { false }
+}
+
+// Is what answers a slot with no record in it, wherever it stands, the hop assigned above it?
+fn leaves_same(covering: &[u8; 31], hops: &[u8; 31], fill: u8) -> bool
+    ensures { λ r. ⌜ (r ≡ true → LeafSlots (now (covering .entry)) (now (hops .entry)) fill 0) ⌝ }
+{
+    let mut same = true;
+    let mut p: usize = 15;
+    while p < 31 {
+        same = still_same(same, leaf_value(covering[p], fill), hops[p]);
+        p += 1;
+    }
+    same
+}
+
 // The slots that, with no record in them, have an entry: what answers there is a hop, and not the one assigned above. By pairs, since two slots
 // stand under one position.
 pub fn leaf_slots(covering: &[u8; 31], hops: &[u8; 31], fill: u8) -> u32
     ensures { λ r. ⌜ LeafSlots (now (covering .entry)) (now (hops .entry)) fill r ⌝ }
 {
+    if leaves_same(covering, hops, fill) {
+        return 0;
+    }
     let mut other: u32 = 0;
     let mut p: usize = 15;
     while p < 31 {

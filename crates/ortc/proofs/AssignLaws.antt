@@ -5,11 +5,12 @@ use mathlib.Core.Path.{_≡_, refl, sym, ap, subst, _∙_}
 use mathlib.Core.Bool.{Bool, true, false, true≢false, cond, not, _&&_, _||_, and-false, or-false}
 use mathlib.Core.List.{List, [], _∷_}
 use mathlib.Core.Logic.{_⊎_, inl, inr}
-use native.Mathlib.Nat.{pow-suc, eq-or-lt-of-le}
+use native.Mathlib.Nat.{pow-suc, eq-or-lt-of-le, add-zero}
 use native.Mathlib.Omega.{arith}
 use lib.Dec.{eqb, ltb}
-use lib.ListN.{length, getD, set, length-set}
-use lib.Seq.{getD-set-same, getD-set-other}
+use lib.Bits.{bitAnd, bitOr, and-self}
+use lib.ListN.{length, getD, set, replicate, length-set, getD-replicate}
+use lib.Seq.{getD-set-same, getD-set-other, set-getD}
 use lib.Pow.{pow-pos, pow-mono}
 use borrow.Author.Tests.{eq-eqb, ne-eqb, ltb-false}
 use Rattle.theory.specs.Routes.{Answer, none, via}
@@ -26,14 +27,14 @@ use Rattle.positions.specs.Walk.{stateOf, stateAt}
 use Rattle.positions.specs.Walks.{ortcOut, ortcNext}
 use Rattle.positions.proofs.RunsNode.{size-halves, size-slot, place-left, place-right}
 use Rattle.hops.specs.Sets.{ShowsSet}
-use Rattle.hops.proofs.SetLaws.{same-word-same-set, shows-one}
+use Rattle.hops.proofs.SetLaws.{same-word-same-set, shows-one, combineWords, shows-combine}
 use Rattle.nodes.specs.Node.{wide, slotSize}
 use Rattle.nodes.specs.Gathered.{overAt}
 use Rattle.nodes.specs.Output.{entryAt}
 use Rattle.nodes.specs.Room.{Begins}
 use Rattle.ortc.specs.Answers.{ShowsNode, assignedAt, entryOver, Stepped, LeafSlots}
 use Rattle.ortc.specs.Packed.{stored, packed}
-use Rattle.ortc.proofs.PackedLaws.{left-parent, Reading, reading-start, reading-stored, reading-taken, reading-next}
+use Rattle.ortc.proofs.PackedLaws.{left-parent, Reading, reading-start, reading-stored, reading-taken, reading-next, reading-end}
 
 -- ---- The sets of a node's positions, from those of its slots.
 
@@ -45,6 +46,16 @@ setAt f m a l j = sets f (sizeAt m l) (placeAt m a l j)
 pub halves-sets : (f : ℕ → Answer) (m a l j : ℕ) → l < 5 → setAt f m a l j ≡ combine (setAt f m a (suc l) (2 * j)) (setAt f m a (suc l) (2 * j + 1))
 unfolding sets
 halves-sets f m a l j lt = rw (place-left m a l j lt, place-right m a l j lt, size-halves m l lt)
+
+-- Where both halves are shown by one word, it shows the position's too.
+pub same-halves : (x : ℕ) (S R : Cand) → ShowsSet x S → ShowsSet x R → ShowsSet x (combine S R)
+unfolding combineWords
+same-halves x S R p q = subst (λ (y : ℕ). ShowsSet y (combine S R)) same (shows-combine x x S R p q)
+  where
+    same : combineWords x x ≡ x
+    same =
+        if-eq (λ t. cond t 0 (cond t 0 (cond (eqb (bitAnd x x) 0) (bitOr x x) (bitAnd x x))) ≡ x) x 0
+        (λ e. sym e) (λ e. rw (and-self x, ne-eqb x 0 e))
 
 -- The words of the slots xs₀ show the candidates of the slots of the node (m + 5, a).
 abbrev pub ShowsSlots : (ℕ → Answer) → ℕ → ℕ → List ℕ → Type 0
@@ -274,6 +285,56 @@ module _ {o : List ℕ} {top above : ℕ} {hops : List ℕ} {entries mask at b :
             w i (omega arith)
             ∙ rw (ne-eqb i b (λ z. omega arith), before-is i (omega arith), over-kept hops b above hop i (omega arith)) (p .done i (omega arith))
 
+-- The first position, where all are given its hop at once.
+pub assigning-first : (o : List ℕ) (top above : ℕ) {hop mask at mask′ at′ : ℕ} → mask ≡ getD o top 0 → at ≡ top + 1 → above ≤ 64
+    → Stepped o mask at above hop mask′ at′ → (entries : ℕ)
+    → ((i : ℕ) → i < 31 → bit entries i ≡ ((eqb i 0 && (not (eqb hop above) && ltb hop 64)) || bit 0 i))
+    → Assigning o top above (replicate 31 hop) entries mask′ at′ 1
+assigning-first o top above {hop} {mask} {at} e s first p =
+    assigning-next (assigning-start o top above (replicate 31 hop) mask at refl e s) (omega arith) first refl p
+
+module _ {o : List ℕ} {top above entries at : ℕ} (first : above ≤ 64) where
+  -- A position with the hop above it is assigned where none to come is stored.
+  assigning-left : {hops : List ℕ} {b : ℕ} → Assigning o top above hops entries 0 at b → b < 31 → getD hops b 0 ≡ overAt hops b above
+      → Assigning o top above hops entries 0 at (b + 1)
+  assigning-left {hops} {b} p small e =
+      subst (λ (hs : List ℕ). Assigning o top above hs entries 0 at (b + 1)) (set-getD hops b 0)
+      (assigning-next p small first refl left entries (λ i lt. rw (eq-eqb (getD hops b 0) (overAt hops b above) e, and-false)))
+    where
+      left : Stepped o 0 at (overAt hops b above) (getD hops b 0) 0 at
+      left = record {
+        masks = refl;
+        tops = sym (add-zero at);
+        kept = λ z. e;
+        taken = λ z S h. absurd (true≢false (sym z));
+        low = λ h. omega (arith, e);
+      }
+
+  -- So where all have one hop, and none but the first is stored, all are.
+  pub assigning-rest : {hop : ℕ} (n b : ℕ) → b + n ≡ 31 → 0 < b → Assigning o top above (replicate 31 hop) entries 0 at b
+      → Assigning o top above (replicate 31 hop) entries 0 at 31
+  assigning-rest {hop} zero b e low p = subst (Assigning o top above (replicate 31 hop) entries 0 at) (omega arith) p
+  assigning-rest {hop} (suc n) b e low p = assigning-rest n (b + 1) (omega arith) (omega arith) (assigning-left p (omega arith) same)
+    where
+      same : getD (replicate 31 hop) b 0 ≡ overAt (replicate 31 hop) b above
+      same =
+          getD-replicate 31 b hop 0 (omega arith)
+          ∙ rw (ne-eqb b 0 (λ z. omega arith)) (sym (getD-replicate 31 ((b - 1) / 2) hop 0 (omega arith)))
+
+-- After the last position all are assigned, and the reader stands past the node's own words.
+pub assigning-end : {o : List ℕ} {top above : ℕ} {hops : List ℕ} {entries mask at b : ℕ} → Assigning o top above hops entries mask at b → b ≡ 31
+    → ((xs : List ℕ) → Begins (packed xs) top o → at ≡ top + length (packed xs))
+    × (((f : ℕ → Answer) (m a : ℕ) (xs : List ℕ) → ShowsNode f m a xs → Begins (packed xs) top o → (l j : ℕ) → l ≤ 4 → j < 2 ^ l
+    → AssignedHop f m a above hops l j)
+    × ((i : ℕ) → i < 31 → bit entries i ≡ hasEntry hops above i))
+assigning-end p z = (
+  λ xs e. reading-end (p .reads xs e) z,
+  (
+    λ f m a xs n e l j le lt. let q = in-word l j le lt in p .each f m a xs n e l j le lt (omega arith),
+    λ i lt. p .done i (omega arith),
+  ),
+)
+
 -- ---- The entries.
 
 -- Two hops up to 64 that say the same are equal.
@@ -363,6 +424,26 @@ same-entry v w over q = go (ltb w 64) refl
     go false e =
         let s : hopOf w ≡ none = rw e in
         rw (hop-none v (q ∙ s), e) (and-false (not (eqb v over)) ∙ sym (and-false (not (eqb w over))))
+
+-- At the positions of the last level before p, what answers the slots under them is what they are assigned.
+abbrev pub LeavesSame : List ℕ → List ℕ → ℕ → ℕ → Type 0
+LeavesSame covering hops fill p = (i : ℕ) → 15 ≤ i → i < p → hopOf (getD hops i 0) ≡ orElse (hopOf (getD covering i 0)) (hopOf fill)
+
+-- One position more.
+pub same-next : (covering hops : List ℕ) (fill p : ℕ) → LeavesSame covering hops fill p → (v : ℕ)
+    → hopOf v ≡ orElse (hopOf (getD covering p 0)) (hopOf fill) → v ≡ getD hops p 0 → LeavesSame covering hops fill (p + 1)
+same-next covering hops fill p h v is e = λ i le lt. go i le (eq-or-lt-of-le lt)
+  where
+    go : (i : ℕ) → 15 ≤ i → (suc i ≡ p + 1) ⊎ (suc i < p + 1) → hopOf (getD hops i 0) ≡ orElse (hopOf (getD covering i 0)) (hopOf fill)
+    go i le (inl z) = let q : i ≡ p = omega arith in rw (q, ← e) is
+    go i le (inr less) = h i le (omega arith)
+
+-- Where it is so at all of them, no slot has an entry.
+pub same-unmarked : (covering hops : List ℕ) (fill : ℕ) → LeavesSame covering hops fill 31 → LeafSlots covering hops fill 0
+same-unmarked covering hops fill h c v lt e =
+    let w = getD hops (15 + c / 2) 0 in
+    let q : (not (eqb w w) && ltb w 64) ≡ false = rw (eq-eqb w w refl) in
+    bit-zero c ∙ sym (same-entry v w w (e ∙ sym (h (15 + c / 2) (omega arith) (omega arith))) ∙ q)
 
 -- The positions of the last level before p are marked where what answers the slots under them is a hop, and not the one they are assigned.
 pub record LeavesMarked (covering hops : List ℕ) (fill marked p : ℕ) : Type 0 where

@@ -1,17 +1,19 @@
--- A node's packed sets, position by position: what each adds to the mask and the words, how long both are, and what is read of them.
+-- A node's packed sets, position by position: what each adds to the mask and the words, how long both are, how they are laid, and what is read
+-- of them.
 use Prim.Native.Nat.{ℕ, zero, suc, _+_, _-_, _*_, _/_, _%_, _^_, _≤_, _<_}
-use mathlib.Core.Path.{_≡_, refl, _∙_}
+use mathlib.Core.Path.{_≡_, refl, sym, _∙_}
 use mathlib.Core.Bool.{Bool, true, false, true≢false, cond, not}
 use mathlib.Core.List.{List, [], _∷_, _++_}
 use native.Mathlib.Nat.{pow-suc, lt-of-lt-of-le, add-zero}
 use native.Mathlib.Omega.{arith}
 use lib.Dec.{eqb}
-use lib.ListN.{length, getD}
+use lib.ListN.{length, getD, set}
 use lib.Pow.{pow-pos, pow-mono}
 use borrow.Author.Tests.{eq-eqb, ne-eqb, eqb-true, eqb-false, not-false}
-use Rattle.nodes.specs.Room.{Begins}
-use Rattle.nodes.proofs.RoomLaws.{Read, begins-word}
-use Rattle.writer.specs.Write.{low, high, storedWords}
+use Rattle.nodes.specs.Room.{Begins, Pushed}
+use Rattle.nodes.proofs.RoomLaws.{Read, begins-word, pushed-none, pushed-then, pushed-length, pushed-word}
+use Rattle.writer.specs.declared.NodeWriter.{NodeWriter}
+use Rattle.writer.specs.Write.{low, high, storedWords, MayPush, DidPush}
 use Rattle.ortc.specs.Packed.{stored, maskOf, wordsOf, packed}
 
 -- ---- The mask and the words of the last positions.
@@ -54,10 +56,16 @@ module _ (xs : List ℕ) (b k k′ : ℕ) (more : k ≡ suc k′) (at : 30 - k�
   pub words-left : stored xs b ≡ false → wordsOf xs k ≡ wordsOf xs k′
   words-left e = words-more ∙ rw e
 
--- A position has two words at most.
-pub words-two : (s : Bool) (x : ℕ) → length (storedWords s x) ≤ 2
-words-two true x = omega arith
-words-two false x = omega arith
+-- They are two words a position at most.
+pub words-most : (xs : List ℕ) (k : ℕ) → length (wordsOf xs k) ≤ 2 * k
+unfolding wordsOf
+words-most xs zero = omega arith
+words-most xs (suc k) = go (stored xs (30 - k)) (words-most xs k)
+  where
+    go : (s : Bool) → length (wordsOf xs k) ≤ 2 * k
+        → length (cond s (low (getD xs (30 - k) 0) ∷ high (getD xs (30 - k) 0) ∷ wordsOf xs k) (wordsOf xs k)) ≤ 2 * suc k
+    go true h = omega arith
+    go false h = omega arith
 
 -- The mask has a bit for each position.
 pub mask-small : (xs : List ℕ) (k : ℕ) → maskOf xs k < 2 ^ k
@@ -81,6 +89,55 @@ left-parent xs b = go (eqb b 0) refl
     go true e s = absurd (true≢false s)
     go false e s =
         (eqb-false b 0 e, eqb-true (getD xs b 0) (getD xs ((b - 1) / 2) 0) (not-false (eqb (getD xs b 0) (getD xs ((b - 1) / 2) 0)) s))
+
+-- ---- Laying them.
+
+-- In the room o, which was o₀, the words of the positions from b on are laid below top, and the writer w has their mask.
+pub record Laying (xs : List ℕ) (top : ℕ) (o₀ : List ℕ) (b : ℕ) (w : NodeWriter) (o : List ℕ) : Type 0 where
+  pub masks : w .mask ≡ maskOf xs (31 - b)
+  pub laid : Pushed (wordsOf xs (31 - b)) top (w .top) o₀ o
+
+-- At the start there is no such position.
+pub laying-start : (xs : List ℕ) (top : ℕ) (o : List ℕ) → Laying xs top o 31 (record { mask = 0; top = top }) o
+laying-start xs top o = record { masks = sym (mask-none xs); laid = rw words-none (pushed-none top o) }
+
+module _ {xs : List ℕ} {top : ℕ} {o₀ : List ℕ} {b : ℕ} {w : NodeWriter} {o : List ℕ} (h : Laying xs top o₀ b w o) (within : top ≤ length o₀) where
+  -- They have two words each at most, and the room stays as long.
+  pub laying-room : (w .top ≤ top) × (top ≤ w .top + 2 * (31 - b)) × (length o ≡ length o₀)
+  laying-room =
+      let e = h .laid .ends in
+      let m = words-most xs (31 - b) in
+      (omega arith, omega arith, pushed-length (h .laid) within)
+
+  -- There is room for one position more.
+  pub laying-may : 0 < b → 63 ≤ top → (s : Bool) → MayPush w (length o) s
+  laying-may low enough s =
+      let r = laying-room in
+      let m = h .masks in
+      let n = mask-within xs (31 - b) 30 (omega arith) in
+      record { bit = omega arith; two = λ t. omega arith; within = λ t. omega arith }
+
+  -- One position more.
+  pub laying-next : (j : ℕ) → b ≡ suc j → b ≤ 31 → {s : Bool} → s ≡ stored xs j → {w′ : NodeWriter} {o′ : List ℕ}
+      → DidPush w s (getD xs j 0) w′ o o′ → Laying xs top o₀ j w′ o′
+  laying-next j e small {s} is {w′} {o′} d =
+      let d′ : DidPush w (stored xs j) (getD xs j 0) w′ o o′ = rw is at d in
+      record {
+        masks = d′ .marked ∙ rw (h .masks) (sym (mask-more xs j (31 - j) (31 - b) (omega arith) (omega arith)));
+        laid = rw (words-more xs j (31 - j) (31 - b) (omega arith) (omega arith)) (pushed-then (h .laid) (d′ .laid) within);
+      }
+
+  -- One that stands under position p is stored where their sets differ.
+  pub laying-under : (j p : ℕ) → b ≡ suc j → b ≤ 31 → 0 < j → (j - 1) / 2 ≡ p → {w′ : NodeWriter} {o′ : List ℕ}
+      → DidPush w (not (eqb (getD xs j 0) (getD xs p 0))) (getD xs j 0) w′ o o′ → Laying xs top o₀ j w′ o′
+  laying-under j p e small low up d = laying-next j e small (rw (ne-eqb j 0 (λ z. omega arith), up)) d
+
+-- After the first position the mask is laid, below them all.
+pub laying-end : {xs : List ℕ} {top : ℕ} {o₀ : List ℕ} {w : NodeWriter} {o : List ℕ} → Laying xs top o₀ 0 w o → 63 ≤ top → top ≤ length o₀
+    → Pushed (packed xs) top (w .top - 1) o₀ (set o (w .top - 1) (w .mask))
+laying-end {xs} {top} {o₀} {w} {o} p enough within =
+    let r = laying-room p within in
+    rw (← p .masks) (pushed-then (p .laid) (pushed-word (w .mask) (w .top) o (omega arith) (omega arith)) within)
 
 -- ---- Reading them back.
 

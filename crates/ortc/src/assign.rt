@@ -17,7 +17,7 @@ ghost use Prim.Native.Nat.{ℕ, _+_, _/_, _%_, _^_, _≤_, _<_};
 ghost use lib.Dec.{eqb, ltb};
 ghost use lib.ListN.{length, getD};
 ghost use Rattle.theory.specs.Routes.{Answer};
-ghost use Rattle.theory.specs.Results.{leaf, sets};
+ghost use Rattle.theory.specs.Results.{Cand, leaf, sets};
 ghost use Rattle.words.specs.Bits.{bit};
 ghost use Rattle.words.specs.Positions.{position};
 ghost use Rattle.positions.specs.Runs.{hopOf, orElse, placeAt};
@@ -45,6 +45,16 @@ pub fn leaf_sets(covering: &[u8; 31], fill: u8) -> [u64; 63]
     slots
 }
 
+// The candidates of a position from those of its halves, which are its own where both have the same.
+fn combine_halves(left: u64, right: u64) -> u64
+    ensures { λ r. ⌜ ((S R : Cand) → ShowsSet left S → ShowsSet right R → ShowsSet r (Rattle.theory.specs.Results.combine S R)) ⌝ }
+{
+    if left == right {
+        return left;
+    }
+    combine(left, right)
+}
+
 // Combines the sets of a node's slots upward into those of its positions.
 pub fn fold_sets(slots: &mut [u64; 63])
     ensures { λ _. ⌜ length (now (slots .exit)) ≡ length (now (slots .entry)) ⌝ }
@@ -53,32 +63,7 @@ pub fn fold_sets(slots: &mut [u64; 63])
     let mut b: usize = 31;
     while 0 < b {
         b -= 1;
-        slots[b] = combine(slots[2 * b + 1], slots[2 * b + 2]);
-    }
-}
-
-// What a position is assigned, and the reader past it.
-pub struct Step {
-    pub hop: u8,
-    pub reader: NodeReader,
-}
-
-// The next position's hop: assigned by its set, or, where none is stored, the hop above it.
-pub fn step_at(work: &[u32], reader: NodeReader, over: u8) -> Step
-    requires { ⌜ (eqb (reader .mask % 2) 1 ≡ true → reader .top + 2 ≤ length (now work)) ⌝ }
-    ensures { λ r. ⌜ Stepped (now (work .entry)) (reader .mask) (reader .top) over (r .hop) (r .reader .mask) (r .reader .top) ⌝ }
-{
-    if reader.stored() {
-        let p = reader.pop(work);
-        let next = p.reader;
-        return Step {
-            hop: assign(p.set, over),
-            reader: next,
-        };
-    }
-    Step {
-        hop: over,
-        reader: reader.skip(),
+        slots[b] = combine_halves(slots[2 * b + 1], slots[2 * b + 2]);
     }
 }
 
@@ -97,6 +82,37 @@ pub fn with_entry(entries: u32, b: u32, hop: u8, over: u8) -> u32
     }
 }
 
+// What a position is assigned, the entries with it, and the reader past it.
+pub struct Step {
+    pub hop: u8,
+    pub entries: u32,
+    pub reader: NodeReader,
+}
+
+// The next position, b: assigned by its set, or, where none is stored, the hop above it, and then it has no entry.
+pub fn step_at(work: &[u32], reader: NodeReader, over: u8, entries: u32, b: u32) -> Step
+    requires { ⌜ (eqb (reader .mask % 2) 1 ≡ true → reader .top + 2 ≤ length (now work)) ⌝ }
+    requires { ⌜ b < 31 ⌝ }
+    ensures { λ r. ⌜ Stepped (now (work .entry)) (reader .mask) (reader .top) over (r .hop) (r .reader .mask) (r .reader .top) ⌝ }
+    ensures { λ r. ⌜ ((i : ℕ) → i < 32 → bit (r .entries) i ≡ ((eqb i b && (not (eqb (r .hop) over) && ltb (r .hop) 64)) || bit entries i)) ⌝ }
+{
+    if reader.stored() {
+        let p = reader.pop(work);
+        let hop = assign(p.set, over);
+        let next = p.reader;
+        return Step {
+            hop,
+            entries: with_entry(entries, b, hop, over),
+            reader: next,
+        };
+    }
+    Step {
+        hop: over,
+        entries,
+        reader: reader.skip(),
+    }
+}
+
 // What a node's positions are assigned, 64 for nothing; which of them have an entry; and where its own words end.
 pub struct Assigned {
     pub hops: [u8; 31],
@@ -112,15 +128,24 @@ pub fn assign_nodes(work: &[u32], top: usize, above: u8) -> Assigned
     ensures { λ r. ⌜ ((f : ℕ → Answer) (m a : ℕ) (xs : List ℕ) → ShowsNode f m a xs → Begins (packed xs) top (now (work .entry)) → (l j : ℕ) → l ≤ 4 → j < 2 ^ l → (getD (r .hops) (position l j) 0 ≤ 64) × (hopOf (getD (r .hops) (position l j) 0) ≡ assignedAt f m a (hopOf above) l j)) ⌝ }
     ensures { λ r. ⌜ ((b : ℕ) → b < 31 → bit (r .entries) b ≡ (not (eqb (getD (r .hops) b 0) (overAt (r .hops) b above)) && ltb (getD (r .hops) b 0) 64)) ⌝ }
 {
-    let mut hops = [64u8; 31];
-    let mut entries: u32 = 0;
-    let mut reader = NodeReader::new(work, top);
-    let mut b: usize = 0;
+    let first = step_at(work, NodeReader::new(work, top), above, 0, 0);
+    let mut hops = [first.hop; 31];
+    let mut entries = first.entries;
+    let mut reader = first.reader;
+    // With no other position stored, each is assigned what the first is.
+    if reader.mask == 0 {
+        return Assigned {
+            hops,
+            entries,
+            top: reader.top,
+        };
+    }
+    let mut b: usize = 1;
     while b < 31 {
         let over = over_at(&hops, b, above);
-        let s = step_at(work, reader, over);
+        let s = step_at(work, reader, over, entries, b as u32);
         hops[b] = s.hop;
-        entries = with_entry(entries, b as u32, s.hop, over);
+        entries = s.entries;
         let next = s.reader;
         reader = next;
         b += 1;
@@ -132,11 +157,34 @@ pub fn assign_nodes(work: &[u32], top: usize, above: u8) -> Assigned
     }
 }
 
+// Is it the same still, once v answers the slots under one position more, and `over` is what this is assigned?
+fn still_same(same: bool, v: u8, over: u8) -> bool
+    ensures { λ r. ⌜ r ≡ (eqb v over && same) ⌝ }
+{
+    if v == over { same } else { false }
+}
+
+// Is what answers a slot with no record in it, wherever it stands, the hop assigned above it?
+fn leaves_same(covering: &[u8; 31], hops: &[u8; 31], fill: u8) -> bool
+    ensures { λ r. ⌜ (r ≡ true → LeafSlots (now (covering .entry)) (now (hops .entry)) fill 0) ⌝ }
+{
+    let mut same = true;
+    let mut p: usize = 15;
+    while p < 31 {
+        same = still_same(same, leaf_value(covering[p], fill), hops[p]);
+        p += 1;
+    }
+    same
+}
+
 // The slots that, with no record in them, have an entry: what answers there is a hop, and not the one assigned above. By pairs, since two slots
 // stand under one position.
 pub fn leaf_slots(covering: &[u8; 31], hops: &[u8; 31], fill: u8) -> u32
     ensures { λ r. ⌜ LeafSlots (now (covering .entry)) (now (hops .entry)) fill r ⌝ }
 {
+    if leaves_same(covering, hops, fill) {
+        return 0;
+    }
     let mut other: u32 = 0;
     let mut p: usize = 15;
     while p < 31 {

@@ -3,35 +3,30 @@
 use writer::NodeWriter;
 use writer::pushed;
 ghost use mathlib.Core.Path.{_≡_};
-ghost use Prim.Native.Nat.{ℕ, _+_, _-_, _*_, _/_, _%_, _≤_, _<_};
+ghost use Prim.Native.Nat.{_+_, _*_, _/_, _%_, _≤_, _<_};
 ghost use lib.Dec.{eqb};
 ghost use lib.ListN.{length, getD};
 ghost use Rattle.nodes.specs.Room.{Pushed};
-ghost use Rattle.ortc.specs.Packed.{stored, packed};
+ghost use Rattle.ortc.specs.Packed.{packed};
 
-// Is position b stored?
-fn is_stored(sets: &[u64; 63], b: usize) -> bool
-    requires { ⌜ b < 31 ⌝ }
-    ensures { λ r. ⌜ r ≡ stored (now (sets .entry)) b ⌝ }
-{
-    if b == 0 {
-        return true;
-    }
-    sets[b] != sets[(b - 1) / 2]
-}
-
-// Lays a node's own words below `top`, its positions from the last to the first, then the mask, and says where they begin.
+// Lays a node's own words below `top`, its positions from the last to the first, then the mask, and says where they begin. The positions under
+// one go by pairs; the first is always stored.
 pub fn push_sets(sets: &[u64; 63], work: &mut [u32], top: usize) -> usize
     requires { ⌜ (63 ≤ top) × (top ≤ length (now work)) ⌝ }
     ensures { λ r. ⌜ (r ≤ top) × (top ≤ r + 63) ⌝ }
     ensures { λ r. ⌜ Pushed (packed (now (sets .entry))) top r (now (work .entry)) (now (work .exit)) ⌝ }
 {
     let mut node = NodeWriter { mask: 0, top };
-    let mut b: usize = 31;
-    while 0 < b {
-        b -= 1;
-        node = pushed(node, work, is_stored(sets, b), sets[b]);
+    let mut p: usize = 15;
+    while 0 < p {
+        p -= 1;
+        let own = sets[p];
+        let right = sets[2 * p + 2];
+        node = pushed(node, work, right != own, right);
+        let left = sets[2 * p + 1];
+        node = pushed(node, work, left != own, left);
     }
+    node = pushed(node, work, true, sets[0]);
     work[node.top - 1] = node.mask;
     node.top - 1
 }

@@ -12,6 +12,12 @@ Inv-loop covering hops fill other₀ p₀ other p = (p ≤ 31) × LeavesMarked c
 abbrev μ-loop : tie.MeasureT-loop
 μ-loop covering hops fill other₀ p₀ other p = 31 - p
 
+leaves-same-requires : tie.Need-leaves-same-requires Inv-loop μ-loop
+leaves-same-requires c κs = search needs
+
+returns : tie.Need-returns Inv-loop μ-loop
+returns c = c .before .leaves-same .ensures (c .if1 .taken)
+
 loop-holds : tie.Need-loop-holds Inv-loop μ-loop
 loop-holds c = (omega arith, leaves-start _ _ _)
 
@@ -46,8 +52,8 @@ loop-again c =
 push-l4-requires : tie.Need-push-l4-requires Inv-loop μ-loop
 push-l4-requires c κs = search needs
 
-returns : tie.Need-returns Inv-loop μ-loop
-returns c = leaves-end (c .before .before .loop .inv .1) (omega arith) (c .push-l4 .result) (c .push-l4 .ensures)
+returns-2 : tie.Need-returns-2 Inv-loop μ-loop
+returns-2 c = leaves-end (c .before .before .loop .inv .1) (omega arith) (c .push-l4 .result) (c .push-l4 .ensures)
 
 pub leaf-slots-spec : {M : Type 1} → statement M
 leaf-slots-spec =
@@ -55,6 +61,8 @@ leaf-slots-spec =
     (tie.spec
     Inv-loop
     μ-loop
+    leaves-same-requires
+    returns
     loop-holds
     element-copy-out-leaf-value
     leaf-value-requires
@@ -65,4 +73,4 @@ leaf-slots-spec =
     loop-less
     loop-again
     push-l4-requires
-    returns)
+    returns-2)

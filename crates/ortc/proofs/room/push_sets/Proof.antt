@@ -1,85 +1,125 @@
--- `ortc::room::push_sets` meets its contract. The loop's invariant: the words of the positions from b on are laid, and the writer's mask is theirs.
--- Assumes nothing.
+-- `ortc::room::push_sets` meets its contract. The loop's invariant: the words of the positions under p and after are laid, and the writer's mask
+-- is theirs. Assumes nothing.
 use Prim.Native.Nat.{_+_, _*_, _-_, _≤_}
-use mathlib.Core.Path.{_≡_, sym, _∙_}
+use mathlib.Core.Path.{refl}
 use native.Mathlib.Omega.{arith}
-use lib.ListN.{length, getD}
 use borrow.Author.Needs.{needs}
-use Rattle.nodes.specs.Room.{Pushed}
-use Rattle.nodes.proofs.RoomLaws.{pushed-none, pushed-then, pushed-word}
-use Rattle.ortc.specs.Packed.{stored, maskOf, wordsOf}
-use Rattle.ortc.proofs.PackedLaws.{mask-none, words-none, mask-more, words-more, mask-within, words-two}
+use Rattle.nodes.proofs.RoomLaws.{pushed-length}
+use Rattle.ortc.proofs.PackedLaws.{Laying, laying-start, laying-room, laying-may, laying-next, laying-under, laying-end}
 use Rattle.ortc.proofs.room.push_sets.Statement.{statement}
 use Rattle.ortc.proofs.room.push_sets.Tie as tie
 
 abbrev Inv-loop : tie.InvT-loop
-Inv-loop sets work₀ top node₀ b₀ work node b =
-    ((b ≤ 31) × ((node .top ≤ top) × ((top ≤ node .top + 2 * (31 - b)) × (length work ≡ length work₀))))
-    × ((node .mask ≡ maskOf sets (31 - b)) × Pushed (wordsOf sets (31 - b)) top (node .top) work₀ work)
+Inv-loop sets work₀ top node₀ p₀ work node p = (p ≤ 15) × Laying sets top work₀ (2 * p + 1) node work
 
 abbrev μ-loop : tie.MeasureT-loop
-μ-loop sets work₀ top node₀ b₀ work node b = b
+μ-loop sets work₀ top node₀ p₀ work node p = p
 
 loop-holds : tie.Need-loop-holds Inv-loop μ-loop
-loop-holds c = (omega arith, (sym (mask-none _), rw words-none (pushed-none _ _)))
+loop-holds c = (omega arith, laying-start _ _ _)
 
-sub-b : tie.Need-sub-b Inv-loop μ-loop
-sub-b c = search needs
+sub-p : tie.Need-sub-p Inv-loop μ-loop
+sub-p c = search needs
 
-is-stored-requires : tie.Need-is-stored-requires Inv-loop μ-loop
-is-stored-requires c κs = search needs
+mul-own : tie.Need-mul-own Inv-loop μ-loop
+mul-own c = search needs
 
-mul-pushed : tie.Need-mul-pushed Inv-loop μ-loop
-mul-pushed c = search needs
+element-copy-out-own : tie.Need-element-copy-out-own Inv-loop μ-loop
+element-copy-out-own c = search needs
 
-element-copy-out-pushed : tie.Need-element-copy-out-pushed Inv-loop μ-loop
-element-copy-out-pushed c = search needs
+mul-right : tie.Need-mul-right Inv-loop μ-loop
+mul-right c = search needs
+
+add-right : tie.Need-add-right Inv-loop μ-loop
+add-right c = search needs
+
+mul-right-2 : tie.Need-mul-right-2 Inv-loop μ-loop
+mul-right-2 c = search needs
+
+element-copy-out-right : tie.Need-element-copy-out-right Inv-loop μ-loop
+element-copy-out-right c = search needs
 
 pushed-requires : tie.Need-pushed-requires Inv-loop μ-loop
 pushed-requires c κs =
-    let l = c .before .before .before .before .loop in
-    let m = mask-within (c .before .before .before .before .before .before .args .sets .now) (31 - l .b) 30 (omega arith) in
-    record { bit = omega arith; two = λ s. omega arith; within = λ s. omega arith }
+    let pre = c .before .before .before .before .before .before .pre in
+    laying-may (c .before .before .before .before .loop .inv .1) (pre .1) (omega arith) (pre .0) _
+
+mul-left : tie.Need-mul-left Inv-loop μ-loop
+mul-left c = search needs
+
+add-left : tie.Need-add-left Inv-loop μ-loop
+add-left c = search needs
+
+mul-left-2 : tie.Need-mul-left-2 Inv-loop μ-loop
+mul-left-2 c = search needs
+
+element-copy-out-left : tie.Need-element-copy-out-left Inv-loop μ-loop
+element-copy-out-left c = search needs
+
+pushed-requires-2 : tie.Need-pushed-requires-2 Inv-loop μ-loop
+pushed-requires-2 c κs =
+    let a = c .before .before .before .before .before .before .before .before .before .before .before in
+    let l = c .before .before .before .before .before .before .before .before .before .loop in
+    let right = laying-under (l .inv .1) (a .pre .1) (2 * (l .p - 1) + 2) (l .p - 1) (omega arith) (omega arith) (omega arith) (omega arith)
+    (c .before .before .before .before .pushed .ensures) in
+    laying-may right (a .pre .1) (omega arith) (a .pre .0) _
 
 loop-less : tie.Need-loop-less Inv-loop μ-loop
 loop-less c = search needs
 
 loop-again : tie.Need-loop-again Inv-loop μ-loop
 loop-again c =
-    let xs = c .before .before .before .before .before .before .before .before .before .args .sets .now in
-    let l = c .before .before .before .before .before .before .before .loop in
-    let j = l .b - 1 in
-    let e = c .before .before .before .before .is-stored .ensures in
-    let p = rw e at (c .before .before .pushed .ensures) in
-    let t = words-two (stored xs j) (getD xs j 0) in
-    let m = mask-more xs j (31 - j) (31 - l .b) (omega arith) (omega arith) in
-    let w = words-more xs j (31 - j) (31 - l .b) (omega arith) (omega arith) in (
-      (omega arith, (omega arith, (omega arith, c .before .before .pushed .kept .1 .0 ∙ l .inv .0 .1 .1 .1))),
-      (p .marked ∙ rw (l .inv .1 .0, m), rw w (pushed-then (l .inv .1 .1) (p .laid) (omega arith))),
-    )
+    let a = c .before .before .before .before .before .before .before .before .before .before .before .before .before .before in
+    let l = c .before .before .before .before .before .before .before .before .before .before .before .before .loop in
+    let right = laying-under (l .inv .1) (a .pre .1) (2 * (l .p - 1) + 2) (l .p - 1) (omega arith) (omega arith) (omega arith) (omega arith)
+    (c .before .before .before .before .before .before .before .pushed .ensures) in
+    let left = laying-under right (a .pre .1) (2 * (l .p - 1) + 1) (l .p - 1) (omega arith) (omega arith) (omega arith) (omega arith)
+    (c .before .before .pushed2 .ensures) in
+    (omega arith, left)
+
+element-copy-out-pushed : tie.Need-element-copy-out-pushed Inv-loop μ-loop
+element-copy-out-pushed c = search needs
+
+pushed-requires-3 : tie.Need-pushed-requires-3 Inv-loop μ-loop
+pushed-requires-3 c κs =
+    let pre = c .before .before .before .before .before .pre in
+    laying-may (c .before .before .before .loop .inv .1) (pre .1) (omega arith) (pre .0) _
 
 sub-work : tie.Need-sub-work Inv-loop μ-loop
-sub-work c = search needs
+sub-work c =
+    let r = laying-room (c .before .before .before .before .before .before .before .loop .inv .1) (c .before .before .before .before .before .before .before .before .before .pre .1) in
+    let e = c .before .before .before .pushed3 .ensures .laid .ends in
+    omega arith
 
 mul-work : tie.Need-mul-work Inv-loop μ-loop
 mul-work c = search needs
 
 slice-write-work : tie.Need-slice-write-work Inv-loop μ-loop
-slice-write-work c = search needs
+slice-write-work c =
+    let r = laying-room (c .before .before .before .before .before .before .before .loop .inv .1) (c .before .before .before .before .before .before .before .before .before .pre .1) in
+    let e = c .before .before .before .pushed3 .ensures .laid .ends in
+    omega arith
 
 sub-result : tie.Need-sub-result Inv-loop μ-loop
-sub-result c = search needs
+sub-result c =
+    let r = laying-room (c .before .before .before .before .before .before .before .before .loop .inv .1) (c .before .before .before .before .before .before .before .before .before .before .pre .1) in
+    let e = c .before .before .before .before .pushed3 .ensures .laid .ends in
+    omega arith
 
 same-length : tie.Need-same-length Inv-loop μ-loop
-same-length c = search needs
+same-length c =
+    let a = c .before .before .before .before .before .before .before .before .before .before in
+    let l = c .before .before .before .before .before .before .before .before .loop in
+    let p = laying-next (l .inv .1) (a .pre .1) 0 (omega arith) (omega arith) refl (c .before .before .before .before .pushed3 .ensures) in
+    pushed-length (laying-end p (a .pre .0) (a .pre .1)) (a .pre .1)
 
 returns : tie.Need-returns Inv-loop μ-loop
 returns c =
-    let l = c .before .before .before .loop in
-    let z : 31 - l .b ≡ 31 = omega arith in (
-      omega arith,
-      rw (← rw z at (l .inv .1 .0)) (pushed-then (rw z at (l .inv .1 .1)) (pushed-word (l .node .mask) (l .node .top) (l .work) (omega arith) (omega arith)) (omega arith)),
-    )
+    let a = c .before .before .before .before .before .before .before .before .before .before in
+    let l = c .before .before .before .before .before .before .before .before .loop in
+    let p = laying-next (l .inv .1) (a .pre .1) 0 (omega arith) (omega arith) refl (c .before .before .before .before .pushed3 .ensures) in
+    let r = laying-room p (a .pre .1) in
+    (omega arith, laying-end p (a .pre .0) (a .pre .1))
 
 pub push-sets-spec : {M : Type 1} → statement M
 push-sets-spec =
@@ -88,13 +128,23 @@ push-sets-spec =
     Inv-loop
     μ-loop
     loop-holds
-    sub-b
-    is-stored-requires
-    mul-pushed
-    element-copy-out-pushed
+    sub-p
+    mul-own
+    element-copy-out-own
+    mul-right
+    add-right
+    mul-right-2
+    element-copy-out-right
     pushed-requires
+    mul-left
+    add-left
+    mul-left-2
+    element-copy-out-left
+    pushed-requires-2
     loop-less
     loop-again
+    element-copy-out-pushed
+    pushed-requires-3
     sub-work
     mul-work
     slice-write-work

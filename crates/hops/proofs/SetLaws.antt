@@ -6,7 +6,7 @@ use mathlib.Core.List.{List, [], _∷_}
 use mathlib.Core.Logic.{_↔_, ⊎-elim}
 use native.Mathlib.Nat.{mod-lt}
 use native.Mathlib.Omega.{arith}
-use lib.Bits.{bitAnd, bitOr, and-lt, or-lt}
+use lib.Bits.{bitAnd, bitOr, and-self, and-lt, or-lt}
 use lib.Count.{trailingZeros}
 use lib.Dec.{eqb}
 use lib.Pow.{pow-pos}
@@ -166,6 +166,16 @@ shows-combine x y (of s) (of t) p q =
     meet : (c : List ℕ) → common s t ≡ c → (bitAnd x y ≡ 0 → ⊥) → ShowsSet (bitAnd x y) (combine (of s) (of t))
     meet [] e m = absurd (m (zero-shows-none (bitAnd x y) (common s t) both .1 e))
     meet (h ∷ c) e m = rw e (rw e at both, tt)
+
+-- Where both halves are shown by one word, it shows what they come to together.
+pub same-halves : (x : ℕ) (S R : Cand) → ShowsSet x S → ShowsSet x R → ShowsSet x (combine S R)
+unfolding combineWords
+same-halves x S R p q = subst (λ (y : ℕ). ShowsSet y (combine S R)) same (shows-combine x x S R p q)
+  where
+    same : combineWords x x ≡ x
+    same =
+        if-eq (λ t. cond t 0 (cond t 0 (cond (eqb (bitAnd x x) 0) (bitOr x x) (bitAnd x x))) ≡ x) x 0
+        (λ e. sym e) (λ e. rw (and-self x, ne-eqb x 0 e))
 
 -- Every position's candidates are shown by a word, where its hops are below 64.
 pub sets-shown : (f : ℕ → Answer) (n a : ℕ) → ((x : ℕ) → In n a x → (h : ℕ) → f x ≡ via h → h < 64) → (x : ℕ) × ShowsSet x (sets f n a)

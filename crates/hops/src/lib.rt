@@ -19,6 +19,9 @@ pub fn one(h: u8) -> u64
 pub fn combine(left: u64, right: u64) -> u64
     ensures { λ r. ⌜ ((S R : Cand) → ShowsSet left S → ShowsSet right R → ShowsSet r (Rattle.theory.specs.Results.combine S R)) ⌝ }
 {
+    if left == right {
+        return left;
+    }
     if left == 0 {
         return 0;
     }

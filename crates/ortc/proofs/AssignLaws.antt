@@ -8,7 +8,6 @@ use mathlib.Core.Logic.{_⊎_, inl, inr}
 use native.Mathlib.Nat.{pow-suc, eq-or-lt-of-le, add-zero}
 use native.Mathlib.Omega.{arith}
 use lib.Dec.{eqb, ltb}
-use lib.Bits.{bitAnd, bitOr, and-self}
 use lib.ListN.{length, getD, set, replicate, length-set, getD-replicate}
 use lib.Seq.{getD-set-same, getD-set-other, set-getD}
 use lib.Pow.{pow-pos, pow-mono}
@@ -27,7 +26,7 @@ use Rattle.positions.specs.Walk.{stateOf, stateAt}
 use Rattle.positions.specs.Walks.{ortcOut, ortcNext}
 use Rattle.positions.proofs.RunsNode.{size-halves, size-slot, place-left, place-right}
 use Rattle.hops.specs.Sets.{ShowsSet}
-use Rattle.hops.proofs.SetLaws.{same-word-same-set, shows-one, combineWords, shows-combine}
+use Rattle.hops.proofs.SetLaws.{same-word-same-set, shows-one}
 use Rattle.nodes.specs.Node.{wide, slotSize}
 use Rattle.nodes.specs.Gathered.{overAt}
 use Rattle.nodes.specs.Output.{entryAt}
@@ -46,16 +45,6 @@ setAt f m a l j = sets f (sizeAt m l) (placeAt m a l j)
 pub halves-sets : (f : ℕ → Answer) (m a l j : ℕ) → l < 5 → setAt f m a l j ≡ combine (setAt f m a (suc l) (2 * j)) (setAt f m a (suc l) (2 * j + 1))
 unfolding sets
 halves-sets f m a l j lt = rw (place-left m a l j lt, place-right m a l j lt, size-halves m l lt)
-
--- Where both halves are shown by one word, it shows the position's too.
-pub same-halves : (x : ℕ) (S R : Cand) → ShowsSet x S → ShowsSet x R → ShowsSet x (combine S R)
-unfolding combineWords
-same-halves x S R p q = subst (λ (y : ℕ). ShowsSet y (combine S R)) same (shows-combine x x S R p q)
-  where
-    same : combineWords x x ≡ x
-    same =
-        if-eq (λ t. cond t 0 (cond t 0 (cond (eqb (bitAnd x x) 0) (bitOr x x) (bitAnd x x))) ≡ x) x 0
-        (λ e. sym e) (λ e. rw (and-self x, ne-eqb x 0 e))
 
 -- The words of the slots xs₀ show the candidates of the slots of the node (m + 5, a).
 abbrev pub ShowsSlots : (ℕ → Answer) → ℕ → ℕ → List ℕ → Type 0

@@ -17,7 +17,7 @@ ghost use Prim.Native.Nat.{ℕ, _+_, _/_, _%_, _^_, _≤_, _<_};
 ghost use lib.Dec.{eqb, ltb};
 ghost use lib.ListN.{length, getD};
 ghost use Rattle.theory.specs.Routes.{Answer};
-ghost use Rattle.theory.specs.Results.{Cand, leaf, sets};
+ghost use Rattle.theory.specs.Results.{leaf, sets};
 ghost use Rattle.words.specs.Bits.{bit};
 ghost use Rattle.words.specs.Positions.{position};
 ghost use Rattle.positions.specs.Runs.{hopOf, orElse, placeAt};
@@ -45,16 +45,6 @@ pub fn leaf_sets(covering: &[u8; 31], fill: u8) -> [u64; 63]
     slots
 }
 
-// The candidates of a position from those of its halves, which are its own where both have the same.
-fn combine_halves(left: u64, right: u64) -> u64
-    ensures { λ r. ⌜ ((S R : Cand) → ShowsSet left S → ShowsSet right R → ShowsSet r (Rattle.theory.specs.Results.combine S R)) ⌝ }
-{
-    if left == right {
-        return left;
-    }
-    combine(left, right)
-}
-
 // Combines the sets of a node's slots upward into those of its positions.
 pub fn fold_sets(slots: &mut [u64; 63])
     ensures { λ _. ⌜ length (now (slots .exit)) ≡ length (now (slots .entry)) ⌝ }
@@ -63,7 +53,7 @@ pub fn fold_sets(slots: &mut [u64; 63])
     let mut b: usize = 31;
     while 0 < b {
         b -= 1;
-        slots[b] = combine_halves(slots[2 * b + 1], slots[2 * b + 2]);
+        slots[b] = combine(slots[2 * b + 1], slots[2 * b + 2]);
     }
 }
 

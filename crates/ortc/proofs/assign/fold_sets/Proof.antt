@@ -20,32 +20,32 @@ loop-holds c = (omega arith, folded-none _)
 sub-b : tie.Need-sub-b Inv-loop μ-loop
 sub-b c = search needs
 
-mul-combine-halves : tie.Need-mul-combine-halves Inv-loop μ-loop
-mul-combine-halves c = search needs
+mul-combine : tie.Need-mul-combine Inv-loop μ-loop
+mul-combine c = search needs
 
-add-combine-halves : tie.Need-add-combine-halves Inv-loop μ-loop
-add-combine-halves c = search needs
+add-combine : tie.Need-add-combine Inv-loop μ-loop
+add-combine c = search needs
 
-mul-combine-halves-2 : tie.Need-mul-combine-halves-2 Inv-loop μ-loop
-mul-combine-halves-2 c = search needs
+mul-combine-2 : tie.Need-mul-combine-2 Inv-loop μ-loop
+mul-combine-2 c = search needs
 
-element-copy-out-combine-halves : tie.Need-element-copy-out-combine-halves Inv-loop μ-loop
-element-copy-out-combine-halves c = search needs
+element-copy-out-combine : tie.Need-element-copy-out-combine Inv-loop μ-loop
+element-copy-out-combine c = search needs
 
-mul-combine-halves-3 : tie.Need-mul-combine-halves-3 Inv-loop μ-loop
-mul-combine-halves-3 c = search needs
+mul-combine-3 : tie.Need-mul-combine-3 Inv-loop μ-loop
+mul-combine-3 c = search needs
 
-add-combine-halves-2 : tie.Need-add-combine-halves-2 Inv-loop μ-loop
-add-combine-halves-2 c = search needs
+add-combine-2 : tie.Need-add-combine-2 Inv-loop μ-loop
+add-combine-2 c = search needs
 
-mul-combine-halves-4 : tie.Need-mul-combine-halves-4 Inv-loop μ-loop
-mul-combine-halves-4 c = search needs
+mul-combine-4 : tie.Need-mul-combine-4 Inv-loop μ-loop
+mul-combine-4 c = search needs
 
-element-copy-out-combine-halves-2 : tie.Need-element-copy-out-combine-halves-2 Inv-loop μ-loop
-element-copy-out-combine-halves-2 c = search needs
+element-copy-out-combine-2 : tie.Need-element-copy-out-combine-2 Inv-loop μ-loop
+element-copy-out-combine-2 c = search needs
 
-combine-halves-requires : tie.Need-combine-halves-requires Inv-loop μ-loop
-combine-halves-requires c κs = search needs
+combine-requires : tie.Need-combine-requires Inv-loop μ-loop
+combine-requires c κs = search needs
 
 mul-slots : tie.Need-mul-slots Inv-loop μ-loop
 mul-slots c = search needs
@@ -60,7 +60,7 @@ loop-again : tie.Need-loop-again Inv-loop μ-loop
 loop-again c =
     let l = c .before .before .before .before .loop in
     let e : l .b ≡ suc (l .b - 1) = omega arith in
-    (omega arith, folded-next (rw e at (l .inv .1)) (omega arith) (c .combine-halves .result) (c .combine-halves .ensures))
+    (omega arith, folded-next (rw e at (l .inv .1)) (omega arith) (c .combine .result) (c .combine .ensures))
 
 returns : tie.Need-returns Inv-loop μ-loop
 returns c =
@@ -75,15 +75,15 @@ fold-sets-spec =
     μ-loop
     loop-holds
     sub-b
-    mul-combine-halves
-    add-combine-halves
-    mul-combine-halves-2
-    element-copy-out-combine-halves
-    mul-combine-halves-3
-    add-combine-halves-2
-    mul-combine-halves-4
-    element-copy-out-combine-halves-2
-    combine-halves-requires
+    mul-combine
+    add-combine
+    mul-combine-2
+    element-copy-out-combine
+    mul-combine-3
+    add-combine-2
+    mul-combine-4
+    element-copy-out-combine-2
+    combine-requires
     mul-slots
     element-write-slots
     loop-less

@@ -1,32 +1,36 @@
--- What the members of a node cover: the positions that a word of the code says are covered, slot by slot and from the slots up, and the cover of
--- a prefix that lies in the node.
+-- What the members of a node cover: the positions that a word of the code says are covered, slot by slot and from the slots up, the cover of a
+-- prefix that lies in the node, and that of a position by the slots below it.
 use Prim.Native.Nat.{ℕ, zero, suc, _+_, _-_, _*_, _/_, _^_, _≤_, _<_}
 use mathlib.Core.Path.{_≡_, refl, sym, ap, ap₂, subst, _∙_}
-use mathlib.Core.Bool.{Bool, true, false, _&&_, _||_, and-false, or-false}
+use mathlib.Core.Bool.{Bool, true, false, true≢false, not, _&&_, _||_, and-false, or-true, or-false}
 use mathlib.Core.List.{List, []}
 use mathlib.Core.Logic.{_⊎_, inl, inr}
 use native.Mathlib.Nat.{pow-suc, eq-or-lt-of-le}
+use native.Mathlib.Numerals.{add-one}
 use native.Mathlib.Omega.{arith}
+use lib.Bits.{bitAnd, bitOr}
 use lib.Dec.{eqb, ltb, leb}
 use lib.ListN.{getD}
-use borrow.Author.Tests.{lt-ltb, le-ltb, le-leb, lt-leb}
+use lib.Pow.{shr-shr}
+use borrow.Author.Tests.{lt-ltb, le-ltb, le-leb, lt-leb, eq-eqb}
 use Rattle.theory.specs.Results.{In, throughout}
 use Rattle.theory.specs.Routes.{Route, held, Aligned}
 use Rattle.theory.proofs.Blocks.{pow-pos}
 use Rattle.theory.specs.Shapes.{Within, routed}
-use Rattle.words.specs.Bits.{bit}
-use Rattle.words.specs.Coverage.{WhollyCovered}
+use Rattle.words.specs.Bits.{bit, NextBit}
+use Rattle.words.specs.Coverage.{UnderMembers, WhollyCovered}
 use Rattle.words.specs.Positions.{position, member, whole}
-use Rattle.words.proofs.BitLaws.{if-lt, if-le, if-eq, bit-zero}
+use Rattle.words.proofs.BitLaws.{if-lt, if-le, if-eq, bit-zero, bit-and, bit-or}
 use Rattle.words.proofs.PositionLaws.{in-word, Place, above}
 use Rattle.positions.specs.Runs.{inside, sizeAt, placeAt, memberOver}
 use Rattle.positions.proofs.Runs.{Nested, nested-start, throughout-under}
-use Rattle.positions.proofs.RunsNode.{size-slot, above-lt, ownAt, slot-run, level-zero, level-held, level-covered, halves-covered}
+use Rattle.positions.proofs.RunsNode.{size-slot, above-lt, ownAt, slot-run, level-held, level-covered, halves-covered}
 use Rattle.nodes.specs.Node.{wide, run, slotSize, Node}
-use Rattle.nodes.specs.Gathered.{some, runAt, levelOf, Gathered}
-use Rattle.nodes.proofs.GatherLaws.{node-run, slot-records, no-child, member-is, child-node}
+use Rattle.nodes.specs.Gathered.{some, runAt, levelOf, Gathered, Occupied}
+use Rattle.nodes.proofs.GatherLaws.{node-run, slot-records, no-child, member-is, slot-vacant, slot-occupied, child-node}
 use Rattle.nodes.proofs.GatherPlaces.{in-heap, same-position, level-slot, place-in, place-at}
 use Rattle.nodes.proofs.GatherRuns.{some-run}
+use Rattle.nodes.proofs.MemberLaws.{slot-is}
 use Rattle.cover.specs.Coverage.{coveredIn, recordOver}
 
 -- ---- Positions covered by the routes inside them.
@@ -43,27 +47,18 @@ pub slot-covered : (m a : ℕ) (t : List Route) (c : ℕ)
 slot-covered m a t c =
     ap (λ (n : ℕ). throughout (held wide (inside wide n (placeAt m a 5 c) t)) n (placeAt m a 5 c)) (size-slot m)
 
--- The top position of a node is covered when the node's routes cover all of the node.
-pub node-covered : {t : List ℕ} {lo hi depth key : ℕ} → Node t lo hi depth key
-    → coveredIn (slotSize depth) key (run t lo hi) 0 0 ≡ throughout (held wide (run t lo hi)) (wide - depth) key
-node-covered {t} {lo} {hi} {depth} {key} n =
-    let deep = n .deep in
-    let size : sizeAt (slotSize depth) 0 ≡ wide - depth = omega arith in
-    let place : placeAt (slotSize depth) key 0 0 ≡ key = omega arith in
-    ap (λ (u : List Route). throughout (held wide u) (sizeAt (slotSize depth) 0) (placeAt (slotSize depth) key 0 0))
-    (level-zero wide (slotSize depth) key (node-run n) 0 (omega arith))
-    ∙ ap₂ (throughout (held wide (run t lo hi))) size place
-
 module _ {t : List ℕ} {lo hi depth key : ℕ} {first end : List ℕ} {present : ℕ} (n : Node t lo hi depth key)
     (g : Gathered t lo hi depth key first end present) where
-  -- A slot with records is covered when the top position of its node is,
+  -- A slot with records is covered from inside when the records of its node cover the node's top position,
   pub child-covered : (c : ℕ) → c < 32 → getD first (31 + c) 0 < getD end (31 + c) 0
-      → coveredIn (slotSize (depth + 5)) (placeAt (slotSize depth) key 5 c) (runAt t first end (31 + c)) 0 0
+      → throughout (held wide (runAt t first end (31 + c))) (sizeAt (slotSize (depth + 5)) 0) (placeAt (slotSize (depth + 5)) (placeAt (slotSize depth) key 5 c) 0 0)
       ≡ coveredIn (slotSize depth) key (run t lo hi) 5 c
   child-covered c lt has =
-      let size : wide - (depth + 5) ≡ slotSize depth = omega (arith, n .deep) in
-      node-covered (child-node n g c lt has)
-      ∙ ap₂ (λ (u : List Route) (k : ℕ). throughout (held wide u) k (placeAt (slotSize depth) key 5 c)) (slot-records g c lt) size
+      let place = placeAt (slotSize depth) key 5 c in
+      let size : sizeAt (slotSize (depth + 5)) 0 ≡ slotSize depth = omega (arith, child-node n g c lt has .deep) in
+      let top : placeAt (slotSize (depth + 5)) place 0 0 ≡ place = omega arith in
+      ap₂ (throughout (held wide (runAt t first end (31 + c)))) size top
+      ∙ ap (λ (u : List Route). throughout (held wide u) (slotSize depth) place) (slot-records g c lt)
       ∙ sym (slot-covered (slotSize depth) key (run t lo hi) c)
 
   -- and one without is not.
@@ -126,6 +121,17 @@ module _ {p passed : ℕ → Bool} {covered : ℕ} (slots : SlotsCovered p passe
           ∙ if-eq (λ (b : Bool). (passed i && p i) ≡ ((b || passed i) && p i)) i c (λ q. rw (q, e) (and-false (passed c))) (λ q. refl)
           ∙ sym (ap (λ (b : Bool). b && p i) (more i lt))
 
+-- So are all from a to r, if it holds of none of them.
+pub slots-past : {p : ℕ → Bool} {covered : ℕ} (a r : ℕ) → SlotsCovered p (λ i. ltb i a) covered → a ≤ r → ((i : ℕ) → a ≤ i → i < r → p i ≡ false)
+    → SlotsCovered p (λ i. ltb i r) covered
+slots-past {p} {covered} a r slots le none = record { each = each }
+  where
+    each : (i : ℕ) → i < 32 → bit covered i ≡ (ltb i r && p i)
+    each i lt =
+        slots .each i lt
+        ∙ if-lt (λ (b : Bool). (b && p i) ≡ (ltb i r && p i)) i a (λ l. sym (ap (λ (b : Bool). b && p i) (lt-ltb i r (omega arith))))
+        (λ ge. if-lt (λ (b : Bool). false ≡ (b && p i)) i r (λ l. sym (none i ge l)) (λ l. refl))
+
 -- At last all are.
 pub slots-all : {p passed : ℕ → Bool} {covered : ℕ} → SlotsCovered p passed covered → ((i : ℕ) → i < 32 → passed i ≡ true)
     → (c : ℕ) → c < 32 → bit covered c ≡ p c
@@ -183,36 +189,36 @@ climb-top {first} {end} {l} {j} c =
 -- ---- From the slots up.
 
 -- Where p holds of a position with a route of its own, and of one of which it holds half by half, and of no others, the fold of the members
--- finds the positions of which it holds, with the slots at hand.
+-- finds whether it holds of a position, with the slots below the position at hand.
 module _ {t : List ℕ} {lo hi depth key : ℕ} {first end : List ℕ} {present : ℕ} (g : Gathered t lo hi depth key first end present) (p : ℕ → ℕ → Bool)
     (halves : (l j : ℕ) → l < 5 → j < 2 ^ l
-    → p l j ≡ (routed (ownAt wide (slotSize depth) key (run t lo hi) l j) || (p (suc l) (2 * j) && p (suc l) (2 * j + 1)))) (covered : ℕ)
-    (slots : (c : ℕ) → c < 32 → bit covered c ≡ p 5 c) where
-  -- By the levels from the slots up,
-  whole-is : (k l j : ℕ) → k + l ≡ 5 → j < 2 ^ l → whole present covered k j ≡ p l j
+    → p l j ≡ (routed (ownAt wide (slotSize depth) key (run t lo hi) l j) || (p (suc l) (2 * j) && p (suc l) (2 * j + 1)))) (covered : ℕ) where
+  -- By the levels from the slots up, with the slots below the position alone,
+  whole-is : (k l j : ℕ) → k + l ≡ 5 → j < 2 ^ l → ((c : ℕ) → c < 32 → c / 2 ^ k ≡ j → bit covered c ≡ p 5 c) → whole present covered k j ≡ p l j
   unfolding whole
-  whole-is zero l j e lt =
+  whole-is zero l j e lt slots =
       let five : 5 ≡ l = omega arith in
-      subst (λ (i : ℕ). j < 2 ^ i → bit covered j ≡ p i j) five (slots j) lt
-  whole-is (suc k) l j e lt =
+      subst (λ (i : ℕ). j < 2 ^ i → bit covered j ≡ p i j) five (λ small. slots j small (omega arith)) lt
+  whole-is (suc k) l j e lt slots =
       let at : 4 - k ≡ l = omega arith in
+      let up : (c : ℕ) → c / 2 ^ suc k ≡ c / 2 ^ k / 2 = λ c. ap (λ (i : ℕ). c / 2 ^ i) (sym (add-one k)) ∙ sym (shr-shr c k 1) in
       ap₂ _||_ (ap (λ (i : ℕ). member present i j) at ∙ member-is g l j (omega arith) lt)
-      (ap₂ _&&_ (whole-is k (suc l) (2 * j) (omega arith) (omega (arith, pow-suc 2 l)))
-      (whole-is k (suc l) (2 * j + 1) (omega arith) (omega (arith, pow-suc 2 l))))
+      (ap₂ _&&_ (whole-is k (suc l) (2 * j) (omega arith) (omega (arith, pow-suc 2 l)) (λ c small z. slots c small (omega (arith, up c))))
+      (whole-is k (suc l) (2 * j + 1) (omega arith) (omega (arith, pow-suc 2 l)) (λ c small z. slots c small (omega (arith, up c)))))
       ∙ sym (halves l j (omega arith) lt)
 
-  -- and in the word that the fold gives.
-  pub folded-is : (r : ℕ) → WhollyCovered present covered r → (l j : ℕ) → l ≤ 4 → j < 2 ^ l → bit r (position l j) ≡ p l j
-  folded-is r w l j le lt = w .inside l j le lt ∙ whole-is (5 - l) l j (omega arith) lt
+  -- and in the word that the fold gives,
+  pub folded-below : (r : ℕ) → WhollyCovered present covered r → (l j : ℕ) → l ≤ 4 → j < 2 ^ l
+      → ((c : ℕ) → c < 32 → c / 2 ^ (5 - l) ≡ j → bit covered c ≡ p 5 c) → bit r (position l j) ≡ p l j
+  folded-below r w l j le lt slots = w .inside l j le lt ∙ whole-is (5 - l) l j (omega arith) lt slots
+
+  -- and with all slots at hand at every position.
+  pub folded-is : ((c : ℕ) → c < 32 → bit covered c ≡ p 5 c) → (r : ℕ) → WhollyCovered present covered r → (l j : ℕ) → l ≤ 4 → j < 2 ^ l
+      → bit r (position l j) ≡ p l j
+  folded-is slots r w l j le lt = folded-below r w l j le lt (λ c small e. slots c small)
 
 module _ {t : List ℕ} {lo hi depth key : ℕ} {first end : List ℕ} {present : ℕ} (n : Node t lo hi depth key)
     (g : Gathered t lo hi depth key first end present) where
-  -- So it finds the positions that the routes inside them cover.
-  pub folded-covered : (covered r : ℕ) → ((c : ℕ) → c < 32 → bit covered c ≡ coveredIn (slotSize depth) key (run t lo hi) 5 c)
-      → WhollyCovered present covered r → (l j : ℕ) → l ≤ 4 → j < 2 ^ l → bit r (position l j) ≡ coveredIn (slotSize depth) key (run t lo hi) l j
-  folded-covered covered r slots w =
-      folded-is g (coveredIn (slotSize depth) key (run t lo hi)) (λ l j lt small. halves-covered wide (slotSize depth) key (node-run n) l j lt) covered slots r w
-
   -- ---- Records at a position and above it.
 
   -- A position has a record exactly when it has a hop of its own.
@@ -261,6 +267,49 @@ module _ {t : List ℕ} {lo hi depth key : ℕ} {first end : List ℕ} {present 
       either true false h = refl
       either false b h = refl
 
+  -- A record at it or above it covers it.
+  pub record-covers : (l j : ℕ) → l ≤ 4 → j < 2 ^ l → true ≡ recordOver first end l j
+      → true ≡ throughout (held wide (run t lo hi)) (sizeAt (slotSize depth) l) (placeAt (slotSize depth) key l j)
+  record-covers l j le lt e =
+      ap (λ (b : Bool). b || coveredIn (slotSize depth) key (run t lo hi) l j) e ∙ position-query l j le lt
+
+  -- They cover it by a route of its own, or half by half.
+  pub position-halves : (l j : ℕ) → l < 5 → j < 2 ^ l
+      → throughout (held wide (run t lo hi)) (sizeAt (slotSize depth) l) (placeAt (slotSize depth) key l j)
+      ≡ (routed (ownAt wide (slotSize depth) key (run t lo hi) l j)
+      || (throughout (held wide (run t lo hi)) (sizeAt (slotSize depth) (suc l)) (placeAt (slotSize depth) key (suc l) (2 * j))
+      && throughout (held wide (run t lo hi)) (sizeAt (slotSize depth) (suc l)) (placeAt (slotSize depth) key (suc l) (2 * j + 1))))
+  unfolding memberOver
+  position-halves l j lt small =
+      position-covered l j (omega arith) small
+      ∙ ap (λ (b : Bool). over || b) (halves-covered wide (slotSize depth) key (node-run n) l j lt)
+      ∙ spread own over _ _
+      ∙ sym (ap₂ (λ (x y : Bool). own || (x && y)) (half (2 * j) (omega arith) (omega (arith, pow-suc 2 l))) (half (2 * j + 1) (omega arith) (omega (arith, pow-suc 2 l))))
+    where
+      own : Bool
+      own = routed (ownAt wide (slotSize depth) key (run t lo hi) l j)
+
+      over : Bool
+      over = memberOver wide (slotSize depth) key (run t lo hi) l j
+
+      half : (i : ℕ) → i / 2 ≡ j → i < 2 ^ suc l
+          → throughout (held wide (run t lo hi)) (sizeAt (slotSize depth) (suc l)) (placeAt (slotSize depth) key (suc l) i)
+          ≡ ((own || over) || coveredIn (slotSize depth) key (run t lo hi) (suc l) i)
+      half i e fits =
+          position-covered (suc l) i (omega arith) fits
+          ∙ ap (λ (k : ℕ). (routed (ownAt wide (slotSize depth) key (run t lo hi) l k) || memberOver wide (slotSize depth) key (run t lo hi) l k)
+          || coveredIn (slotSize depth) key (run t lo hi) (suc l) i) e
+
+      spread : (o b x y : Bool) → (b || (o || (x && y))) ≡ (o || (((o || b) || x) && ((o || b) || y)))
+      spread true b x y = or-true b
+      spread false true x y = refl
+      spread false false x y = refl
+
+  -- So a marked position is covered.
+  pub member-covers : (l j : ℕ) → l ≤ 4 → j < 2 ^ l → bit present (position l j) ≡ true
+      → true ≡ throughout (held wide (run t lo hi)) (sizeAt (slotSize depth) l) (placeAt (slotSize depth) key l j)
+  member-covers l j le lt e = sym (position-halves l j (omega arith) lt ∙ rw (sym (member-is g l j le lt) ∙ e))
+
   -- An address of a slot is held by a route above the slot or by the slot's.
   slot-held : (c x : ℕ) → c < 32 → In (slotSize depth) (placeAt (slotSize depth) key 5 c) x
       → held wide (run t lo hi) x
@@ -296,13 +345,14 @@ module _ {t : List ℕ} {lo hi depth key : ℕ} {first end : List ℕ} {present 
         record { low = i .from; high = i .upto; deep = omega arith; short = omega arith; aligned = aligned }
 
     -- Above the slots it is a position.
-    pub query-position : (l j : ℕ) → l ≤ 4 → j < 2 ^ l → levelOf len depth ≡ l → (query - key) / 2 ^ sizeAt (slotSize depth) l ≡ j
-        → (recordOver first end l j || coveredIn (slotSize depth) key (run t lo hi) l j) ≡ throughout (held wide (run t lo hi)) (wide - len) query
-    query-position l j le lt e q =
+    pub query-position : (l j : ℕ) → l ≤ 4 → levelOf len depth ≡ l → (query - key) / 2 ^ sizeAt (slotSize depth) l ≡ j
+        → throughout (held wide (run t lo hi)) (sizeAt (slotSize depth) l) (placeAt (slotSize depth) key l j)
+        ≡ throughout (held wide (run t lo hi)) (wide - len) query
+    query-position l j le e q =
         let z = place-at depth key (n .deep) (n .aligned) asked asked-within l j (omega arith) e q in
         let deep = n .deep in
         let size : sizeAt (slotSize depth) l ≡ wide - len = omega (arith, z .0) in
-        position-query l j le lt ∙ ap₂ (throughout (held wide (run t lo hi))) size (sym (z .1))
+        ap₂ (throughout (held wide (run t lo hi))) size (sym (z .1))
 
     -- Else it lies in a slot, and is no shorter than the slot.
     pub query-nested : (c : ℕ) → levelOf len depth ≡ 5 → (query - key) / 2 ^ sizeAt (slotSize depth) 5 ≡ c
@@ -334,22 +384,23 @@ module _ {t : List ℕ} {lo hi depth key query len : ℕ} {first end : List ℕ}
   pub place-lt : b < 63
   place-lt = rw (s .placed) (in-heap level ((query - key) / 2 ^ sizeAt (slotSize depth) level) (s .leveled .1) (s .few))
 
-  -- A place before 31 is a position,
-  pub place-position : b < 31 → level ≤ 4
-  place-position h = go (eq-or-lt-of-le (s .leveled .1))
+  -- A place before 31 is a position, and what is found of the position is found of the prefix.
+  pub position-answer : (r : Bool) → b < 31
+      → ((l j : ℕ) → l ≤ 4 → j < 2 ^ l → b ≡ position l j → r ≡ throughout (held wide (run t lo hi)) (sizeAt (slotSize depth) l) (placeAt (slotSize depth) key l j))
+      → r ≡ throughout (held wide (run t lo hi)) (wide - len) query
+  position-answer r h found =
+      found level index le (s .few) (s .placed)
+      ∙ query-position (s .node) (s .gathered) query len (s .lens) (s .aligned) (s .lies) level index le (sym (s .leveled .0)) refl
     where
+      index : ℕ
+      index = (query - key) / 2 ^ sizeAt (slotSize depth) level
+
       go : (level ≡ 5) ⊎ (level < 5) → level ≤ 4
       go (inl five) = absurd (omega (arith, s .placed, ap (λ (l : ℕ). 2 ^ l) five))
       go (inr lt) = omega arith
 
-  -- and is covered by a record at it or above it, or else from inside.
-  pub position-answer : (over : Bool) → b < 31 → ((l j : ℕ) → l ≤ 4 → j < 2 ^ l → b ≡ position l j → over ≡ recordOver first end l j)
-      → (over || coveredIn (slotSize depth) key (run t lo hi) level ((query - key) / 2 ^ sizeAt (slotSize depth) level))
-      ≡ throughout (held wide (run t lo hi)) (wide - len) query
-  position-answer over h found =
-      let index = (query - key) / 2 ^ sizeAt (slotSize depth) level in
-      ap (λ (o : Bool). o || coveredIn (slotSize depth) key (run t lo hi) level index) (found level index (place-position h) (s .few) (s .placed))
-      ∙ query-position (s .node) (s .gathered) query len (s .lens) (s .aligned) (s .lies) level index (place-position h) (s .few) (sym (s .leveled .0)) refl
+      le : level ≤ 4
+      le = go (eq-or-lt-of-le (s .leveled .1))
 
   -- A place from 31 on is a slot,
   pub place-slot : 31 ≤ b → (level ≡ 5) × (b - 31 ≡ (query - key) / 2 ^ sizeAt (slotSize depth) 5) × (b - 31 < 32)
@@ -396,3 +447,101 @@ module _ {t : List ℕ} {lo hi depth key query len : ℕ} {first end : List ℕ}
         level-slot len depth (sym (s .leveled .0) ∙ place-slot h .0),
         (i .from, rw size (omega (arith, i .upto, pow-pos (wide - len)))),
       )
+
+-- ---- The slots below a position of a node, asked one by one.
+
+-- The words with which a node is asked for its position b: the slots below a member, and those to be asked, which have a record, and are below b and
+-- below no member.
+pub record Asking (t : List ℕ) (lo hi depth key b : ℕ) (first end : List ℕ) (present under walked : ℕ) : Type 0 where
+  pub node : Node t lo hi depth key
+  pub gathered : Gathered t lo hi depth key first end present
+  pub occupied : ℕ
+  pub filled : Occupied t lo hi depth key occupied
+  pub below : ℕ
+  pub beneath : (l j : ℕ) → l ≤ 4 → j < 2 ^ l → b ≡ position l j → (c : ℕ) → c < 32 → bit below c ≡ eqb (c / 2 ^ (5 - l)) j
+  pub covered : ℕ
+  pub members : UnderMembers present covered under
+  pub chosen : (c : ℕ) → c < 32 → bit walked c ≡ (bit (bitAnd occupied below) c && not (bit under c))
+
+-- Of the slots before c, the next to be asked, `covered` has those that were asked and are covered from inside.
+pub record Answered (t : List ℕ) (lo hi depth key b : ℕ) (first end : List ℕ) (present under walked covered c : ℕ) : Type 0 where
+  pub asking : Asking t lo hi depth key b first end present under walked
+  pub next : c < 32 → bit walked c ≡ true
+  pub slots : SlotsCovered (λ i. bit walked i && coveredIn (slotSize depth) key (run t lo hi) 5 i) (λ i. ltb i c) covered
+
+module _ {t : List ℕ} {lo hi depth key b : ℕ} {first end : List ℕ} {present under walked : ℕ} where
+  module _ (s : Asking t lo hi depth key b first end present under walked) (c : ℕ) (lt : c < 32) where
+    -- The bits by which a slot is chosen.
+    chosen-is : bit walked c ≡ ((bit (s .occupied) c && bit (s .below) c) && not (bit under c))
+    chosen-is = s .chosen c lt ∙ ap (λ (x : Bool). x && not (bit under c)) (bit-and (s .occupied) (s .below) c)
+
+    -- One that is asked has a record.
+    asked-has : bit walked c ≡ true → getD first (31 + c) 0 < getD end (31 + c) 0
+    asked-has e = slot-occupied (s .gathered) (s .occupied) (s .filled) c lt (go (bit (s .occupied) c) (bit (s .below) c) (bit under c) (sym chosen-is ∙ e))
+      where
+        go : (o d u : Bool) → ((o && d) && not u) ≡ true → o ≡ true
+        go true d u z = refl
+        go false d u z = z
+
+    -- One below b is covered by the node's routes when it is asked and covered from inside, or below a member.
+    joined : (covered : ℕ) → bit covered c ≡ (bit walked c && coveredIn (slotSize depth) key (run t lo hi) 5 c) → bit (s .below) c ≡ true
+        → bit (bitOr covered under) c ≡ throughout (held wide (run t lo hi)) (sizeAt (slotSize depth) 5) (placeAt (slotSize depth) key 5 c)
+    joined covered is low =
+        bit-or covered under c
+        ∙ ap (λ (x : Bool). x || bit under c) (is ∙ ap (λ (x : Bool). x && inner) chosen-is)
+        ∙ go (bit (s .occupied) c) (bit (s .below) c) (bit under c) low
+        (λ e. empty-covered (s .node) (s .gathered) c lt (slot-vacant (s .gathered) (s .occupied) (s .filled) c lt e))
+        ∙ ap (λ (x : Bool). x || inner) (slot-is (s .gathered) (s .members) c lt)
+        ∙ sym (position-covered (s .node) (s .gathered) 5 c (omega arith) lt)
+      where
+        inner : Bool
+        inner = coveredIn (slotSize depth) key (run t lo hi) 5 c
+
+        go : (o d u : Bool) → d ≡ true → (o ≡ false → inner ≡ false) → ((((o && d) && not u) && inner) || u) ≡ (u || inner)
+        go o d true z none = or-true (((o && d) && false) && inner)
+        go true true false z none = or-false inner
+        go false true false z none = sym (none refl)
+        go o false false z none = absurd (true≢false (sym z))
+
+  -- At first none is asked.
+  pub ask-start : {r : ℕ} → Asking t lo hi depth key b first end present under walked → NextBit walked 0 r
+      → Answered t lo hi depth key b first end present under walked 0 r
+  ask-start {r} s z =
+      record {
+        asking = s;
+        next = z .isSet;
+        slots = slots-past 0 r (slots-none _ (λ i. ltb i 0) (λ i lt. le-ltb i 0 (omega arith))) (z .low) (λ i low lt. rw (z .clear i low lt));
+      }
+
+  module _ {covered c : ℕ} (w : Answered t lo hi depth key b first end present under walked covered c) where
+    -- The records of the next are those of a node.
+    pub ask-node : c < 32 → Node t (getD first (31 + c) 0) (getD end (31 + c) 0) (depth + 5) (placeAt (slotSize depth) key 5 c)
+    ask-node lt = child-node (w .asking .node) (w .asking .gathered) c lt (asked-has (w .asking) c lt (w .next lt))
+
+    -- It is asked for its top position.
+    pub ask-child : (lt : c < 32) (child : Bool) (covered′ r : ℕ)
+        → child ≡ throughout (held wide (runAt t first end (31 + c))) (sizeAt (slotSize (depth + 5)) 0) (placeAt (slotSize (depth + 5)) (placeAt (slotSize depth) key 5 c) 0 0)
+        → ((i : ℕ) → i < 32 → bit covered′ i ≡ ((eqb i c && child) || bit covered i)) → NextBit walked (c + 1) r
+        → Answered t lo hi depth key b first end present under walked covered′ r
+    ask-child lt child covered′ r is more z =
+        let s = w .asking in
+        let on = w .next lt in
+        let all =
+        slots-take (w .slots) c (λ i. ltb i (c + 1)) (passes-up c) child covered′
+        (is ∙ child-covered (s .node) (s .gathered) c lt (asked-has s c lt on) ∙ sym (ap (λ (x : Bool). x && coveredIn (slotSize depth) key (run t lo hi) 5 c) on)) more in
+        record {
+          asking = s;
+          next = z .isSet;
+          slots = slots-past (c + 1) r all (z .low) (λ i low small. rw (z .clear i low small));
+        }
+
+    -- All are: the fold finds whether the node's routes cover position b.
+    pub ask-end : 32 ≤ c → (r : ℕ) → WhollyCovered present (bitOr covered under) r → (l j : ℕ) → l ≤ 4 → j < 2 ^ l → b ≡ position l j
+        → bit r b ≡ throughout (held wide (run t lo hi)) (sizeAt (slotSize depth) l) (placeAt (slotSize depth) key l j)
+    ask-end all r whole l j le lt e =
+        let s = w .asking in
+        ap (bit r) e
+        ∙ folded-below (s .gathered) (λ l j. throughout (held wide (run t lo hi)) (sizeAt (slotSize depth) l) (placeAt (slotSize depth) key l j))
+        (position-halves (s .node) (s .gathered)) (bitOr covered under) r whole l j le lt
+        (λ i small z. joined s i small covered (slots-all (w .slots) (λ k few. lt-ltb k c (omega arith)) i small)
+        (s .beneath l j le lt e i small ∙ eq-eqb _ _ z))

@@ -1,5 +1,6 @@
 // Mode 1: the maximal prefixes that a set's members cover.
 
+use super::query::open_slots;
 use super::query::with_slot;
 use nodes::emit::emit_slot;
 use nodes::emit::head_slots;
@@ -15,7 +16,7 @@ use words::coverage::member_coverage;
 use words::coverage::parent_coverage;
 use words::ladder::push_l4;
 ghost use mathlib.Core.Path.{_≡_};
-ghost use mathlib.Core.Bool.{not, _&&_, _||_};
+ghost use mathlib.Core.Bool.{_||_};
 ghost use mathlib.Core.List.{List};
 ghost use Prim.Native.Nat.{ℕ, _+_, _-_, _*_, _^_, _≤_, _<_};
 ghost use lib.ListN.{length};
@@ -27,13 +28,6 @@ ghost use Rattle.nodes.specs.Node.{wide, run, slotSize, Node};
 ghost use Rattle.nodes.specs.Output.{Wrote};
 ghost use Rattle.nodes.specs.Room.{BlockBy, Begins, nodesDeep, nodesBelow, LaidBy, StoredBy};
 ghost use Rattle.cover.specs.Coverage.{IsCoverage, coverageWord, uncovered, Entries};
-
-// The slots that both walks visit: those with a record, and below no member of the node.
-fn open_slots(occupied: u32, under: u32) -> u32
-    ensures { λ r. ⌜ ((c : ℕ) → c < 32 → bit r c ≡ (bit occupied c && not (bit under c))) ⌝ }
-{
-    occupied & !under
-}
 
 // What the first walk of mode 1 says of a node: the positions that its members cover, and where its block begins.
 pub struct Covered {

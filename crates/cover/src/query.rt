@@ -5,18 +5,21 @@ use nodes::gather::heap_index;
 use nodes::gather::level_of;
 use nodes::gather::slot_key;
 use words::bits::has_bit;
+use words::bits::next_bit;
 use words::bits::with_bit;
 use words::coverage::fold_coverage;
+use words::coverage::member_coverage;
 ghost use mathlib.Core.Path.{_≡_};
-ghost use mathlib.Core.Bool.{_&&_, _||_};
-ghost use Prim.Native.Nat.{ℕ, _+_, _-_, _^_, _≤_, _<_};
+ghost use mathlib.Core.Bool.{not, _&&_, _||_};
+ghost use Prim.Native.Nat.{ℕ, _+_, _-_, _/_, _^_, _≤_, _<_};
 ghost use lib.Dec.{eqb};
 ghost use Rattle.theory.specs.Routes.{held, Aligned};
 ghost use Rattle.theory.specs.Results.{throughout};
 ghost use Rattle.words.specs.Bits.{bit};
 ghost use Rattle.words.specs.Positions.{position};
+ghost use Rattle.positions.specs.Runs.{sizeAt, placeAt};
 ghost use Rattle.nodes.specs.Node.{wide, run, slotSize, Node};
-ghost use Rattle.cover.specs.Coverage.{coveredIn, recordOver};
+ghost use Rattle.cover.specs.Coverage.{recordOver};
 
 // The covered slots, with slot c if its child is.
 pub fn with_slot(covered: u32, c: u32, child: bool) -> u32
@@ -26,28 +29,45 @@ pub fn with_slot(covered: u32, c: u32, child: bool) -> u32
     if child { with_bit(covered, c) } else { covered }
 }
 
-// Is position b of the node covered by the node's members at or below it?
+// The slots to walk: those with a record, and below no member of the node.
+pub fn open_slots(occupied: u32, under: u32) -> u32
+    ensures { λ r. ⌜ ((c : ℕ) → c < 32 → bit r c ≡ (bit occupied c && not (bit under c))) ⌝ }
+{
+    occupied & !under
+}
+
+// The slots below position b.
+fn child_cover_mask_for_bit(b: usize) -> u32
+    requires { ⌜ b < 31 ⌝ }
+    ensures { λ r. ⌜ ((l j : ℕ) → l ≤ 4 → j < 2 ^ l → b ≡ position l j → (c : ℕ) → c < 32 → bit r c ≡ eqb (c / 2 ^ (5 - l)) j) ⌝ }
+{
+    member_coverage(with_bit(0, b as u32)).children_under_member
+}
+
+// Do the node's members cover position b? Only the slots below it are asked, and none below a member.
 pub fn bit_covered(table: &[u8], lo: usize, hi: usize, depth: usize, key: u64, b: usize) -> bool
     requires { ⌜ Node (now table) lo hi depth key ⌝ }
     requires { ⌜ b < 31 ⌝ }
-    ensures { λ r. ⌜ ((l j : ℕ) → l ≤ 4 → j < 2 ^ l → b ≡ position l j → r ≡ coveredIn (slotSize depth) key (run (now (table .entry)) lo hi) l j) ⌝ }
+    ensures { λ r. ⌜ ((l j : ℕ) → l ≤ 4 → j < 2 ^ l → b ≡ position l j → r ≡ throughout (held wide (run (now (table .entry)) lo hi)) (sizeAt (slotSize depth) l) (placeAt (slotSize depth) key l j)) ⌝ }
 {
     let mut first = [0usize; 63];
     let mut end = [0usize; 63];
     let g = gather_run(table, lo, hi, depth, key, &mut first, &mut end);
-    let mut covered: u32 = 0;
-    let mut c: usize = 0;
-    while c < 32 {
-        let from = first[31 + c];
-        let to = end[31 + c];
-        let at = c;
-        c += 1;
-        if from < to {
-            let child = bit_covered(table, from, to, depth + 5, slot_key(key, depth, at), 0);
-            covered = with_slot(covered, at as u32, child);
-        }
+    if has_bit(g.present, b as u32) {
+        return true;
     }
-    has_bit(fold_coverage(g.present, covered), b as u32)
+    let under = member_coverage(g.present).children_under_member;
+    let walked = open_slots(g.occupied & child_cover_mask_for_bit(b), under);
+    let mut covered: u32 = 0;
+    let mut next = next_bit(walked, 0);
+    while next < 32 {
+        let c = next;
+        let slot = slot_key(key, depth, c);
+        let child = bit_covered(table, first[31 + c], end[31 + c], depth + 5, slot, 0);
+        covered = with_slot(covered, c as u32, child);
+        next = next_bit(walked, c + 1);
+    }
+    has_bit(fold_coverage(g.present, covered | under), b as u32)
 }
 
 // Does a record stand at position b or above it in the node?

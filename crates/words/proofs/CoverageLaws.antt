@@ -6,13 +6,14 @@ use native.Mathlib.Nat.{pow-suc}
 use native.Mathlib.Omega.{arith}
 use lib.Dec.{eqb, ltb, leb, lit<, lit≤}
 use lib.Bits.{bitOr}
-use borrow.Author.Tests.{le-leb, lt-leb, lt-ltb, ne-eqb}
-use Rattle.words.specs.Bits.{bit}
+use lib.Pow.{shr-shr}
+use borrow.Author.Tests.{le-leb, lt-leb, lt-ltb, le-ltb, eq-eqb, ne-eqb, eqb-true}
+use Rattle.words.specs.Bits.{bit, WithBit}
 use Rattle.words.specs.Coverage.{UnderMembers, WhollyCovered, ParentCovered, Kept}
-use Rattle.words.specs.Positions.{position, first, member, under, whole}
+use Rattle.words.specs.Positions.{position, atLevel, first, member, under, whole}
 use Rattle.words.specs.Rules.{stray, Folded, Pushed, PushedSlots}
-use Rattle.words.proofs.BitLaws.{if-le, if-eq, bit-zero, bit-or}
-use Rattle.words.proofs.PositionLaws.{in-word, above, fold-at, push-at, push-slot, no-stray}
+use Rattle.words.proofs.BitLaws.{if-lt, if-le, if-eq, bit-zero, bit-or}
+use Rattle.words.proofs.PositionLaws.{in-word, level-of, above, fold-at, push-at, push-slot, no-stray}
 
 -- Two thresholds that differ at n alone.
 past : (n l : ℕ) → (n ≡ l → ⊥) → leb (suc n) l ≡ leb n l
@@ -160,6 +161,56 @@ under-end {d} {v} u s f = record { inside = inside; slot = slot; top = u .at 5 0
 -- With bit 31 of the members clear nothing strays: a slot is marked exactly when it stands below a member.
 pub slot-under : {d v s : ℕ} → bit d 31 ≡ false → UnderMembers d v s → (c : ℕ) → c < 32 → bit s c ≡ under d 5 c
 slot-under {d} {v} {s} z m c h = m .slot c h ∙ ap (λ (t : Bool). t || under d 5 c) (no-stray d c z)
+
+-- ---- the slots below one position
+
+module _ (l j d : ℕ) (le : l ≤ 4) (lt : j < 2 ^ l) (only : WithBit 0 (position l j) d) where
+  -- The position (l, j) is the one member of d.
+  only-member : (m i : ℕ) → m ≤ 4 → i < 2 ^ m → member d m i ≡ (eqb m l && eqb i j)
+  only-member m i h g =
+      only (position m i) (omega (arith, in-word m i h g))
+      ∙ ap (λ (t : Bool). eqb (position m i) (position l j) || t) (bit-zero (position m i)) ∙ or-false (eqb (position m i) (position l j))
+      ∙ if-eq (λ t. eqb (position m i) (position l j) ≡ (t && eqb i j)) m l same (λ e. ne-eqb (position m i) (position l j) (λ q. e (level q)))
+    where
+      same : m ≡ l → eqb (position m i) (position l j) ≡ eqb i j
+      same e =
+          let q : 2 ^ m ≡ 2 ^ l = ap (λ (n : ℕ). 2 ^ n) e in
+          if-eq (λ t. eqb (position m i) (position l j) ≡ t) i j (λ z. eq-eqb (position m i) (position l j) (omega arith))
+          (λ z. ne-eqb (position m i) (position l j) (λ p. z (omega arith)))
+
+      level : position m i ≡ position l j → m ≡ l
+      level q = sym (eqb-true l m (sym (level-of l m i g) ∙ ap (atLevel l) q ∙ level-of l l j lt ∙ eq-eqb l l refl))
+
+  -- So a place stands below a member when it is deeper than (l, j) and (l, j) is above it.
+  only-under : (m i : ℕ) → m ≤ 5 → i < 2 ^ m → under d m i ≡ (ltb l m && eqb (i / 2 ^ (m - l)) j)
+  unfolding under
+  only-under zero i h g = sym (ap (λ (t : Bool). t && eqb (i / 2 ^ (0 - l)) j) (le-ltb l 0 (omega arith)))
+  only-under (suc m) i h g =
+      let a : i / 2 < 2 ^ m = omega (arith, pow-suc 2 m) in
+      ap₂ _||_ (only-member m (i / 2) (omega arith) a) (only-under m (i / 2) (omega arith) a)
+      ∙ if-eq (λ t. ((t && eqb (i / 2) j) || (ltb l m && eqb (i / 2 / 2 ^ (m - l)) j)) ≡ (ltb l (suc m) && eqb (i / 2 ^ (suc m - l)) j)) m l same
+      (λ e. if-lt (λ t. (t && eqb (i / 2 / 2 ^ (m - l)) j) ≡ (ltb l (suc m) && eqb (i / 2 ^ (suc m - l)) j)) l m deeper
+      (λ b. sym (ap (λ (t : Bool). t && eqb (i / 2 ^ (suc m - l)) j) (le-ltb l (suc m) (omega arith)))))
+    where
+      same : m ≡ l → (eqb (i / 2) j || (ltb l m && eqb (i / 2 / 2 ^ (m - l)) j)) ≡ (ltb l (suc m) && eqb (i / 2 ^ (suc m - l)) j)
+      same e =
+          let one : suc m - l ≡ 1 = omega arith in
+          ap (λ (t : Bool). eqb (i / 2) j || (t && eqb (i / 2 / 2 ^ (m - l)) j)) (le-ltb l m (omega arith)) ∙ or-false (eqb (i / 2) j)
+          ∙ sym (ap₂ (λ (t : Bool) (n : ℕ). t && eqb (i / 2 ^ n) j) (lt-ltb l (suc m) (omega arith)) one)
+
+      deeper : l < m → eqb (i / 2 / 2 ^ (m - l)) j ≡ (ltb l (suc m) && eqb (i / 2 ^ (suc m - l)) j)
+      deeper b =
+          let more : 1 + (m - l) ≡ suc m - l = omega arith in
+          ap (λ (n : ℕ). eqb n j) (shr-shr i 1 (m - l) ∙ ap (λ (n : ℕ). i / 2 ^ n) more)
+          ∙ sym (ap (λ (t : Bool). t && eqb (i / 2 ^ (suc m - l)) j) (lt-ltb l (suc m) (omega arith)))
+
+  -- A slot is marked exactly when (l, j) is above it.
+  pub slots-below : {v s : ℕ} → UnderMembers d v s → (c : ℕ) → c < 32 → bit s c ≡ eqb (c / 2 ^ (5 - l)) j
+  slots-below u c h =
+      slot-under none u c h ∙ only-under 5 c (lit≤ tt) h ∙ ap (λ (t : Bool). t && eqb (c / 2 ^ (5 - l)) j) (lt-ltb l 5 (omega arith))
+    where
+      none : bit d 31 ≡ false
+      none = only 31 (lit< tt) ∙ ap₂ _||_ (ne-eqb 31 (position l j) (λ e. omega (arith, in-word l j le lt))) (bit-zero 31)
 
 -- ---- pushes of a word by itself: the positions below its own
 

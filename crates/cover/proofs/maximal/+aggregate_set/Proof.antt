@@ -16,7 +16,7 @@ use Rattle.cover.proofs.maximal.aggregate_set.Kinds as kinds
 use Rattle.cover.proofs.maximal.+aggregate_set.Lts-aggregate_set as lts
 use Rattle.cover.proofs.maximal.entries_of.Reads as entries-of-reads
 use Rattle.cover.proofs.maximal.is_absorbed.Reads as is-absorbed-reads
-use Rattle.cover.proofs.maximal.open_slots.Reads as open-slots-reads
+use Rattle.cover.proofs.query.open_slots.Reads as open-slots-reads
 use Rattle.nodes.proofs.emit.emit_slot.Reads as emit-slot-reads
 use Rattle.nodes.proofs.emit.head_slots.Reads as head-slots-reads
 use Rattle.nodes.proofs.emit.past.Reads as past-reads

@@ -13,7 +13,7 @@ use Rattle.cover.proofs.MaximalRoom.{slot-node, Collecting, collect-sta
 use Rattle.cover.proofs.maximal.collect_coverage.Reads as walk
 use Rattle.cover.proofs.maximal.collect_coverage.Kinds as kinds
 use Rattle.cover.proofs.maximal.+collect_coverage.Lts-collect_coverage as lts
-use Rattle.cover.proofs.maximal.open_slots.Reads as open-slots-reads
+use Rattle.cover.proofs.query.open_slots.Reads as open-slots-reads
 use Rattle.cover.proofs.query.with_slot.Reads as with-slot-reads
 use Rattle.nodes.proofs.gather.gather_run.Reads as gather-run-reads
 use Rattle.nodes.proofs.gather.slot_key.Reads as slot-key-reads

@@ -9,7 +9,7 @@ use Rattle.theory.specs.Results.{throughout}
 use Rattle.theory.specs.Routes.{Route, held}
 use Rattle.nodes.specs.Node.{wide}
 use Rattle.nodes.proofs.GatherRuns.{run-none}
-use Rattle.cover.proofs.CoverLaws.{none-covered, Sought, place-lt, place-position, position-answer, place-slot, slot-node, slot-lies, slot-answer}
+use Rattle.cover.proofs.CoverLaws.{none-covered, Sought, place-lt, record-covers, position-answer, place-slot, slot-node, slot-lies, slot-answer}
 use borrow.Fn.Kinds.{In}
 use borrow.Fn.PlainCycle.{Measures, is, falls, and}
 use Rattle.cover.proofs.query.covers_in_aggregate.Reads as covers-in-aggregate
@@ -86,7 +86,8 @@ covers-in-aggregate-record-over-requires t c κs = c .before .before .if1 .taken
 
 covers-in-aggregate-returns : (t : ℕ) → covers-in-aggregate-lts.Need-returns (covers-in-aggregate-claims t) (covers-in-aggregate-at t) covers-in-aggregate.Post
 covers-in-aggregate-returns t c =
-    position-answer (sought t (c .before .before .before .before .before)) true (c .before .before .before .before .if1 .taken) (λ l j le lt e. sym (c .if2 .taken) ∙ c .before .record-over .ensures l j le lt e)
+    let s = sought t (c .before .before .before .before .before) in
+    position-answer s true (c .before .before .before .before .if1 .taken) (λ l j le lt e. record-covers (s .node) (s .gathered) l j le lt (sym (c .if2 .taken) ∙ c .before .record-over .ensures l j le lt e))
 
 covers-in-aggregate-bit-covered-requires : (t : ℕ) → covers-in-aggregate-lts.Need-bit-covered-requires (covers-in-aggregate-claims t) (covers-in-aggregate-at t) covers-in-aggregate.Post
 covers-in-aggregate-bit-covered-requires t c κs =
@@ -94,10 +95,7 @@ covers-in-aggregate-bit-covered-requires t c κs =
 
 covers-in-aggregate-returns-2 : (t : ℕ) → covers-in-aggregate-lts.Need-returns-2 (covers-in-aggregate-claims t) (covers-in-aggregate-at t) covers-in-aggregate.Post
 covers-in-aggregate-returns-2 t c =
-    let s = sought t (c .before .before .before .before .before .before) in
-    let small = c .before .before .before .before .before .if1 .taken in
-    c .bit-covered .ensures _ _ (place-position s small) (s .few) (s .placed)
-    ∙ position-answer s false small (λ l j le lt e. sym (c .before .if2 .left) ∙ c .before .before .record-over .ensures l j le lt e)
+    position-answer (sought t (c .before .before .before .before .before .before)) _ (c .before .before .before .before .before .if1 .taken) (c .bit-covered .ensures)
 
 covers-in-aggregate-sub-record-over : (t : ℕ) → covers-in-aggregate-lts.Need-sub-record-over (covers-in-aggregate-claims t) (covers-in-aggregate-at t) covers-in-aggregate.Post
 covers-in-aggregate-sub-record-over t c = omega arith

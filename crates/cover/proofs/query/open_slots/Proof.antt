@@ -1,11 +1,11 @@
--- `cover::maximal::open_slots` meets its contract. Assumes nothing.
+-- `cover::query::open_slots` meets its contract. Assumes nothing.
 use Prim.Native.Nat.{_-_, _^_}
 use mathlib.Core.Path.{ap, _∙_}
 use mathlib.Core.Bool.{Bool, _&&_}
 use Rattle.words.specs.Bits.{bit}
 use Rattle.words.proofs.BitLaws.{bit-and, bit-not}
-use Rattle.cover.proofs.maximal.open_slots.Statement.{statement}
-use Rattle.cover.proofs.maximal.open_slots.Tie as tie
+use Rattle.cover.proofs.query.open_slots.Statement.{statement}
+use Rattle.cover.proofs.query.open_slots.Tie as tie
 
 returns : tie.Need-returns
 returns c i lt =

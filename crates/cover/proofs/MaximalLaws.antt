@@ -13,7 +13,6 @@ use lib.ListN.{getD}
 use lib.Pow.{high}
 use Rattle.theory.specs.Results.{throughout, prefix, part}
 use Rattle.theory.specs.Routes.{Route, Member, held}
-use Rattle.theory.specs.Shapes.{routed}
 use Rattle.theory.proofs.Maximal.{throughout-each}
 use Rattle.theory.proofs.Parts.{part-swap, part-none, part-whole, member-part}
 use Rattle.words.specs.Bits.{bit}
@@ -27,16 +26,16 @@ use Rattle.positions.specs.Walk.{walk, stateOf, stateAt, slots}
 use Rattle.positions.specs.Walks.{maximalOut, maximalNext}
 use Rattle.positions.proofs.Modes.{maximal-covered}
 use Rattle.positions.proofs.Runs.{is-in, Nested, nested-self}
-use Rattle.positions.proofs.RunsNode.{size-slot, size-halves, place-left, place-right, above-lt, above-in, ownAt, level-covered, halves-covered}
+use Rattle.positions.proofs.RunsNode.{size-slot, above-lt, above-in}
 use Rattle.positions.proofs.Slots.{reached-nested, walk-agree, walk-nothing, walk-slots, slots-agree}
 use Rattle.nodes.specs.Gathered.{Gathered, Occupied, runAt}
 use Rattle.nodes.specs.Node.{wide, run, slotSize, Node}
 use Rattle.nodes.specs.Output.{entryAt}
-use Rattle.nodes.proofs.GatherLaws.{node-run, slot-records, no-child, slot-vacant, slot-occupied, child-node}
+use Rattle.nodes.proofs.GatherLaws.{slot-records, no-child, slot-vacant, slot-occupied, child-node}
 use Rattle.nodes.proofs.MemberLaws.{slot-is}
 use Rattle.nodes.proofs.RoomSizes.{Selects}
 use Rattle.cover.specs.Coverage.{coveredIn, IsCoverage, uncovered, Entries}
-use Rattle.cover.proofs.CoverLaws.{none-covered, empty-covered, folded-is, record-over, record-over-slot, position-query, slot-query}
+use Rattle.cover.proofs.CoverLaws.{none-covered, empty-covered, folded-is, record-over, record-over-slot, position-covered, position-query, position-halves, slot-query}
 
 -- ---- The walk of mode 1 over some addresses.
 
@@ -54,13 +53,6 @@ module _ (p : ℕ → Bool) (m a : ℕ) where
   covered-down l j lt e =
       throughout-each p (sizeAt m (suc l)) (placeAt m a (suc l) j) .1 (λ x i.
       throughout-each p (sizeAt m l) (placeAt m a l (j / 2)) .0 e x (above-in m a l j x lt i))
-
-  -- It holds throughout a position when it does throughout both halves.
-  covered-halves : (l j : ℕ) → l < 5 → coveredAt p m a l j ≡ (coveredAt p m a (suc l) (2 * j) && coveredAt p m a (suc l) (2 * j + 1))
-  unfolding throughout
-  covered-halves l j lt =
-      ap (λ (n : ℕ). throughout p n (placeAt m a l j)) (size-halves m l lt)
-      ∙ sym (ap₂ (λ (x y : ℕ). throughout p (sizeAt m (suc l)) x && throughout p (sizeAt m (suc l)) y) (place-left m a l j lt) (place-right m a l j lt))
 
   -- The walk hands to a position whether the one above it is covered, or one above the node.
   pub maximal-state : (w : ℕ) (s : Bool) (l j : ℕ) → l < 5
@@ -141,7 +133,7 @@ module _ {t : List ℕ} {lo hi depth key : ℕ} {first end : List ℕ} {present 
 
   -- A route above it covers it, or the routes inside it do.
   here-is : (l j : ℕ) → l ≤ 5 → j < 2 ^ l → here l j ≡ (over l j || coveredIn (slotSize depth) key (run t lo hi) l j)
-  here-is l j le lt = level-covered wide (slotSize depth) key (node-run n) l j le lt
+  here-is l j le lt = position-covered n g l j le lt
 
   -- The same of the position above one: there its own route stands above the one below too.
   above-is : (l j : ℕ) → l ≤ 4 → j < 2 ^ suc l → here l (j / 2) ≡ (over (suc l) j || coveredIn (slotSize depth) key (run t lo hi) l (j / 2))
@@ -150,23 +142,11 @@ module _ {t : List ℕ} {lo hi depth key : ℕ} {first end : List ℕ} {present 
       sym (position-query n g l (j / 2) le (above-lt l j lt))
       ∙ ap (λ (b : Bool). b || coveredIn (slotSize depth) key (run t lo hi) l (j / 2)) (record-over n g l (j / 2) le (above-lt l j lt))
 
-  -- A position is covered by its own route, or half by half.
-  here-halves : (l j : ℕ) → l < 5 → j < 2 ^ l
-      → here l j ≡ (routed (ownAt wide (slotSize depth) key (run t lo hi) l j) || (here (suc l) (2 * j) && here (suc l) (2 * j + 1)))
-  here-halves l j lt small = go (routed (ownAt wide (slotSize depth) key (run t lo hi) l j)) refl
-    where
-      go : (b : Bool) → routed (ownAt wide (slotSize depth) key (run t lo hi) l j) ≡ b
-          → here l j ≡ (b || (here (suc l) (2 * j) && here (suc l) (2 * j + 1)))
-      go true e =
-          here-is l j (omega arith) small
-          ∙ ap (λ (b : Bool). over l j || b) (halves-covered wide (slotSize depth) key (node-run n) l j lt ∙ rw e) ∙ or-true (over l j)
-      go false e = covered-halves (held wide (run t lo hi)) (slotSize depth) key l j lt
-
   -- With the covered slots at hand the fold of the members finds the node's coverage.
   pub coverage-is : (covered cov : ℕ) → ((c : ℕ) → c < 32 → bit covered c ≡ here 5 c) → WhollyCovered present covered cov
       → IsCoverage (slotSize depth) key (run t lo hi) cov
   coverage-is covered cov all w =
-      record { positions = λ l j le lt. folded-is g here here-halves covered all cov w l j le lt; top = w .top ∙ g .no-more }
+      record { positions = λ l j le lt. folded-is g here (position-halves n g) covered all cov w l j le lt; top = w .top ∙ g .no-more }
 
   -- A slot with records and below no member is covered when the top position of its node is,
   child-here : (c : ℕ) → c < 32 → getD first (31 + c) 0 < getD end (31 + c) 0 → over 5 c ≡ false

@@ -16,10 +16,8 @@ use Rattle.theory.proofs.Lists.{all-map, all-member}
 use Rattle.theory.proofs.Order.{valid-within}
 use Rattle.theory.proofs.Parts.{all-part, table-part, part-agree}
 use Rattle.theory.specs.Shapes.{Within, routed}
-use Rattle.table.specs.Rules.{gives, judge}
-use Rattle.table.specs.Wire.{records, routeAt, routes, Bytes, topHop, tableRules}
+use Rattle.table.specs.Wire.{records, routeAt, routes, topHop}
 use Rattle.table.specs.Facts.{Lawful}
-use Rattle.table.proofs.Tables.{accepted-table}
 use Rattle.words.specs.Bits.{bit}
 use Rattle.words.specs.Positions.{position}
 use Rattle.words.proofs.PositionLaws.{placed}
@@ -100,10 +98,6 @@ module _ {t : List ℕ} {lo hi depth key : ℕ} {first end : List ℕ} {present 
 
     pub slot-occupied : bit occupied c ≡ true → getD first (31 + c) 0 < getD end (31 + c) 0
     slot-occupied on = ltb-true _ _ (sym (has-record 5 c (omega arith) lt) ∙ sym (o c lt) ∙ on)
-
-    -- One whose bit is not set has no route.
-    pub occupied-none : bit occupied c ≡ false → part (filed (slotSize depth) key 5 c) (run t lo hi) ≡ []
-    occupied-none off = sym (g .places 5 c (omega arith) lt) ∙ run-none t _ _ (slot-vacant off)
 
 -- ---- The hops that cover the positions.
 
@@ -234,7 +228,3 @@ root-node s t l =
     top : (b : Bool) → topHop b < 64
     top true = omega arith
     top false = omega arith
-
--- And so are those of an accepted one.
-pub accepted-root : {A : Type 0} (a b : A) (s : Bool) (t : List ℕ) → Bytes t → judge (tableRules s t) a ≡ gives b → Node t 0 (records t) 0 0
-accepted-root a b s t bytes ok = root-node s t (accepted-table a b s t bytes ok .0)

@@ -24,12 +24,13 @@ use Rattle.words.proofs.PositionLaws.{placed}
 use Rattle.positions.specs.Runs.{isAt, inside, headHop, own, orElse, sizeAt, placeAt, cover, hopOf}
 use Rattle.positions.specs.Wide.{widened}
 use Rattle.positions.proofs.Runs.{Run, inside-within}
-use Rattle.positions.proofs.RunsNode.{size-slot, place-aligned, place-nested, above-lt}
+use Rattle.positions.proofs.RunsNode.{size-slot, place-aligned, above-lt}
 use Rattle.positions.proofs.Wide.{all-widen, table-widen, short-widen}
 use Rattle.nodes.specs.Node.{wide, spare, wideAt, run, slotSize, Node}
 use Rattle.nodes.specs.Gathered.{filed, some, runAt, Gathered, Occupied, valueOf, coveringAt}
 use Rattle.nodes.proofs.GatherPlaces.{filed-position}
 use Rattle.nodes.proofs.GatherRuns.{member-run, run-none, run-first, some-run}
+use Rattle.nodes.proofs.OutputLaws.{slot-within}
 
 -- ---- The records of a position, and of a slot.
 
@@ -166,7 +167,7 @@ module _ {t : List ℕ} {lo hi depth key : ℕ} {first end : List ℕ} {present 
         fives = omega (arith, n .fives);
         deep = omega (arith, all-member inner one .deep, all-member shorts one, n .fives, n .deep);
         aligned = rw size base;
-        small = rw size (omega (arith, place-nested (slotSize depth) key 5 c (omega arith) lt .upto, n .small, slot, whole));
+        small = slot-within depth key c (n .deep) lt (n .small);
         table = rw (slot-records g c lt) (table-part wide _ (n .table));
         within = rw size inner;
         short = shorts;
@@ -175,12 +176,6 @@ module _ {t : List ℕ} {lo hi depth key : ℕ} {first end : List ℕ} {present 
     where
       size : wide - (depth + 5) ≡ slotSize depth
       size = omega (arith, n .deep)
-
-      slot : 2 ^ sizeAt (slotSize depth) 5 ≡ 2 ^ slotSize depth
-      slot = ap (λ (k : ℕ). 2 ^ k) (size-slot (slotSize depth))
-
-      whole : 2 ^ (slotSize depth + 5) ≡ 2 ^ (wide - depth)
-      whole = ap (λ (k : ℕ). 2 ^ k) (omega (arith, n .deep))
 
       base : Aligned (slotSize depth) (placeAt (slotSize depth) key 5 c)
       base =

@@ -16,7 +16,7 @@ use Rattle.nodes.specs.Node.{wide, spare, run, slotSize}
 use Rattle.nodes.specs.Room.{SlotBlock, SlotBlocks, BlockBy, Block, everywhere, nodesDeep}
 
 -- A slot lies in its node.
-pub slot-nested : (m a c : ℕ) → c < 32 → Nested m (placeAt m a 5 c) (m + 5) a
+slot-nested : (m a c : ℕ) → c < 32 → Nested m (placeAt m a 5 c) (m + 5) a
 slot-nested m a c lt = subst (λ (k : ℕ). Nested k (placeAt m a 5 c) (m + 5) a) (size-slot m) (place-nested m a 5 c (omega arith) lt)
 
 -- ---- The block of a slot.
@@ -27,13 +27,11 @@ run-length t lo hi = length-widen spare (routesFrom t lo (hi - lo)) ∙ length-f
 
 module _ (block : ℕ → List Route → List ℕ → Type 0) (a : ℕ) where
   -- A slot without a route has no words.
-  pub slot-none : (t : List Route) → length t ≡ 0 → SlotBlock block a t []
-  slot-none [] e = refl
-  slot-none (r ∷ t) e = absurd (omega arith)
+  pub slot-none : {t : List Route} → t ≡ [] → SlotBlock block a t []
+  slot-none e = rw e refl
 
-  pub slot-empty : (t : List Route) (u : List ℕ) → length t ≡ 0 → SlotBlock block a t u → u ≡ []
-  slot-empty [] u e b = b
-  slot-empty (r ∷ t) u e b = absurd (omega arith)
+  pub slot-empty : {t : List Route} {u : List ℕ} → t ≡ [] → SlotBlock block a t u → u ≡ []
+  slot-empty e b = rw e at b
 
   -- That of one with a route is the block of the node there.
   pub slot-some : (t : List Route) (u : List ℕ) → 0 < length t → SlotBlock block a t u ↔ block a t u

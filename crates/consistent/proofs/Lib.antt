@@ -1,5 +1,4 @@
 -- The laws of modes 2 and 3.
-pub mod BusySlots
 pub mod KeptSlots
 pub mod SetLaws
 pub mod MapLaws

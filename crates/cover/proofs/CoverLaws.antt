@@ -79,16 +79,16 @@ pub record SlotsCovered (p passed : ℕ → Bool) (covered : ℕ) : Type 0 where
 abbrev pub Passes : (ℕ → Bool) → ℕ → (ℕ → Bool) → Type 0
 Passes passed c passed′ = (i : ℕ) → i < 32 → passed′ i ≡ (eqb i c || passed i)
 
--- The slots before c and slot c are those before c + 1; slot c - 1 and those from c on are those from c - 1 on.
+-- The slots before c and slot c are those before c + 1; slot c and those from c + 1 on are those from c on.
 pub passes-up : (c : ℕ) → Passes (λ i. ltb i c) c (λ i. ltb i (c + 1))
 passes-up c i lt =
     if-eq (λ (b : Bool). ltb i (c + 1) ≡ (b || ltb i c)) i c (λ e. lt-ltb i (c + 1) (omega arith))
     (λ ne. if-lt (λ (b : Bool). ltb i (c + 1) ≡ b) i c (λ l. lt-ltb i (c + 1) (omega arith)) (λ l. le-ltb i (c + 1) (omega arith)))
 
-pub passes-down : (c : ℕ) → 0 < c → Passes (λ i. leb c i) (c - 1) (λ i. leb (c - 1) i)
-passes-down c pos i lt =
-    if-eq (λ (b : Bool). leb (c - 1) i ≡ (b || leb c i)) i (c - 1) (λ e. le-leb (c - 1) i (omega arith))
-    (λ ne. if-le (λ (b : Bool). leb (c - 1) i ≡ b) c i (λ l. le-leb (c - 1) i (omega arith)) (λ l. lt-leb (c - 1) i (omega arith)))
+pub passes-down : (c : ℕ) → Passes (λ i. leb (c + 1) i) c (λ i. leb c i)
+passes-down c i lt =
+    if-eq (λ (b : Bool). leb c i ≡ (b || leb (c + 1) i)) i c (λ e. le-leb c i (omega arith))
+    (λ ne. if-le (λ (b : Bool). leb c i ≡ b) (c + 1) i (λ l. le-leb c i (omega arith)) (λ l. lt-leb c i (omega arith)))
 
 -- At first none is.
 pub slots-none : (p passed : ℕ → Bool) → ((i : ℕ) → i < 32 → passed i ≡ false) → SlotsCovered p passed 0

@@ -1,9 +1,10 @@
 -- The two walks of mode 1 at a node, a slot at a time: the first lays the coverage of the nodes in the work room, from the last slot to the first,
 -- and the second reads it there, from the first slot to the last. Both pass over the slots that are not walked.
-use Prim.Native.Nat.{ℕ, zero, suc, _+_, _-_, _*_, _^_, _≤_, _<_}
+use Prim.Native.Nat.{ℕ, _+_, _-_, _*_, _^_, _≤_, _<_}
 use mathlib.Core.Path.{_≡_, refl, ap, _∙_}
 use mathlib.Core.Bool.{Bool, true, false, _&&_, _||_}
 use mathlib.Core.List.{List, [], _∷_}
+use mathlib.Core.Logic.{_↔_}
 use native.Mathlib.Omega.{arith}
 use lib.Bits.{bitOr}
 use lib.Dec.{eqb, leb}
@@ -15,17 +16,17 @@ use Rattle.words.specs.Coverage.{WhollyCovered}
 use Rattle.words.specs.Rules.{PushedSlots}
 use Rattle.words.proofs.BitLaws.{neither}
 use Rattle.positions.specs.Runs.{inside, placeAt}
-use Rattle.positions.specs.Walk.{heads}
 use Rattle.nodes.specs.Gathered.{runAt}
 use Rattle.nodes.specs.Node.{wide, run, slotSize, Node}
-use Rattle.nodes.specs.Room.{Begins, BlockBy, nodesDeep, slotNodes, nodesBelow, LaidBy, StoredBy, SlotsLaid, SlotsAhead}
-use Rattle.nodes.specs.Output.{Wrote, entryAt, HeadSlots}
+use Rattle.nodes.specs.Room.{Begins, BlockBy, nodesDeep, slotNodes, nodesBelow, LaidBy, StoredBy, SlotsLaid}
+use Rattle.nodes.specs.Output.{Wrote, HeadSlots}
 use Rattle.nodes.proofs.GatherLaws.{child-node}
-use Rattle.nodes.proofs.OutputWalk.{Past, lent, relaid, Walked, Begun, walked-none, walked-alone, walked-child, walked-past, walked-all, no-heads}
-use Rattle.nodes.proofs.RoomBlocks.{run-length, slot-some, block-by-deep}
+use Rattle.nodes.proofs.OutputWalk.{Past, lent, relaid, Walked, Begun, walked-none, walked-alone, walked-child, walked-all, no-heads}
+use Rattle.nodes.proofs.RoomBlocks.{BlockAt, run-length, slot-some, block-by-deep}
 use Rattle.nodes.proofs.RoomLaws.{pushed-word, begins-word}
 use Rattle.nodes.proofs.RoomSizes.{Sized, nodes-below-deep, slot-nodes-le, block-by-length, room-child, room-own}
-use Rattle.nodes.proofs.RoomWalk.{laid-start, laid-next, laid-skip, laid-length, laid-own, ahead-start, ahead-next, ahead-past, ahead-end}
+use Rattle.nodes.proofs.RoomWalk.{laid-start, laid-next, laid-skip, laid-length, laid-own, Ahead, own-stored, ahead-start, ahead-stored, ahead-next, ahead-skip}
+use Rattle.nodes.proofs.BusySlots.{last-steps, Busy, walked-next, ahead-past}
 use Rattle.cover.specs.Coverage.{IsCoverage, coverageWord, uncovered, Entries}
 use Rattle.cover.proofs.CoverLaws.{SlotsCovered, passes-down, slots-none, slots-take, slots-skip, slots-all}
 use Rattle.cover.proofs.MaximalLaws.{maximalWalk, coveredAt, uncovered-selects, coverage-is, Opened, walked-has, walked-routes, passed-routes, child-bit, joined-bit, maximalSlot, maximal-slots, passed-nothing}
@@ -48,9 +49,14 @@ module _ {t : List ℕ} {lo hi depth key : ℕ} {first end : List ℕ} {present 
   slot-routes : bit walked c ≡ true → 0 < length (inside wide (slotSize depth) (placeAt (slotSize depth) key 5 c) (openRoutes t lo hi depth key))
   slot-routes e = rw (walked-routes s c lt e) (omega (arith, run-length t (getD first (31 + c) 0) (getD end (31 + c) 0), walked-has s c lt e))
 
-  -- another has none.
-  slot-none : bit walked c ≡ false → length (inside wide (slotSize depth) (placeAt (slotSize depth) key 5 c) (openRoutes t lo hi depth key)) ≡ 0
-  slot-none e = ap length (passed-routes s c lt e)
+  -- and its block is that of the node there.
+  slot-block : bit walked c ≡ true → (u : List ℕ)
+      → BlockAt (deeperBlock depth) (slotSize depth) key (openRoutes t lo hi depth key) c u
+      ↔ deeperBlock depth (placeAt (slotSize depth) key 5 c) (runAt t first end (31 + c)) u
+  slot-block e u =
+      rw (← walked-routes s c lt e)
+      (slot-some (deeperBlock depth) (placeAt (slotSize depth) key 5 c)
+      (inside wide (slotSize depth) (placeAt (slotSize depth) key 5 c) (openRoutes t lo hi depth key)) u (slot-routes e))
 
   -- The records of one that is walked are those of a node.
   pub slot-node : bit walked c ≡ true → Node t (getD first (31 + c) 0) (getD end (31 + c) 0) (depth + 5) (placeAt (slotSize depth) key 5 c)
@@ -86,33 +92,25 @@ module _ {t : List ℕ} {lo hi depth key : ℕ} {first end : List ℕ} {present 
       }
 
   -- A slot that is not walked is passed over,
-  collect-skip : {b at covered : ℕ} {o′ : List ℕ} → Collecting t lo hi depth key first end present under walked top o b at covered o′ → 0 < b
-      → bit walked (b - 1) ≡ false → Collecting t lo hi depth key first end present under walked top o (b - 1) at covered o′
-  collect-skip {b} w pos e =
-      let lt : b - 1 < 32 = omega (arith, w .bound) in
-      let next : b ≡ (b - 1) + 1 = omega arith in
+  collect-skip : (c : ℕ) {at covered : ℕ} {o′ : List ℕ} → Collecting t lo hi depth key first end present under walked top o (c + 1) at covered o′
+      → bit walked c ≡ false → Collecting t lo hi depth key first end present under walked top o c at covered o′
+  collect-skip c w e =
+      let lt : c < 32 = omega (arith, w .bound) in
       record {
         opened = w .opened;
         bound = omega arith;
         fits = w .fits;
         laid =
             laid-skip 160 (deeperBlock depth) (nodesBelow (nodesDeep (depth + 5))) (slotSize depth) key (openRoutes t lo hi depth key)
-            (coverage-sized (nodesDeep (depth + 5))) (w .laid) next (w .bound) (w .fits) (slot-none (w .opened) (b - 1) lt e);
-        slots = slots-skip (w .slots) (b - 1) (λ i. leb (b - 1) i) (passes-down b pos) (rw e);
+            (coverage-sized (nodesDeep (depth + 5))) (w .laid) refl (w .bound) (w .fits) (passed-routes (w .opened) c lt e);
+        slots = slots-skip (w .slots) c (λ i. leb c i) (passes-down c) (rw e);
       }
 
-  -- and so are d of them,
-  collect-past : (d : ℕ) {b k at covered : ℕ} {o′ : List ℕ} → b ≡ k + d → ((i : ℕ) → k ≤ i → i < b → bit walked i ≡ false)
-      → Collecting t lo hi depth key first end present under walked top o b at covered o′
-      → Collecting t lo hi depth key first end present under walked top o k at covered o′
-  collect-past zero {b} {k} e clear w = let same : b ≡ k = omega arith in rw same at w
-  collect-past (suc d) {b} e clear w =
-      collect-past d (omega arith) (λ i low lt. clear i low (omega arith)) (collect-skip w (omega arith) (clear (b - 1) (omega arith) (omega arith)))
-
-  -- down to one past the next that is walked.
+  -- and so are those down to one past the next that is walked.
   collect-down : {b k at covered : ℕ} {o′ : List ℕ} → LastBit walked b k → Collecting t lo hi depth key first end present under walked top o b at covered o′
       → Collecting t lo hi depth key first end present under walked top o k at covered o′
-  collect-down {b} {k} l w = collect-past (b - k) (omega (arith, l .high)) (λ i low lt. l .clear i low lt) w
+  collect-down {at = at} {covered} {o′} last =
+      last-steps (λ c. Collecting t lo hi depth key first end present under walked top o c at covered o′) last (λ i lt off w. collect-skip i w off)
 
   -- The walk starts at the last slot that is walked.
   pub collect-start : {k : ℕ} → Opened t lo hi depth key first end present under walked
@@ -159,12 +157,9 @@ module _ {t : List ℕ} {lo hi depth key : ℕ} {first end : List ℕ} {present 
             laid =
                 laid-next 160 (deeperBlock depth) (nodesBelow (nodesDeep (depth + 5))) (slotSize depth) key (openRoutes t lo hi depth key)
                 (coverage-sized (nodesDeep (depth + 5))) (w .laid) next-is (w .bound) (w .fits)
-                (slot-some (deeperBlock depth) (placeAt (slotSize depth) key 5 (b - 1))
-                (inside wide (slotSize depth) (placeAt (slotSize depth) key 5 (b - 1)) (openRoutes t lo hi depth key)) (laid .words) (slot-routes (w .opened) (b - 1) next-lt e) .1
-                (rw (walked-routes (w .opened) (b - 1) next-lt e) (laid .block)))
-                (laid .pushed);
+                (slot-block (w .opened) (b - 1) next-lt e (laid .words) .1 (laid .block)) (laid .pushed);
             slots =
-                slots-take (w .slots) (b - 1) (λ i. leb (b - 1) i) (passes-down b pos) child covered′
+                slots-take (rw next-is at (w .slots)) (b - 1) (λ i. leb (b - 1) i) (passes-down (b - 1)) child covered′
                 (z ∙ child-bit (w .opened) (b - 1) next-lt e is ∙ rw e) more;
           })
 
@@ -191,79 +186,32 @@ module _ {t : List ℕ} {lo hi depth key : ℕ} {first end : List ℕ} {present 
 
 -- ---- The second walk's reading.
 
--- Wherever a block of the node stands at top, the blocks of its slots from c on stand from `at` to its end.
-pub record Ahead (t : List ℕ) (lo hi depth key top : ℕ) (o : List ℕ) (c at : ℕ) : Type 0 where
-  pub each : (ws : List ℕ) → BlockBy uncovered coverageWord (nodesDeep depth) key (run t lo hi) ws → Begins ws top o
-      → SlotsAhead (deeperBlock depth) (slotSize depth) key (openRoutes t lo hi depth key) c at (top + length ws) o
+-- The blocks of the slots of a node from c on stand in the room from `at` on.
+abbrev AheadIn : List ℕ → ℕ → ℕ → ℕ → ℕ → ℕ → List ℕ → ℕ → ℕ → Type 0
+AheadIn t lo hi depth key top o c at = Ahead uncovered coverageWord (run t lo hi) depth key top o c at
 
 -- The node's word is read: it is its coverage, and the blocks of the slots stand after it.
 pub record WordRead (t : List ℕ) (lo hi depth key top : ℕ) (o : List ℕ) : Type 0 where
   pub within : top < length o
   pub word : IsCoverage (slotSize depth) key (run t lo hi) (getD o top 0)
-  pub ahead : Ahead t lo hi depth key top o 0 (top + 1)
+  pub ahead : AheadIn t lo hi depth key top o 0 (top + 1)
 
 pub word-read : {t : List ℕ} {lo hi depth key top : ℕ} {o : List ℕ} → Node t lo hi depth key
     → StoredBy uncovered coverageWord (nodesDeep depth) key (run t lo hi) top o → WordRead t lo hi depth key top o
-word-read {t} {lo} {hi} {depth} {key} {top} {o} n stored =
-    let s = start (stored .words) (stored .block) (stored .begins) in
-    record { within = s .0; word = s .1; ahead = record { each = λ ws b i. start ws b i .2 } }
-  where
-    start : (ws : List ℕ) → BlockBy uncovered coverageWord (nodesDeep depth) key (run t lo hi) ws → Begins ws top o
-        → (top < length o)
-        × IsCoverage (slotSize depth) key (run t lo hi) (getD o top 0)
-        × SlotsAhead (deeperBlock depth) (slotSize depth) key (openRoutes t lo hi depth key) 0 (top + 1) (top + length ws) o
-    start ws b i =
-        let s =
-        ahead-start (deeperBlock depth) (slotSize depth) key (openRoutes t lo hi depth key) (λ m a rs. coverageWord m a (run t lo hi)) top o ws
-        (block-by-deep uncovered coverageWord key (run t lo hi) ws depth (n .level) (n .fives) (n .deep) .0 b) i in
-        let one : s .0 ≡ s .1 .0 ∷ [] = s .1 .1 in
-        let r = begins-word {w = s .1 .0} {ws = []} (rw one at (s .2)) in
-        let l : length (s .0) ≡ 1 = ap length one in
-        (r .within, rw (r .word) (s .1 .2), rw l at (s .3))
+word-read n stored =
+    let s = own-stored n stored in
+    let one : s .0 ≡ s .1 .0 ∷ [] = s .1 .1 in
+    let r = begins-word {w = s .1 .0} {ws = []} (rw one at (s .2)) in
+    record { within = r .within; word = rw (r .word) (s .1 .2); ahead = ahead-start n (λ u w i. rw (w .1) refl) }
 
-module _ {t : List ℕ} {lo hi depth key : ℕ} {first end : List ℕ} {present under walked : ℕ} (s : Opened t lo hi depth key first end present under walked)
-    {top : ℕ} {o : List ℕ} where
-  module _ {c at : ℕ} (ahead : Ahead t lo hi depth key top o c at) (lt : c < 32) (e : bit walked c ≡ true) where
-    -- The block of slot c, which is walked, is that of the node there; the others stand after it.
-    child-block : (ws : List ℕ) → BlockBy uncovered coverageWord (nodesDeep depth) key (run t lo hi) ws → Begins ws top o
-        → (u : List ℕ)
-        × deeperBlock depth (placeAt (slotSize depth) key 5 c) (runAt t first end (31 + c)) u
-        × Begins u at o
-        × SlotsAhead (deeperBlock depth) (slotSize depth) key (openRoutes t lo hi depth key) (c + 1) (at + length u) (top + length ws) o
-    child-block ws b i =
-        let a = ahead-next (deeperBlock depth) (slotSize depth) key (openRoutes t lo hi depth key) (ahead .each ws b i) lt in
-        let k =
-        slot-some (deeperBlock depth) (placeAt (slotSize depth) key 5 c)
-        (inside wide (slotSize depth) (placeAt (slotSize depth) key 5 c) (openRoutes t lo hi depth key)) (a .0) (slot-routes s c lt e) .0 (a .1) in
-        (a .0, rw (walked-routes s c lt e) at k, a .2, a .3)
-
-    -- It stands at `at`,
-    pub ahead-stored : StoredBy uncovered coverageWord (nodesDeep depth) key (run t lo hi) top o
-        → StoredBy uncovered coverageWord (nodesDeep (depth + 5)) (placeAt (slotSize depth) key 5 c) (runAt t first end (31 + c)) at o
-    ahead-stored stored =
-        let k = child-block (stored .words) (stored .block) (stored .begins) in
-        record { words = k .0; block = k .1; begins = k .2 }
-
-    -- and where its walk ended the others stand.
-    ahead-child : {r : ℕ}
-        → ((u : List ℕ) → BlockBy uncovered coverageWord (nodesDeep (depth + 5)) (placeAt (slotSize depth) key 5 c) (runAt t first end (31 + c)) u
-        → Begins u at o → r ≡ at + length u)
-        → Ahead t lo hi depth key top o (c + 1) r
-    ahead-child ends = record { each = λ ws b i. let k = child-block ws b i in rw (ends (k .0) (k .1) (k .2)) (k .3) }
-
-  -- Slots that are not walked are passed over.
-  ahead-on : {c r at : ℕ} → Ahead t lo hi depth key top o c at → c ≤ r → r ≤ 32 → ((i : ℕ) → c ≤ i → i < r → bit walked i ≡ false)
-      → Ahead t lo hi depth key top o r at
-  ahead-on ahead from upto clear =
-      record {
-        each = λ ws b i. ahead-past (deeperBlock depth) (slotSize depth) key (openRoutes t lo hi depth key) (ahead .each ws b i) from upto
-            (λ c low lt. slot-none s c (omega arith) (clear c low lt));
-      }
-
--- After the last slot the node's block has ended.
-pub ahead-all : {t : List ℕ} {lo hi depth key top c at : ℕ} {o : List ℕ} → Ahead t lo hi depth key top o c at → c ≡ 32
-    → (ws : List ℕ) → BlockBy uncovered coverageWord (nodesDeep depth) key (run t lo hi) ws → Begins ws top o → at ≡ top + length ws
-ahead-all {t} {lo} {hi} {depth} {key} ahead e ws b i = ahead-end (deeperBlock depth) (slotSize depth) key (openRoutes t lo hi depth key) (ahead .each ws b i) e
+-- The block of a slot that is walked stands where those of the slots from it on do.
+pub child-stored : {t : List ℕ} {lo hi depth key : ℕ} {first end : List ℕ} {present under walked : ℕ}
+    → Opened t lo hi depth key first end present under walked → {top c at : ℕ} {o : List ℕ} → AheadIn t lo hi depth key top o c at → c < 32
+    → bit walked c ≡ true → StoredBy uncovered coverageWord (nodesDeep depth) key (run t lo hi) top o
+    → StoredBy uncovered coverageWord (nodesDeep (depth + 5)) (placeAt (slotSize depth) key 5 c) (runAt t first end (31 + c)) at o
+child-stored s {c = c} ahead lt e stored =
+    let k = ahead-stored ahead lt stored in
+    record { words = k .0; block = slot-block s c lt e (k .0) .0 (k .1); begins = k .2 }
 
 -- ---- The second walk.
 
@@ -287,38 +235,34 @@ pub record Found (t : List ℕ) (lo hi depth key : ℕ) (above : Bool) (o : List
 pub record Walking (t : List ℕ) (lo hi depth key : ℕ) (above : Bool) (o : List ℕ) (top : ℕ) (first end hops : List ℕ) (walked entries pushed busy : ℕ)
     (out₀ : List ℕ) (c at n : ℕ) (out : List ℕ) : Type 0 where
   pub found : Found t lo hi depth key above o top first end hops walked entries pushed busy
-  pub ahead : Ahead t lo hi depth key top o c at
+  pub ahead : AheadIn t lo hi depth key top o c at
   pub done : Walked entries hops depth key (maximalSlot t depth key above first end pushed) c n out₀ out
 
 module _ {t : List ℕ} {lo hi depth key : ℕ} {above : Bool} {o : List ℕ} {top : ℕ} {first end hops : List ℕ} {walked entries pushed busy : ℕ} where
-  module _ (f : Found t lo hi depth key above o top first end hops walked entries pushed busy) (c : ℕ) (lt : c < 32) (idle : bit busy c ≡ false) where
-    -- A slot that is not busy is not walked, and no entry begins there,
-    idle-both : (bit walked c ≡ false) × (bit (f .marked) c ≡ false)
-    idle-both = neither walked (f .marked) c (rw (f .either) at idle)
-
-    -- so there is nothing to write at it.
-    idle-slot : (heads (entryAt entries hops depth key) 5 c ≡ []) × (maximalSlot t depth key above first end pushed c ≡ [])
-    idle-slot = (
-      no-heads entries (f .marked) (f .begin) hops depth key c lt (idle-both .1),
-      passed-nothing (f .opened) (f .word) above pushed (f .below) c lt (idle-both .0),
-    )
+  -- At the others there is nothing to do: they are not walked, and no entry begins there.
+  busy-slots : Found t lo hi depth key above o top first end hops walked entries pushed busy
+      → Busy entries hops depth key (maximalSlot t depth key above first end pushed) (openRoutes t lo hi depth key) busy
+  busy-slots f =
+      record {
+        rest = λ c lt idle.
+            let both = neither walked (f .marked) c (rw (f .either) at idle) in (
+              no-heads entries (f .marked) (f .begin) hops depth key c lt (both .1),
+              passed-nothing (f .opened) (f .word) above pushed (f .below) c lt (both .0),
+              passed-routes (f .opened) c lt (both .0),
+            );
+      }
 
   -- So the walk may go on to the next that is busy.
   walk-next : {out₀ out : List ℕ} {c r at n : ℕ} → NextBit busy c r
       → Walking t lo hi depth key above o top first end hops walked entries pushed busy out₀ c at n out
       → Walking t lo hi depth key above o top first end hops walked entries pushed busy out₀ r at n out
-  walk-next {c = c} {r = r} next w =
-      let high = next .high in
-      record {
-        found = w .found;
-        ahead =
-            ahead-on (w .found .opened) (w .ahead) (next .low) high (λ i low lt. idle-both (w .found) i (omega arith) (next .clear i low lt) .0);
-        done = walked-past (w .done) (next .low) high (λ i low lt. idle-slot (w .found) i (omega arith) (next .clear i low lt));
-      }
+  walk-next next w =
+      let b = busy-slots (w .found) in
+      record { found = w .found; ahead = ahead-past b next (w .ahead); done = walked-next b next (w .done) }
 
   -- At first nothing is written.
   pub walk-start : {out : List ℕ} {r : ℕ} → Found t lo hi depth key above o top first end hops walked entries pushed busy
-      → Ahead t lo hi depth key top o 0 (top + 1) → NextBit busy 0 r
+      → AheadIn t lo hi depth key top o 0 (top + 1) → NextBit busy 0 r
       → Walking t lo hi depth key above o top first end hops walked entries pushed busy out r (top + 1) 0 out
   walk-start {out} f ahead next = walk-next next (record { found = f; ahead = ahead; done = walked-none out })
 
@@ -335,9 +279,10 @@ module _ {t : List ℕ} {lo hi depth key : ℕ} {above : Bool} {o : List ℕ} {t
         let f = w .found in
         let deep = f .opened .node .deep in
         let size : wide - (depth + 5) ≡ slotSize depth = omega arith in
+        let read = rw place at ends in
         walk-next next (record {
           found = f;
-          ahead = ahead-child (f .opened) (w .ahead) (b .within) e (rw place at ends);
+          ahead = ahead-next (w .ahead) (b .within) (λ u i. read u (slot-block (f .opened) c (b .within) e u .0 i));
           done = walked-child deep b k six past (rw (size, is, place) at own) same;
         })
 
@@ -347,8 +292,7 @@ module _ {t : List ℕ} {lo hi depth key : ℕ} {above : Bool} {o : List ℕ} {t
         let f = w .found in
         walk-next next (record {
           found = f;
-          ahead =
-              ahead-on (f .opened) (w .ahead) (omega arith) (omega (arith, b .within)) (λ i low lt. let same : c ≡ i = omega arith in rw same at e);
+          ahead = ahead-skip (w .ahead) (b .within) (passed-routes (f .opened) c (b .within) e);
           done = walked-alone b (passed-nothing (f .opened) (f .word) above pushed (f .below) c (b .within) e);
         })
 

@@ -16,22 +16,21 @@ use Rattle.theory.proofs.Lists.{all-map, all-member}
 use Rattle.theory.proofs.Order.{valid-within}
 use Rattle.theory.proofs.Parts.{all-part, table-part, part-agree}
 use Rattle.theory.specs.Shapes.{Within, routed}
-use Rattle.table.specs.Rules.{gives, judge}
-use Rattle.table.specs.Wire.{records, routeAt, routes, Bytes, topHop, tableRules}
+use Rattle.table.specs.Wire.{records, routeAt, routes, topHop}
 use Rattle.table.specs.Facts.{Lawful}
-use Rattle.table.proofs.Tables.{accepted-table}
 use Rattle.words.specs.Bits.{bit}
 use Rattle.words.specs.Positions.{position}
 use Rattle.words.proofs.PositionLaws.{placed}
 use Rattle.positions.specs.Runs.{isAt, inside, headHop, own, orElse, sizeAt, placeAt, cover, hopOf}
 use Rattle.positions.specs.Wide.{widened}
 use Rattle.positions.proofs.Runs.{Run, inside-within}
-use Rattle.positions.proofs.RunsNode.{size-slot, place-aligned, place-nested, above-lt}
+use Rattle.positions.proofs.RunsNode.{size-slot, place-aligned, above-lt}
 use Rattle.positions.proofs.Wide.{all-widen, table-widen, short-widen}
 use Rattle.nodes.specs.Node.{wide, spare, wideAt, run, slotSize, Node}
 use Rattle.nodes.specs.Gathered.{filed, some, runAt, Gathered, Occupied, valueOf, coveringAt}
 use Rattle.nodes.proofs.GatherPlaces.{filed-position}
 use Rattle.nodes.proofs.GatherRuns.{member-run, run-none, run-first, some-run}
+use Rattle.nodes.proofs.OutputLaws.{slot-within}
 
 -- ---- The records of a position, and of a slot.
 
@@ -101,10 +100,6 @@ module _ {t : List ℕ} {lo hi depth key : ℕ} {first end : List ℕ} {present 
     pub slot-occupied : bit occupied c ≡ true → getD first (31 + c) 0 < getD end (31 + c) 0
     slot-occupied on = ltb-true _ _ (sym (has-record 5 c (omega arith) lt) ∙ sym (o c lt) ∙ on)
 
-    -- One whose bit is not set has no route.
-    pub occupied-none : bit occupied c ≡ false → part (filed (slotSize depth) key 5 c) (run t lo hi) ≡ []
-    occupied-none off = sym (g .places 5 c (omega arith) lt) ∙ run-none t _ _ (slot-vacant off)
-
 -- ---- The hops that cover the positions.
 
 -- What the hop of the first of some records says, or the one above: their head's hop, or else the one above.
@@ -172,7 +167,7 @@ module _ {t : List ℕ} {lo hi depth key : ℕ} {first end : List ℕ} {present 
         fives = omega (arith, n .fives);
         deep = omega (arith, all-member inner one .deep, all-member shorts one, n .fives, n .deep);
         aligned = rw size base;
-        small = rw size (omega (arith, place-nested (slotSize depth) key 5 c (omega arith) lt .upto, n .small, slot, whole));
+        small = slot-within depth key c (n .deep) lt (n .small);
         table = rw (slot-records g c lt) (table-part wide _ (n .table));
         within = rw size inner;
         short = shorts;
@@ -181,12 +176,6 @@ module _ {t : List ℕ} {lo hi depth key : ℕ} {first end : List ℕ} {present 
     where
       size : wide - (depth + 5) ≡ slotSize depth
       size = omega (arith, n .deep)
-
-      slot : 2 ^ sizeAt (slotSize depth) 5 ≡ 2 ^ slotSize depth
-      slot = ap (λ (k : ℕ). 2 ^ k) (size-slot (slotSize depth))
-
-      whole : 2 ^ (slotSize depth + 5) ≡ 2 ^ (wide - depth)
-      whole = ap (λ (k : ℕ). 2 ^ k) (omega (arith, n .deep))
 
       base : Aligned (slotSize depth) (placeAt (slotSize depth) key 5 c)
       base =
@@ -234,7 +223,3 @@ root-node s t l =
     top : (b : Bool) → topHop b < 64
     top true = omega arith
     top false = omega arith
-
--- And so are those of an accepted one.
-pub accepted-root : {A : Type 0} (a b : A) (s : Bool) (t : List ℕ) → Bytes t → judge (tableRules s t) a ≡ gives b → Node t 0 (records t) 0 0
-accepted-root a b s t bytes ok = root-node s t (accepted-table a b s t bytes ok .0)

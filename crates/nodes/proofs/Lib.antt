@@ -15,3 +15,4 @@ pub mod RoomNodes
 pub mod GatherLaws
 pub mod MemberLaws
 pub mod OutputWalk
+pub mod BusySlots

@@ -5,7 +5,7 @@ use mathlib.Core.Path.{_≡_, refl, sym, ap, ap₂, _∙_}
 use mathlib.Core.Bool.{Bool, true, false}
 use mathlib.Core.List.{List, [], _∷_, _++_, append-nil}
 use native.Mathlib.Omega.{arith}
-use native.Mathlib.Nat.{add-zero, add-mul, mul-comm, mul-assoc, mul-le-mul-right, mul-lt-mul-of-pos-right, div-add-mod'}
+use native.Mathlib.Nat.{add-zero, add-mul, mul-comm, mul-assoc, mul-le-mul-right, div-add-mod'}
 use native.Mathlib.Numerals.{add-one}
 use lib.Dec.{eqb}
 use lib.ListN.{length, take, drop, length-append, length-drop, drop-of-length-le}
@@ -16,9 +16,10 @@ use Rattle.theory.specs.Routes.{Route}
 use Rattle.table.specs.Wire.{recordOf, bytesOf, laid}
 use Rattle.table.proofs.Laid.{laid-none, laid-then, laid-tail, bytes-append}
 use Rattle.table.proofs.Written.{length-bytes}
-use Rattle.positions.specs.Runs.{placeAt}
+use Rattle.positions.specs.Runs.{sizeAt, placeAt}
 use Rattle.positions.specs.Walk.{headsOf, slotsOf, startsAt, heads, slots}
 use Rattle.positions.specs.Wide.{narrow, narrowed}
+use Rattle.positions.proofs.RunsNode.{place-nested}
 use Rattle.positions.proofs.Wide.{narrowed-append, length-narrow}
 use Rattle.nodes.specs.Node.{wide, spare, slotSize}
 use Rattle.nodes.specs.Output.{wireOf, Wrote, entryAt, slotHead, slotHeads}
@@ -125,13 +126,17 @@ module _ (entries : ℕ) (hops : List ℕ) (depth key c : ℕ) where
   slot-heads zero = refl
   slot-heads (suc l) = ap₂ _++_ (slot-heads l) (slot-head l)
 
--- A slot of a node stands at a wide address.
+-- A slot of a node lies in the wide addresses,
+pub slot-within : (depth key c : ℕ) → depth ≤ 30 → c < 32 → key + 2 ^ (wide - depth) ≤ 2 ^ wide
+    → placeAt (slotSize depth) key 5 c + 2 ^ (wide - (depth + 5)) ≤ 2 ^ wide
+slot-within depth key c deep lt h =
+    let whole : 2 ^ (slotSize depth + 5) ≡ 2 ^ (wide - depth) = ap (λ (k : ℕ). 2 ^ k) (omega arith) in
+    let size : 2 ^ sizeAt (slotSize depth) 5 ≡ 2 ^ (wide - (depth + 5)) = ap (λ (k : ℕ). 2 ^ k) (omega arith) in
+    omega (arith, place-nested (slotSize depth) key 5 c (omega arith) lt .upto)
+
+-- so it stands at one.
 pub slot-below : (depth key c : ℕ) → depth ≤ 30 → c < 32 → key + 2 ^ (wide - depth) ≤ 2 ^ wide → placeAt (slotSize depth) key 5 c < 2 ^ wide
-slot-below depth key c deep b h =
-    let s : wide - depth ≡ slotSize depth + 5 = omega arith in
-    let e : 2 ^ (wide - depth) ≡ 2 ^ slotSize depth * 32 = rw s (pow-add 2 (slotSize depth) 5) in
-    let l : c * 2 ^ slotSize depth < 32 * 2 ^ slotSize depth = mul-lt-mul-of-pos-right b (pow-pos (slotSize depth)) in
-    rw (add-zero (slotSize depth)) (omega arith)
+slot-below depth key c deep lt h = omega (arith, slot-within depth key c deep lt h, pow-pos (wide - (depth + 5)))
 
 -- ---- How many records the slots of a node can have.
 

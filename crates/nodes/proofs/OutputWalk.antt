@@ -104,8 +104,8 @@ module _ {entries : ℕ} {hops : List ℕ} {depth key : ℕ} {slot : ℕ → Lis
           wrote = b .then (n + k) (relaid at ys o′) (wrote-tail o′ ys at (past .1) (past .0) own);
         }
 
-  -- A slot at which no entry begins and that has nothing of its own may be passed over,
-  walked-over : {c n : ℕ} {o o′ : List ℕ} → Walked entries hops depth key slot c n o o′ → c < 32
+  -- A slot at which no entry begins and that has nothing of its own may be passed over.
+  pub walked-over : {c n : ℕ} {o o′ : List ℕ} → Walked entries hops depth key slot c n o o′ → c < 32
       → heads (entryAt entries hops depth key) 5 c ≡ [] → slot c ≡ [] → Walked entries hops depth key slot (c + 1) n o o′
   walked-over {c} {n} w lt none own =
       let count = slots-count (8 * 2 ^ slotSize depth) c n 0 0 (w .few) (omega (arith, pow-pos (slotSize depth))) in
@@ -115,19 +115,6 @@ module _ {entries : ℕ} {hops : List ℕ} {depth key : ℕ} {slot : ℕ → Lis
         sized = w .sized;
         wrote = rw (slots-past (entryAt entries hops depth key) slot c none own) (w .wrote);
       }
-
-  -- and so may k of them.
-  walked-steps : (k : ℕ) {c r n : ℕ} {o o′ : List ℕ} → c + k ≡ r → Walked entries hops depth key slot c n o o′ → r ≤ 32
-      → ((i : ℕ) → c ≤ i → i < r → (heads (entryAt entries hops depth key) 5 i ≡ []) × (slot i ≡ [])) → Walked entries hops depth key slot r n o o′
-  walked-steps zero {c} {r} e w all none = let same : c ≡ r = omega arith in rw same at w
-  walked-steps (suc k) {c} {r} e w all none =
-      let here = none c (omega arith) (omega arith) in
-      walked-steps k {c = c + 1} (omega arith) (walked-over w (omega arith) (here .0) (here .1)) all (λ i a b. none i (omega arith) b)
-
-  -- Slots at which no entry begins and that have nothing of their own may be passed over.
-  pub walked-past : {c r n : ℕ} {o o′ : List ℕ} → Walked entries hops depth key slot c n o o′ → c ≤ r → r ≤ 32
-      → ((i : ℕ) → c ≤ i → i < r → (heads (entryAt entries hops depth key) 5 i ≡ []) × (slot i ≡ [])) → Walked entries hops depth key slot r n o o′
-  walked-past {c} {r} w le all none = walked-steps (r - c) (omega arith) w all none
 
   -- After all 32 the node is written: 6 fewer than 8 records for each of its addresses, or less.
   pub walked-all : {c n : ℕ} {o o′ : List ℕ} → depth ≤ 30 → Walked entries hops depth key slot c n o o′ → 32 ≤ c

@@ -1,46 +1,37 @@
 -- A node's block in the work room, by the blocks of its slots: one slot after another, from the last to the first and from the first on.
 use Prim.Native.Nat.{ℕ, zero, suc, _+_, _-_, _*_, _≤_, _<_}
 use mathlib.Core.Path.{_≡_, refl, sym, ap, subst, _∙_}
-use mathlib.Core.Bool.{Bool, true, false}
 use mathlib.Core.List.{List, [], _∷_, _++_}
 use mathlib.Core.Logic.{_↔_}
 use native.Mathlib.Omega.{arith}
 use lib.ListN.{length}
-use Rattle.theory.specs.Routes.{Route, All}
-use Rattle.theory.proofs.Lists.{all-member}
-use Rattle.theory.proofs.Parts.{part-none}
+use Rattle.theory.specs.Routes.{Route}
 use Rattle.table.specs.Wire.{routesFrom}
-use Rattle.positions.specs.Wide.{widened}
-use Rattle.positions.specs.Runs.{isIn, inside, placeAt}
-use Rattle.positions.proofs.Runs.{is-in, Nested, nested-self, inside-nested}
+use Rattle.table.proofs.Reading.{length-from}
+use Rattle.positions.specs.Runs.{inside, placeAt}
+use Rattle.positions.proofs.Runs.{Nested, nested-self, inside-nested}
 use Rattle.positions.proofs.RunsNode.{size-slot, place-nested}
+use Rattle.positions.proofs.Wide.{length-widen}
 use Rattle.nodes.specs.Node.{wide, spare, run, slotSize}
 use Rattle.nodes.specs.Room.{SlotBlock, SlotBlocks, BlockBy, Block, everywhere, nodesDeep}
 
 -- A slot lies in its node.
-pub slot-nested : (m a c : ℕ) → c < 32 → Nested m (placeAt m a 5 c) (m + 5) a
+slot-nested : (m a c : ℕ) → c < 32 → Nested m (placeAt m a 5 c) (m + 5) a
 slot-nested m a c lt = subst (λ (k : ℕ). Nested k (placeAt m a 5 c) (m + 5) a) (size-slot m) (place-nested m a 5 c (omega arith) lt)
 
 -- ---- The block of a slot.
 
 -- A run has a route for each of its records.
 pub run-length : (t : List ℕ) (lo hi : ℕ) → length (run t lo hi) ≡ hi - lo
-unfolding routesFrom
-run-length t lo hi = go lo (hi - lo)
-  where
-    go : (i k : ℕ) → length (widened spare (routesFrom t i k)) ≡ k
-    go i zero = refl
-    go i (suc k) = ap suc (go (suc i) k)
+run-length t lo hi = length-widen spare (routesFrom t lo (hi - lo)) ∙ length-from t lo (hi - lo)
 
 module _ (block : ℕ → List Route → List ℕ → Type 0) (a : ℕ) where
   -- A slot without a route has no words.
-  pub slot-none : (t : List Route) → length t ≡ 0 → SlotBlock block a t []
-  slot-none [] e = refl
-  slot-none (r ∷ t) e = absurd (omega arith)
+  pub slot-none : {t : List Route} → t ≡ [] → SlotBlock block a t []
+  slot-none e = rw e refl
 
-  pub slot-empty : (t : List Route) (u : List ℕ) → length t ≡ 0 → SlotBlock block a t u → u ≡ []
-  slot-empty [] u e b = b
-  slot-empty (r ∷ t) u e b = absurd (omega arith)
+  pub slot-empty : {t : List Route} {u : List ℕ} → t ≡ [] → SlotBlock block a t u → u ≡ []
+  slot-empty e b = rw e at b
 
   -- That of one with a route is the block of the node there.
   pub slot-some : (t : List Route) (u : List ℕ) → 0 < length t → SlotBlock block a t u ↔ block a t u
@@ -80,14 +71,6 @@ module _ (block : ℕ → List Route → List ℕ → Type 0) (m a : ℕ) (t : L
       let f : 31 - (32 - (c + 1)) ≡ c = omega arith in
       rw f at (rw e at b)
 
--- The smallest slots, below the addresses of the wire, have no routes of lengths up to 32.
-pub deepest-none : (m b : ℕ) {t : List Route} → m < 3 → All (λ r. r .len ≤ 32) t → inside wide m b t ≡ []
-deepest-none m b {t} lt short = part-none (isIn wide m b) t (λ r i. go r (all-member short i) (isIn wide m b r) refl)
-  where
-    go : (r : Route) → r .len ≤ 32 → (x : Bool) → isIn wide m b r ≡ x → x ≡ false
-    go r le true e = absurd (omega (arith, is-in wide m b r .0 e))
-    go r le false e = refl
-
 -- ---- The block of a node.
 
 -- Are ws the own words of the node (m + 5, a), then the blocks of its slots?
@@ -98,10 +81,6 @@ NodeBlock own block m a t ws = (u : List ℕ) × (v : List ℕ) × (ws ≡ u ++ 
 pub deep-step : (depth level : ℕ) → depth ≡ level * 5 → depth ≤ 30
     → (nodesDeep depth ≡ suc (nodesDeep (depth + 5))) × (5 * nodesDeep (depth + 5) ≡ slotSize depth)
 deep-step depth level e le = omega arith
-
--- So many nodes deep, a node has the bits below its depth.
-pub deep-size : (depth level : ℕ) → depth ≡ level * 5 → depth ≤ 35 → 5 * nodesDeep depth ≡ wide - depth
-deep-size depth level e le = omega arith
 
 module _ (deeper : ℕ → ℕ → List Route → List Route) (own : ℕ → ℕ → List Route → List ℕ → Type 0) (a : ℕ) (t : List Route) (ws : List ℕ) where
   -- The block of a node by its parts: its own words, by its routes, and the blocks of its slots that are walked, by those of its routes.

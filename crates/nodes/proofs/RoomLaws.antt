@@ -5,7 +5,7 @@ use mathlib.Core.List.{List, [], _∷_, _++_, append-assoc}
 use native.Mathlib.Numerals.{add-one}
 use native.Mathlib.Omega.{arith}
 use lib.ListN.{length, getD, set, take, drop, length-append, length-take, length-drop, take-append-drop}
-use lib.Seq.{take-append-le, take-take, drop-at, drop-cons, drop-drop, drop-append-seam, length-take-le, sets, sets-eq, set-comm}
+use lib.Seq.{take-append-le, take-take, drop-at, drop-cons, drop-drop, drop-append-seam, length-take-le, sets, sets-eq}
 use Rattle.nodes.specs.Room.{Pushed, Begins}
 
 -- ---- Laying words.
@@ -40,17 +40,12 @@ pushed-sets ws top r o e h = record { ends = e; laid = sets-eq ws o r (omega ari
 pub pushed-word : (w top : ℕ) (o : List ℕ) → 1 ≤ top → top ≤ length o → Pushed (w ∷ []) top (top - 1) o (set o (top - 1) w)
 pushed-word w top o low h = pushed-sets (w ∷ []) top (top - 1) o (omega arith) h
 
--- Two words stored, the first first or the second first.
+-- Two words stored.
 pub pushed-two : (a b top : ℕ) (o : List ℕ) → 2 ≤ top → top ≤ length o
     → Pushed (a ∷ b ∷ []) top (top - 2) o (set (set o (top - 2) a) (top - 1) b)
 pushed-two a b top o low h =
     let e : top - 1 ≡ suc (top - 2) = omega arith in
     rw e (pushed-sets (a ∷ b ∷ []) top (top - 2) o (omega arith) h)
-
-pub pushed-two-back : (a b top : ℕ) (o : List ℕ) → 2 ≤ top → top ≤ length o
-    → Pushed (a ∷ b ∷ []) top (top - 2) o (set (set o (top - 1) b) (top - 2) a)
-pushed-two-back a b top o low h =
-    rw (set-comm o (top - 1) (top - 2) b a (λ e. omega arith)) (pushed-two a b top o low h)
 
 -- ---- Reading words.
 

@@ -26,10 +26,6 @@ pub some-number : (t : List Route) (n : ℕ) → 0 < length t → orNone t n ≡
 some-number [] n h = absurd (omega arith)
 some-number (r ∷ t) n h = refl
 
-pub no-number : (t : List Route) (n : ℕ) → length t ≡ 0 → orNone t n ≡ 0
-no-number [] n e = refl
-no-number (r ∷ t) n e = absurd (omega arith)
-
 -- One more slot.
 pub slot-nodes-next : (nodes : ℕ → List Route → ℕ) (m a : ℕ) (t : List Route) (c : ℕ)
     → slotNodes nodes m a t (c + 1) ≡ slotNodes nodes m a t c + nodesAt nodes m a t c

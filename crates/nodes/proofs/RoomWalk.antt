@@ -1,15 +1,15 @@
 -- The loops over a node's slots, a step at a time: that which lays the blocks of the slots from the last to the first, then the node's own
 -- words, and that which reads the own words, then the blocks from the first slot to the last.
-use Prim.Native.Nat.{ℕ, zero, suc, _+_, _-_, _*_, _≤_, _<_}
+use Prim.Native.Nat.{ℕ, _+_, _*_, _≤_, _<_}
 use mathlib.Core.Path.{_≡_, refl, ap, _∙_}
 use mathlib.Core.List.{List, [], _++_}
 use native.Mathlib.Omega.{arith}
 use lib.ListN.{length, length-append}
 use Rattle.theory.specs.Routes.{Route}
 use Rattle.positions.specs.Runs.{inside, placeAt}
-use Rattle.nodes.specs.Node.{wide}
-use Rattle.nodes.specs.Room.{Pushed, Begins, slotNodes, SlotsLaid, SlotsAhead}
-use Rattle.nodes.proofs.RoomBlocks.{BlockAt, NodeBlock, slot-none, slot-empty, slots-start, slots-down, slots-up, slots-end}
+use Rattle.nodes.specs.Node.{wide, run, slotSize, Node}
+use Rattle.nodes.specs.Room.{Pushed, Begins, BlockBy, nodesDeep, slotNodes, StoredBy, SlotsLaid, SlotsAhead}
+use Rattle.nodes.proofs.RoomBlocks.{BlockAt, NodeBlock, slot-none, slot-empty, slots-start, slots-down, slots-up, slots-end, block-by-deep}
 use Rattle.nodes.proofs.RoomLaws.{pushed-none, pushed-then, pushed-length, begins-left, begins-right}
 use Rattle.nodes.proofs.RoomSizes.{Sized, slot-length, room-step}
 
@@ -35,8 +35,8 @@ module _ (most : ℕ) (block : ℕ → List Route → List ℕ → Type 0) (node
         }
 
     -- Slot c has no route.
-    pub laid-skip : length (inside wide m (placeAt m a 5 c) t) ≡ 0 → SlotsLaid most block nodes m a t c top at o o₁
-    laid-skip z = laid-next (slot-none block (placeAt m a 5 c) (inside wide m (placeAt m a 5 c) t) z) (pushed-none at o₁)
+    pub laid-skip : inside wide m (placeAt m a 5 c) t ≡ [] → SlotsLaid most block nodes m a t c top at o o₁
+    laid-skip none = laid-next (slot-none block (placeAt m a 5 c) none) (pushed-none at o₁)
 
   -- The room keeps its length.
   pub laid-length : {c top at : ℕ} {o o₁ : List ℕ} → SlotsLaid most block nodes m a t c top at o o₁ → top ≤ length o → length o₁ ≡ length o
@@ -50,56 +50,87 @@ module _ (most : ℕ) (block : ℕ → List Route → List ℕ → Type 0) (node
 
 -- ---- Reading.
 
-module _ (block : ℕ → List Route → List ℕ → Type 0) (m a : ℕ) (t : List Route) where
-  -- The own words are read: the blocks of the slots stand after them.
-  pub ahead-start : (own : ℕ → ℕ → List Route → List ℕ → Type 0) (top : ℕ) (o ws : List ℕ) → NodeBlock own block m a t ws → Begins ws top o
-      → (u : List ℕ) × own m a t u × Begins u top o × SlotsAhead block m a t 0 (top + length u) (top + length ws) o
-  ahead-start own top o ws (u, v, e, w, s) b =
-      let d : Begins (u ++ v) top o = rw e at b in
-      let n : length ws ≡ length u + length v = ap length e ∙ length-append u v in
-      (u, w, begins-left u v top o d, record { words = v; begins = begins-right u v top o d; blocks = s; ends = omega arith })
+-- Wherever a block of the node begins at top, the blocks of its slots from c on stand from `at` to the block's end.
+pub record Ahead (deeper : ℕ → ℕ → List Route → List Route) (own : ℕ → ℕ → List Route → List ℕ → Type 0) (t : List Route) (depth key top : ℕ)
+    (o : List ℕ) (c at : ℕ) : Type 0 where
+  pub each : (ws : List ℕ) → BlockBy deeper own (nodesDeep depth) key t ws → Begins ws top o
+      → SlotsAhead (BlockBy deeper own (nodesDeep (depth + 5))) (slotSize depth) key (deeper (slotSize depth) key t) c at (top + length ws) o
 
-  module _ {c at end : ℕ} {o : List ℕ} (h : SlotsAhead block m a t c at end o) where
-    -- The block of slot c stands there, and after it those of the others.
-    pub ahead-next : c < 32 → (u : List ℕ) × BlockAt block m a t c u × Begins u at o × SlotsAhead block m a t (c + 1) (at + length u) end o
-    ahead-next lt =
-        let s = slots-up block m a t c lt (h .blocks) in
-        let u = s .0 in
-        let v = s .1 in
-        let e : h .words ≡ u ++ v = s .2 in
-        let d : Begins (u ++ v) at o = rw e at (h .begins) in
-        let n : length (h .words) ≡ length u + length v = ap length e ∙ length-append u v in
-        let z = h .ends in (
-          u,
-          s .3,
-          begins-left u v at o d,
-          record { words = v; begins = begins-right u v at o d; blocks = s .4; ends = omega arith },
-        )
+-- The own words of a node stand where its block does, and the blocks of its slots after them.
+own-first : (deeper : ℕ → ℕ → List Route → List Route) (own : ℕ → ℕ → List Route → List ℕ → Type 0) {t : List ℕ} {lo hi depth key : ℕ} (top : ℕ) (o : List ℕ)
+    → Node t lo hi depth key → (ws : List ℕ) → BlockBy deeper own (nodesDeep depth) key (run t lo hi) ws → Begins ws top o
+    → (u : List ℕ)
+    × own (slotSize depth) key (run t lo hi) u
+    × Begins u top o
+    × SlotsAhead (BlockBy deeper own (nodesDeep (depth + 5))) (slotSize depth) key (deeper (slotSize depth) key (run t lo hi)) 0 (top + length u)
+    (top + length ws) o
+own-first deeper own {t} {lo} {hi} {depth} {key} top o n ws b i =
+    let p = block-by-deep deeper own key (run t lo hi) ws depth (n .level) (n .fives) (n .deep) .0 b in
+    let u = p .0 in
+    let v = p .1 in
+    let e : ws ≡ u ++ v = p .2 in
+    let d : Begins (u ++ v) top o = rw e at i in
+    let l : length ws ≡ length u + length v = ap length e ∙ length-append u v in
+    (u, p .3, begins-left u v top o d, record { words = v; begins = begins-right u v top o d; blocks = p .4; ends = omega arith })
 
-    -- Slot c has no route.
-    pub ahead-skip : c < 32 → length (inside wide m (placeAt m a 5 c) t) ≡ 0 → SlotsAhead block m a t (c + 1) at end o
-    ahead-skip lt z =
-        let s = ahead-next lt in
-        let e : s .0 ≡ [] = slot-empty block (placeAt m a 5 c) (inside wide m (placeAt m a 5 c) t) (s .0) z (s .1) in
-        let n : at + length (s .0) ≡ at = rw e (omega arith) in
-        rw n at (s .3)
+module _ {deeper : ℕ → ℕ → List Route → List Route} {own : ℕ → ℕ → List Route → List ℕ → Type 0} {t : List ℕ} {lo hi depth key top : ℕ} {o : List ℕ}
+    (n : Node t lo hi depth key) where
+  -- Of a node that is stored they are read there.
+  pub own-stored : StoredBy deeper own (nodesDeep depth) key (run t lo hi) top o → (u : List ℕ) × own (slotSize depth) key (run t lo hi) u × Begins u top o
+  own-stored s = let p = own-first deeper own top o n (s .words) (s .block) (s .begins) in (p .0, p .1, p .2)
 
-    -- After the last slot the block has ended.
-    pub ahead-end : c ≡ 32 → at ≡ end
-    ahead-end e =
-        let z : length (h .words) ≡ 0 = ap length (slots-end block m a t c e (h .blocks)) in
-        let n = h .ends in
-        omega arith
+  -- Where they end the blocks of the slots stand.
+  pub ahead-start : {at : ℕ} → ((u : List ℕ) → own (slotSize depth) key (run t lo hi) u → Begins u top o → at ≡ top + length u)
+      → Ahead deeper own (run t lo hi) depth key top o 0 at
+  ahead-start ends = record { each = λ ws b i. let p = own-first deeper own top o n ws b i in rw (ends (p .0) (p .1) (p .2)) (p .3) }
 
-  -- Slots without a route are passed over, d of them.
-  ahead-steps : (d : ℕ) {c r at end : ℕ} {o : List ℕ} → c + d ≡ r → r ≤ 32
-      → ((i : ℕ) → c ≤ i → i < r → length (inside wide m (placeAt m a 5 i) t) ≡ 0) → SlotsAhead block m a t c at end o
-      → SlotsAhead block m a t r at end o
-  ahead-steps zero {c} {r} e all none h = let same : c ≡ r = omega arith in rw same at h
-  ahead-steps (suc d) {c} e all none h =
-      ahead-steps d {c = c + 1} (omega arith) all (λ i low lt. none i (omega arith) lt) (ahead-skip h (omega arith) (none c (omega arith) (omega arith)))
+module _ {deeper : ℕ → ℕ → List Route → List Route} {own : ℕ → ℕ → List Route → List ℕ → Type 0} {t : List Route} {depth key top : ℕ} {o : List ℕ}
+    {c at : ℕ} (h : Ahead deeper own t depth key top o c at) where
+  -- The block of slot c stands at `at`, and after it those of the others.
+  first-ahead : c < 32 → (ws : List ℕ) → BlockBy deeper own (nodesDeep depth) key t ws → Begins ws top o
+      → (u : List ℕ)
+      × BlockAt (BlockBy deeper own (nodesDeep (depth + 5))) (slotSize depth) key (deeper (slotSize depth) key t) c u
+      × Begins u at o
+      × SlotsAhead (BlockBy deeper own (nodesDeep (depth + 5))) (slotSize depth) key (deeper (slotSize depth) key t) (c + 1) (at + length u)
+      (top + length ws) o
+  first-ahead lt ws b i =
+      let a = h .each ws b i in
+      let s = slots-up (BlockBy deeper own (nodesDeep (depth + 5))) (slotSize depth) key (deeper (slotSize depth) key t) c lt (a .blocks) in
+      let u = s .0 in
+      let v = s .1 in
+      let e : a .words ≡ u ++ v = s .2 in
+      let d : Begins (u ++ v) at o = rw e at (a .begins) in
+      let l : length (a .words) ≡ length u + length v = ap length e ∙ length-append u v in
+      let z = a .ends in
+      (u, s .3, begins-left u v at o d, record { words = v; begins = begins-right u v at o d; blocks = s .4; ends = omega arith })
 
-  -- So are all up to slot r.
-  pub ahead-past : {c r at end : ℕ} {o : List ℕ} → SlotsAhead block m a t c at end o → c ≤ r → r ≤ 32
-      → ((i : ℕ) → c ≤ i → i < r → length (inside wide m (placeAt m a 5 i) t) ≡ 0) → SlotsAhead block m a t r at end o
-  ahead-past {c} {r} h from upto none = ahead-steps (r - c) (omega arith) upto none h
+  -- In a node that is stored it is read there.
+  pub ahead-stored : c < 32 → StoredBy deeper own (nodesDeep depth) key t top o
+      → (u : List ℕ)
+      × BlockAt (BlockBy deeper own (nodesDeep (depth + 5))) (slotSize depth) key (deeper (slotSize depth) key t) c u
+      × Begins u at o
+  ahead-stored lt s = let p = first-ahead lt (s .words) (s .block) (s .begins) in (p .0, p .1, p .2)
+
+  -- Where it ends those of the others stand.
+  pub ahead-next : {r : ℕ} → c < 32
+      → ((u : List ℕ) → BlockAt (BlockBy deeper own (nodesDeep (depth + 5))) (slotSize depth) key (deeper (slotSize depth) key t) c u
+      → Begins u at o → r ≡ at + length u)
+      → Ahead deeper own t depth key top o (c + 1) r
+  ahead-next lt ends = record { each = λ ws b i. let p = first-ahead lt ws b i in rw (ends (p .0) (p .1) (p .2)) (p .3) }
+
+  -- A slot without a route has none.
+  pub ahead-skip : c < 32 → inside wide (slotSize depth) (placeAt (slotSize depth) key 5 c) (deeper (slotSize depth) key t) ≡ []
+      → Ahead deeper own t depth key top o (c + 1) at
+  ahead-skip lt none =
+      ahead-next lt (λ u b i.
+      let e : u ≡ [] = slot-empty (BlockBy deeper own (nodesDeep (depth + 5))) (placeAt (slotSize depth) key 5 c) none b in
+      rw e (omega arith))
+
+  -- After the last slot the block has ended.
+  pub ahead-end : c ≡ 32 → (ws : List ℕ) → BlockBy deeper own (nodesDeep depth) key t ws → Begins ws top o → at ≡ top + length ws
+  ahead-end e ws b i =
+      let a = h .each ws b i in
+      let z : length (a .words) ≡ 0 =
+      ap length (slots-end (BlockBy deeper own (nodesDeep (depth + 5))) (slotSize depth) key (deeper (slotSize depth) key t) c e (a .blocks)) in
+      let l = a .ends in
+      omega arith

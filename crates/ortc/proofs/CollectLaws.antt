@@ -25,6 +25,7 @@ use Rattle.nodes.proofs.RoomLaws.{pushed-length}
 use Rattle.nodes.proofs.RoomBlocks.{block-deep}
 use Rattle.nodes.proofs.RoomSizes.{Sized, nodes-below-deep, block-length, room-child}
 use Rattle.nodes.proofs.RoomWalk.{laid-start, laid-next, laid-skip, laid-own}
+use Rattle.nodes.proofs.BusySlots.{last-steps}
 use Rattle.writer.specs.Write.{low, high}
 use Rattle.ortc.specs.Answers.{answerIn, ShowsNode, setWords}
 use Rattle.ortc.specs.Packed.{stored, wordsOf, packed}
@@ -188,24 +189,14 @@ module _ {t : List ℕ} {lo hi depth key : ℕ} {first end : List ℕ} {present 
           ahead = λ i before. h .ahead i (omega arith);
           shown = from-slot (Shown inNode depth key slots) c (rw (vacant-sets c lt none) (h .ahead c (omega arith))) (h .shown);
           laid = laid-skip 160 _ _ (slotSize depth) key (run t lo hi) (sets-sized inNode (nodesDeep (depth + 5))) (h .laid) refl (omega arith) within
-              (ap length (no-child g c lt none));
+              (no-child g c lt none);
         }
 
-    -- and so are d of them from c on.
-    collecting-down : (d c : ℕ) → c + d ≤ 32 → ((i : ℕ) → c ≤ i → i < c + d → getD end (31 + i) 0 ≤ getD first (31 + i) 0)
-        → At (c + d) top at slots o o₁ → At c top at slots o o₁
-    collecting-down zero c le none h = let e : c + 0 ≡ c = omega arith in rw e at h
-    collecting-down (suc d) c le none h =
-        let e : c + suc d ≡ c + 1 + d = omega arith in
-        collecting-leaf c (omega arith) (none c (omega arith) (omega arith))
-        (collecting-down d (c + 1) (omega arith) (λ i from lt. none i (omega arith) (omega arith)) (rw e at h))
-
-    -- The walk goes on from slot b to one past the last slot before it that has a record.
+    -- and so are those down to one past the last slot before b that has a record.
     pub collecting-seek : {occupied b r : ℕ} → Occupied t lo hi depth key occupied → LastBit occupied b r → b ≤ 32
         → At b top at slots o o₁ → At r top at slots o o₁
-    collecting-seek {occupied} {b} {r} occ last le h =
-        let e : b ≡ r + (b - r) = omega (arith, last .high) in
-        collecting-down (b - r) r (omega arith) (λ i from lt. slot-vacant g occupied occ i (omega arith) (last .clear i from (omega arith))) (rw e at h)
+    collecting-seek {occupied} occ last le =
+        last-steps (λ c. At c top at slots o o₁) last (λ i lt off. collecting-leaf i (omega arith) (slot-vacant g occupied occ i (omega arith) off))
 
   -- Slot c, which has records:
   module _ {top at : ℕ} {slots o o₁ : List ℕ} {b : ℕ} (h : At b top at slots o o₁)

@@ -1,5 +1,5 @@
 -- The second walk of a node: its rewrite by its slots, the rewrite of a slot without routes, and the loop over the slots, a step at a time.
-use Prim.Native.Nat.{ℕ, zero, suc, _+_, _-_, _*_, _/_, _^_, _≤_, _<_}
+use Prim.Native.Nat.{ℕ, _+_, _-_, _*_, _/_, _^_, _≤_, _<_}
 use mathlib.Core.Path.{_≡_, refl, sym, ap, _∙_}
 use mathlib.Core.Bool.{Bool, false, cond}
 use mathlib.Core.List.{List, [], _∷_}
@@ -17,19 +17,19 @@ use Rattle.words.specs.Bits.{bit, NextBit}
 use Rattle.words.specs.Positions.{position}
 use Rattle.words.proofs.BitLaws.{neither}
 use Rattle.positions.specs.Runs.{hopOf, orElse, sizeAt, placeAt}
-use Rattle.positions.specs.Walk.{walk, stateAt, heads, slots}
+use Rattle.positions.specs.Walk.{walk, stateAt, slots}
 use Rattle.positions.specs.Walks.{ortcOut, ortcNext}
 use Rattle.positions.proofs.Modes.{ortc-walk}
 use Rattle.positions.proofs.Slots.{walk-slots, slots-agree}
 use Rattle.nodes.specs.Node.{wide, run, slotSize, Node}
 use Rattle.nodes.specs.Gathered.{runAt, Gathered, Occupied, coveringAt}
 use Rattle.nodes.specs.Output.{Wrote, entryAt, HeadSlots}
-use Rattle.nodes.specs.Room.{Begins, Block, nodesDeep, Stored, SlotsAhead}
+use Rattle.nodes.specs.Room.{Begins, Block, everywhere, nodesDeep, Stored}
 use Rattle.nodes.proofs.GatherLaws.{no-child, slot-vacant, covering-le}
 use Rattle.nodes.proofs.GatherRuns.{run-none}
-use Rattle.nodes.proofs.OutputWalk.{Walked, walked-none, walked-past, walked-all, no-heads}
-use Rattle.nodes.proofs.RoomBlocks.{slot-nested, block-deep}
-use Rattle.nodes.proofs.RoomWalk.{ahead-start, ahead-next, ahead-skip, ahead-end}
+use Rattle.nodes.proofs.OutputWalk.{Walked, walked-none, walked-all, no-heads}
+use Rattle.nodes.proofs.RoomWalk.{Ahead, own-stored, ahead-start, ahead-stored, ahead-next, ahead-skip, ahead-end}
+use Rattle.nodes.proofs.BusySlots.{Busy, walked-next, ahead-past}
 use Rattle.ortc.specs.Answers.{answerIn, ShowsNode, setWords, assignedAt, entryOver, LeafSlots}
 use Rattle.ortc.specs.Packed.{packed}
 use Rattle.ortc.proofs.AssignLaws.{state-assigned, AssignedHop, hasEntry, leaf-entry, entries-are}
@@ -81,20 +81,10 @@ leaf-hop covering fill p q = go (decLt covering 64)
 -- ---- A node in the room.
 
 -- The sets of a node whose block stands in the room are read there.
-pub own-stored : {f : ℕ → Answer} {t : List ℕ} {lo hi depth key top : ℕ} {o : List ℕ} → Node t lo hi depth key
+pub sets-stored : {f : ℕ → Answer} {t : List ℕ} {lo hi depth key top : ℕ} {o : List ℕ} → Node t lo hi depth key
     → Stored (setWords f) (nodesDeep depth) key (run t lo hi) top o
     → (xs : List ℕ) × ShowsNode f (slotSize depth) key xs × Begins (packed xs) top o
-own-stored {f} {t} {lo} {hi} {depth} {key} {top} {o} n s =
-    let b = block-deep (setWords f) key (run t lo hi) (s .words) depth (n .level) (n .fives) (n .deep) .0 (s .block) in
-    let a =
-    ahead-start (Block (setWords f) (nodesDeep (depth + 5))) (slotSize depth) key (run t lo hi) (setWords f) top o (s .words) b (s .begins) in
-    (a .1 .0, a .1 .1, rw (a .1 .2) at (a .2))
-
--- Wherever a block of the node begins at top, the blocks of its slots from c on stand from `at` to the block's end.
-abbrev pub Ahead : (ℕ → Answer) → List Route → ℕ → ℕ → ℕ → List ℕ → ℕ → ℕ → Type 0
-Ahead f t depth key top o c at =
-    (ws : List ℕ) → Block (setWords f) (nodesDeep depth) key t ws → Begins ws top o
-    → SlotsAhead (Block (setWords f) (nodesDeep (depth + 5))) (slotSize depth) key t c at (top + length ws) o
+sets-stored n s = let a = own-stored n s in (a .1 .0, a .1 .1, rw (a .1 .2) at (a .2))
 
 -- ---- The slots of a node.
 
@@ -116,7 +106,7 @@ leaf-none t first end covering hops depth key fill leaves marks deep fill-low c 
     (sym (marks c (v .0) lt (v .2)) ∙ clear)
 
 -- What is found of a node before its slots are walked: the records of its places, what covers them and what they are assigned, its rewrite by its
--- slots, and the slots that are busy: at each other one there is no record and nothing to write.
+-- slots, and the slots that are busy.
 pub record Opened (t : List ℕ) (lo hi depth key inherited fill above : ℕ) (work : List ℕ) (top : ℕ) (first end covering hops : List ℕ)
     (entries busy : ℕ) : Type 0 where
   pub node : Node t lo hi depth key
@@ -128,15 +118,18 @@ pub record Opened (t : List ℕ) (lo hi depth key inherited fill above : ℕ) (w
   pub rewritten : ortc smallest wide (answerIn (run t lo hi) (hopOf inherited) (hopOf fill)) (wide - depth) key (hopOf above)
       ≡ slots (entryAt entries hops depth key) (slotRewrite t first end covering hops depth key fill) 32
   pub stored : Stored (setWords (answerIn (run t lo hi) (hopOf inherited) (hopOf fill))) (nodesDeep depth) key (run t lo hi) top work
-  pub quiet : (c : ℕ) → c < 32 → bit busy c ≡ false
-      → (getD end (31 + c) 0 ≤ getD first (31 + c) 0)
-      × (heads (entryAt entries hops depth key) 5 c ≡ []) × (slotRewrite t first end covering hops depth key fill c ≡ [])
+  pub rest : Busy entries hops depth key (slotRewrite t first end covering hops depth key fill) (run t lo hi) busy
+
+-- The blocks of its slots from c on stand in the room from `at` on.
+abbrev AheadIn : List ℕ → ℕ → ℕ → ℕ → ℕ → ℕ → ℕ → ℕ → List ℕ → ℕ → ℕ → Type 0
+AheadIn t lo hi depth key inherited fill top o c at =
+    Ahead everywhere (setWords (answerIn (run t lo hi) (hopOf inherited) (hopOf fill))) (run t lo hi) depth key top o c at
 
 -- What the walk over its slots has done before slot c: it has written those before it, and read their blocks.
 pub record Walking (t : List ℕ) (lo hi depth key inherited fill above : ℕ) (work : List ℕ) (top : ℕ) (first end covering hops : List ℕ) (entries : ℕ)
     (c at n : ℕ) (out₀ out : List ℕ) : Type 0 where
   pub walked : Walked entries hops depth key (slotRewrite t first end covering hops depth key fill) c n out₀ out
-  pub ahead : Ahead (answerIn (run t lo hi) (hopOf inherited) (hopOf fill)) (run t lo hi) depth key top work c at
+  pub ahead : AheadIn t lo hi depth key inherited fill top work c at
 
 module _ {t : List ℕ} {lo hi depth key : ℕ} {first end : List ℕ} {present : ℕ} (n : Node t lo hi depth key)
     (g : Gathered t lo hi depth key first end present) (inherited fill above : ℕ) (inherited-low : inherited ≤ 64) (fill-low : fill ≤ 64)
@@ -164,14 +157,16 @@ module _ {t : List ℕ} {lo hi depth key : ℕ} {first end : List ℕ} {present 
             (λ c. ortc smallest wide f (slotSize depth) (placeAt (slotSize depth) key 5 c) (assignedAt f (slotSize depth) key (hopOf above) 4 (c / 2)))
             (slotRewrite t first end covering hops depth key fill) slot 32 (omega arith);
         stored = s;
-        quiet = λ c lt clear.
-            let p = neither (bitOr occupied marked) leaves c clear in
-            let q = neither occupied marked c (p .0) in
-            let none = slot-vacant g occupied taken c lt (q .0) in (
-              none,
-              no-heads entries marked begins hops depth key c lt (q .1),
-              leaf-none t first end covering hops depth key fill leaves own (n .deep) fill-low c lt none (covers-low c lt) (hops-low c lt) (p .1),
-            );
+        rest = record {
+          rest = λ c lt clear.
+              let p = neither (bitOr occupied marked) leaves c clear in
+              let q = neither occupied marked c (p .0) in
+              let none = slot-vacant g occupied taken c lt (q .0) in (
+                no-heads entries marked begins hops depth key c lt (q .1),
+                leaf-none t first end covering hops depth key fill leaves own (n .deep) fill-low c lt none (covers-low c lt) (hops-low c lt) (p .1),
+                no-child g c lt none,
+              );
+        };
       }
     where
       f : ℕ → Answer
@@ -181,7 +176,7 @@ module _ {t : List ℕ} {lo hi depth key : ℕ} {first end : List ℕ} {present 
       size = omega (arith, n .deep)
 
       shown : (xs : List ℕ) × ShowsNode f (slotSize depth) key xs × Begins (packed xs) top work
-      shown = own-stored n s
+      shown = sets-stored n s
 
       covers : (c : ℕ) → c < 32 → getD covering (15 + c / 2) 0 ≡ coveringAt t first end inherited 4 (c / 2)
       covers c lt = cover 4 (c / 2) (omega arith) (omega arith)
@@ -212,82 +207,42 @@ module _ {t : List ℕ} {lo hi depth key inherited fill above : ℕ} {work : Lis
   walking-start at out tops =
       record {
         walked = walked-none out;
-        ahead = λ ws b s.
-            let f = answerIn (run t lo hi) (hopOf inherited) (hopOf fill) in
-            let n = q .node in
-            let d = block-deep (setWords f) key (run t lo hi) ws depth (n .level) (n .fives) (n .deep) .0 b in
-            let a = ahead-start (Block (setWords f) (nodesDeep (depth + 5))) (slotSize depth) key (run t lo hi) (setWords f) top work ws d s in
-            rw (tops (a .1 .0) (rw (a .1 .2) at (a .2))) (rw (a .1 .2) at (a .3));
+        ahead = ahead-start (q .node) (λ u w s. rw (w .2) (tops (w .0) (rw (w .2) at s)));
       }
 
   module _ (c : ℕ) (lt : c < 32) where
-    -- The size of a slot.
-    slot-size : wide - (depth + 5) ≡ slotSize depth
-    slot-size = omega (arith, q .node .deep)
-
-    -- A slot stands in the wide addresses.
-    pub slot-within : placeAt (slotSize depth) key 5 c + 2 ^ (wide - (depth + 5)) ≤ 2 ^ wide
-    slot-within =
-        let s : wide - depth ≡ slotSize depth + 5 = omega (arith, q .node .deep) in
-        let small : key + 2 ^ (slotSize depth + 5) ≤ 2 ^ wide = rw s at (q .node .small) in
-        rw slot-size (omega (arith, slot-nested (slotSize depth) key c lt .upto))
-
     -- The block of a slot with records stands in the room, where the walk has come to the slot.
-    pub child-stored : {at : ℕ} → Ahead (answerIn (run t lo hi) (hopOf inherited) (hopOf fill)) (run t lo hi) depth key top work c at
+    pub child-stored : {at : ℕ} → AheadIn t lo hi depth key inherited fill top work c at
         → getD first (31 + c) 0 < getD end (31 + c) 0
         → Stored (setWords (answerIn (runAt t first end (31 + c)) (hopOf (getD covering (15 + c / 2) 0)) (hopOf fill))) (nodesDeep (depth + 5))
         (placeAt (slotSize depth) key 5 c) (runAt t first end (31 + c)) at work
     child-stored h has =
-        let s = q .stored in
-        let f = answerIn (run t lo hi) (hopOf inherited) (hopOf fill) in
-        let a = ahead-next (Block (setWords f) (nodesDeep (depth + 5))) (slotSize depth) key (run t lo hi) (h (s .words) (s .block) (s .begins)) lt in
+        let a = ahead-stored h lt (q .stored) in
         record { words = a .0; block = slot-block (q .node) (q .gathered) inherited fill c lt (q .covers c lt) has (a .0) .0 (a .1); begins = a .2 }
 
     -- The walk of the slot has read its block, if it has one.
-    pub ahead-child : {at at′ : ℕ} → Ahead (answerIn (run t lo hi) (hopOf inherited) (hopOf fill)) (run t lo hi) depth key top work c at
+    pub ahead-child : {at at′ : ℕ} → AheadIn t lo hi depth key inherited fill top work c at
         → (getD end (31 + c) 0 ≤ getD first (31 + c) 0 → at′ ≡ at)
         → (getD first (31 + c) 0 < getD end (31 + c) 0 → (ws : List ℕ)
         → Block (setWords (answerIn (runAt t first end (31 + c)) (hopOf (getD covering (15 + c / 2) 0)) (hopOf fill))) (nodesDeep (depth + 5))
         (placeAt (slotSize depth) key 5 c) (runAt t first end (31 + c)) ws
         → Begins ws at work → at′ ≡ at + length ws)
-        → Ahead (answerIn (run t lo hi) (hopOf inherited) (hopOf fill)) (run t lo hi) depth key top work (c + 1) at′
-    ahead-child {at} {at′} h skipped read ws b s = go (decLt (getD first (31 + c) 0) (getD end (31 + c) 0))
+        → AheadIn t lo hi depth key inherited fill top work (c + 1) at′
+    ahead-child {at} {at′} h skipped read = go (decLt (getD first (31 + c) 0) (getD end (31 + c) 0))
       where
-        f : ℕ → Answer
-        f = answerIn (run t lo hi) (hopOf inherited) (hopOf fill)
-
-        block : ℕ → List Route → List ℕ → Type 0
-        block = Block (setWords f) (nodesDeep (depth + 5))
-
-        go : Dec (getD first (31 + c) 0 < getD end (31 + c) 0) → SlotsAhead block (slotSize depth) key (run t lo hi) (c + 1) at′ (top + length ws) work
+        go : Dec (getD first (31 + c) 0 < getD end (31 + c) 0)
+            → AheadIn t lo hi depth key inherited fill top work (c + 1) at′
         go (yes has) =
-            let a = ahead-next block (slotSize depth) key (run t lo hi) (h ws b s) lt in
-            rw (read has (a .0) (slot-block (q .node) (q .gathered) inherited fill c lt (q .covers c lt) has (a .0) .0 (a .1)) (a .2)) (a .3)
+            ahead-next h lt (λ u b. read has u (slot-block (q .node) (q .gathered) inherited fill c lt (q .covers c lt) has u .0 b))
         go (no none) =
             let le : getD end (31 + c) 0 ≤ getD first (31 + c) 0 = omega arith in
-            rw (skipped le) (ahead-skip block (slotSize depth) key (run t lo hi) (h ws b s) lt (ap length (no-child (q .gathered) c lt le)))
-
-  -- Slots without records have no block to read.
-  ahead-past : (k : ℕ) {c r at : ℕ} → c + k ≡ r → r ≤ 32
-      → ((i : ℕ) → c ≤ i → i < r → getD end (31 + i) 0 ≤ getD first (31 + i) 0)
-      → Ahead (answerIn (run t lo hi) (hopOf inherited) (hopOf fill)) (run t lo hi) depth key top work c at
-      → Ahead (answerIn (run t lo hi) (hopOf inherited) (hopOf fill)) (run t lo hi) depth key top work r at
-  ahead-past zero {c} {r} e all none h = let same : c ≡ r = omega arith in rw same at h
-  ahead-past (suc k) {c} e all none h =
-      ahead-past k {c = c + 1} (omega arith) all (λ i a b. none i (omega arith) b)
-      (ahead-child c (omega arith) h (λ le. refl) (λ has. absurd (omega (arith, none c (omega arith) (omega arith)))))
+            rw (skipped le) (ahead-skip h lt (no-child (q .gathered) c lt le))
 
   -- The walk goes on at the next slot that is busy.
   pub walking-on : {k r at n : ℕ} {out₀ out : List ℕ} → NextBit busy k r
       → Walking t lo hi depth key inherited fill above work top first end covering hops entries k at n out₀ out
       → Walking t lo hi depth key inherited fill above work top first end covering hops entries r at n out₀ out
-  walking-on {k} {r} b h =
-      record {
-        walked = walked-past (h .walked) (b .low) (b .high) (λ i le lt.
-            let s = q .quiet i (omega (arith, b .high)) (b .clear i le lt) in
-            (s .1, s .2));
-        ahead = ahead-past (r - k) (omega (arith, b .low)) (b .high) (λ i le lt. q .quiet i (omega (arith, b .high)) (b .clear i le lt) .0) (h .ahead);
-      }
+  walking-on b h = record { walked = walked-next (q .rest) b (h .walked); ahead = ahead-past (q .rest) b (h .ahead) }
 
   -- After the last slot the node's rewrite is written, few enough, and its block is read.
   pub walking-end : {c at n : ℕ} {out₀ out : List ℕ}
@@ -298,4 +253,4 @@ module _ {t : List ℕ} {lo hi depth key inherited fill above : ℕ} {work : Lis
   walking-end {c} {at} {n} {out₀} {out} h all =
       let z : c ≡ 32 = omega (arith, h .walked .within) in
       let done = walked-all (q .node .deep) (h .walked) all in
-      (done .0, (λ ws b s. ahead-end _ _ _ _ (h .ahead ws b s) z, rw (q .rewritten) (done .1)))
+      (done .0, (ahead-end (h .ahead) z, rw (q .rewritten) (done .1)))

@@ -7,10 +7,11 @@ use native.Mathlib.Omega.{arith}
 use borrow.Author.Needs.{needs}
 use borrow.Fn.Kinds.{In}
 use borrow.Fn.PlainCycle.{Measures, is, falls, and}
+use Rattle.nodes.specs.Node.{run}
 use Rattle.nodes.proofs.OutputLaws.{slot-below}
 use Rattle.nodes.proofs.OutputWalk.{relaid, Walked, Begun, walked-none, walked-small, begun, walked-alone, child-small, walked-child, walked-all}
 use Rattle.nodes.proofs.GatherLaws.{absent, ends-in, child-node}
-use Rattle.consistent.proofs.BusySlots.{Busy, busy-slots, walked-next}
+use Rattle.nodes.proofs.BusySlots.{Busy, busy-slots, walked-next}
 use Rattle.consistent.proofs.MapLaws.{mapSlot, map-no-child, Found, slot-le, map-slots, map-child}
 use Rattle.consistent.proofs.maps.aggregate_consistent_map.Reads as reads
 use Rattle.consistent.proofs.maps.aggregate_consistent_map.Kinds as kinds
@@ -59,7 +60,7 @@ claims t = (
 
 abbrev Inv-loop : lts.InvT-loop
 Inv-loop table lo hi depth key inherited out₀ first end hops entries busy n₀ c₀ out n c =
-    Found table lo hi depth key inherited first end hops entries × (Busy entries hops depth key (mapSlot table first end hops depth key) busy
+    Found table lo hi depth key inherited first end hops entries × (Busy entries hops depth key (mapSlot table first end hops depth key) (run table lo hi) busy
     × Walked entries hops depth key (mapSlot table first end hops depth key) c n out₀ out)
 
 abbrev μ-loop : lts.MeasureT-loop

@@ -8,10 +8,11 @@ use native.Mathlib.Omega.{arith}
 use borrow.Author.Tests.{not-true, not-false}
 use borrow.Fn.Kinds.{In}
 use borrow.Fn.PlainCycle.{Measures, is, falls, and}
+use Rattle.nodes.specs.Node.{run}
 use Rattle.nodes.proofs.OutputLaws.{slot-below}
 use Rattle.nodes.proofs.OutputWalk.{relaid, Walked, Begun, walked-none, walked-small, begun, walked-alone, child-small, walked-child, walked-all}
 use Rattle.nodes.proofs.GatherLaws.{child-node}
-use Rattle.consistent.proofs.BusySlots.{Busy, busy-slots, walked-next}
+use Rattle.nodes.proofs.BusySlots.{Busy, busy-slots, walked-next}
 use Rattle.consistent.proofs.SetLaws.{setSlot, slot-without, Found, slot-zero, slot-below-member, slot-open, set-slots}
 use Rattle.consistent.proofs.sets.aggregate_consistent_set.Reads as reads
 use Rattle.consistent.proofs.sets.aggregate_consistent_set.Kinds as kinds
@@ -63,7 +64,7 @@ claims t = (
 
 abbrev Inv-loop : lts.InvT-loop
 Inv-loop table lo hi depth key out₀ first end hops under entries busy n₀ c₀ out n c =
-    Found table lo hi depth key first end under entries hops × (Busy entries hops depth key (setSlot table lo hi depth key first end) busy
+    Found table lo hi depth key first end under entries hops × (Busy entries hops depth key (setSlot table lo hi depth key first end) (run table lo hi) busy
     × Walked entries hops depth key (setSlot table lo hi depth key first end) c n out₀ out)
 
 abbrev μ-loop : lts.MeasureT-loop

@@ -9,8 +9,9 @@ use borrow.Fn.Kinds.{In}
 use borrow.Fn.PlainCycle.{Measures, is, falls, and}
 use Rattle.nodes.proofs.OutputLaws.{slot-below}
 use Rattle.nodes.proofs.OutputWalk.{relaid, Begun, begun, walked-small, child-small}
+use Rattle.nodes.proofs.RoomWalk.{ahead-end}
 use Rattle.cover.proofs.MaximalLaws.{maximalSlot}
-use Rattle.cover.proofs.MaximalRoom.{slot-node, word-read, ahead-stored, ahead-all, Walking, walk-start, walk-child, walk-none, walk-end}
+use Rattle.cover.proofs.MaximalRoom.{slot-node, word-read, child-stored, Walking, walk-start, walk-child, walk-none, walk-end}
 use Rattle.cover.proofs.maximal.aggregate_set.Reads as walk
 use Rattle.cover.proofs.maximal.aggregate_set.Kinds as kinds
 use Rattle.cover.proofs.maximal.+aggregate_set.Lts-aggregate_set as lts
@@ -229,7 +230,7 @@ aggregate-set-requires t c κs =
     let lt = c .before .before .before .before .before .before .before .before .before .before .before .before .before .loop-test .taken in
     let e = sym (c .before .before .before .before .has-bit .ensures) ∙ c .before .before .before .if1 .taken in
     let bits = c .before .before .before .before .before .before .before .before .before .before .before .before .before .before .before .before .before .before .before .before .before .before .before .before .before .before .before .before .pre .0 in
-    (omega (arith, bits, s .node .deep), rw (c .before .before .before .before .before .before .before .before .before .before .before .before .slot-key .ensures) (slot-node s _ lt e, ahead-stored s (w .ahead) lt e (w .found .stored)))
+    (omega (arith, bits, s .node .deep), rw (c .before .before .before .before .before .before .before .before .before .before .before .before .slot-key .ensures) (slot-node s _ lt e, child-stored s (w .ahead) lt e (w .found .stored)))
 
 -- The entries that begin at a slot are written once they come back.
 started : (t : ℕ) (c : lts.After-slice-known2 (claims t) (entered t) walk.Post Inv-loop μ-loop)
@@ -274,7 +275,7 @@ returns t c =
     let w = c .before .loop .inv in
     let all : c .before .loop .next ≡ 32 = omega (arith, w .done .within, c .loop-test .left) in
     let e = walk-end w (c .loop-test .left) in
-    (e .0, (ahead-all (w .ahead) all, e .1))
+    (e .0, (ahead-end (w .ahead) all, e .1))
 
 pub +aggregate-set-spec : {M : Type 1} → statement M
 +aggregate-set-spec = close measure λ t. lts.spec (claims t) (entered t) walk.Post Inv-loop μ-loop

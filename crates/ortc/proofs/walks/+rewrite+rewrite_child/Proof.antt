@@ -10,9 +10,9 @@ use borrow.Fn.Kinds.{In}
 use borrow.Fn.PlainCycle.{Measures, is, falls, and}
 use Rattle.nodes.specs.Node.{wide}
 use Rattle.nodes.proofs.GatherLaws.{ends-in, absent, child-node}
-use Rattle.nodes.proofs.OutputLaws.{slot-below}
+use Rattle.nodes.proofs.OutputLaws.{slot-below, slot-within}
 use Rattle.nodes.proofs.OutputWalk.{walked-small, begun, child-small, walked-child}
-use Rattle.ortc.proofs.RewriteLaws.{own-stored, Opened, Walking, opened, walking-start, walking-on, slot-within, child-stored, ahead-child, walking-end, leaf-rewrite}
+use Rattle.ortc.proofs.RewriteLaws.{sets-stored, Opened, Walking, opened, walking-start, walking-on, child-stored, ahead-child, walking-end, leaf-rewrite}
 use Rattle.ortc.proofs.walks.rewrite.Reads as rewrite
 use Rattle.ortc.proofs.walks.rewrite.Kinds as rewrite-kinds
 use Rattle.ortc.proofs.walks.+rewrite+rewrite_child.Lts-rewrite as rewrite-lts
@@ -98,7 +98,7 @@ rewrite-covering-hops-requires t c κs =
 rewrite-assign-nodes-requires : (t : ℕ) → rewrite-lts.Need-assign-nodes-requires (rewrite-claims t) (rewrite-at t) rewrite.Post Inv-loop μ-loop
 rewrite-assign-nodes-requires t c κs =
     let pre = c .before .before .before .before .before .before .before .before .before .pre .1 in
-    let s = own-stored (pre .0) (pre .1 .1) in
+    let s = sets-stored (pre .0) (pre .1 .1) in
     ((s .0, s .2), pre .1 .0 .1 .1)
 
 rewrite-head-slots-requires : (t : ℕ) → rewrite-lts.Need-head-slots-requires (rewrite-claims t) (rewrite-at t) rewrite.Post Inv-loop μ-loop
@@ -114,7 +114,7 @@ rewrite-loop-holds : (t : ℕ) → rewrite-lts.Need-loop-holds (rewrite-claims t
 rewrite-loop-holds t c =
     let pre = c .before .before .before .before .before .before .before .before .before .before .before .before .before .before .before .before .before .pre .1 in
     let low = pre .1 .0 in
-    let s = own-stored (pre .0) (pre .1 .1) in
+    let s = sets-stored (pre .0) (pre .1 .1) in
     let found = c .before .before .before .before .before .before .before .before .before .before .before .gather-run in
     let does = c .before .before .before .before .before .before .before .assign-nodes .ensures in
     let begins = c .before .before .before .before .before .head-slots in
@@ -208,7 +208,7 @@ rewrite-rewrite-child-requires t c κs =
       rw (c .before .before .before .before .before .before .before .before .slot-key .ensures) (
         λ has. child-node (o .node) (o .gathered) (l .c) lt has,
         (
-          (omega (arith, o .node .deep), slot-within o (l .c) lt),
+          (omega (arith, o .node .deep), slot-within _ _ (l .c) (o .node .deep) lt (o .node .small)),
           (
             (o .covers-low (l .c) lt, (start .pre .1 .1 .0 .1 .0, o .hops-low (l .c) lt)),
             λ has. child-stored o (l .c) lt (l .inv .1 .ahead) has,

@@ -27,7 +27,7 @@ use Rattle.positions.specs.Walk.{walk, stateOf, stateAt, slots}
 use Rattle.positions.specs.Walks.{maximalOut, maximalNext}
 use Rattle.positions.proofs.Modes.{maximal-covered}
 use Rattle.positions.proofs.Runs.{is-in, Nested, nested-self}
-use Rattle.positions.proofs.RunsNode.{size-slot, size-halves, place-left, place-right, above-lt, above-in, ownAt, level-covered, halves-covered}
+use Rattle.positions.proofs.RunsNode.{size-slot, size-halves, place-left, place-right, above-lt, above-in, ownAt, halves-covered}
 use Rattle.positions.proofs.Slots.{reached-nested, walk-agree, walk-nothing, walk-slots, slots-agree}
 use Rattle.nodes.specs.Gathered.{Gathered, Occupied, runAt}
 use Rattle.nodes.specs.Node.{wide, run, slotSize, Node}
@@ -36,7 +36,7 @@ use Rattle.nodes.proofs.GatherLaws.{node-run, slot-records, no-child, slot-vaca
 use Rattle.nodes.proofs.MemberLaws.{slot-is}
 use Rattle.nodes.proofs.RoomSizes.{Selects}
 use Rattle.cover.specs.Coverage.{coveredIn, IsCoverage, uncovered, Entries}
-use Rattle.cover.proofs.CoverLaws.{none-covered, empty-covered, folded-is, record-over, record-over-slot, position-query, slot-query}
+use Rattle.cover.proofs.CoverLaws.{none-covered, empty-covered, folded-is, record-over, record-over-slot, position-covered, position-query, slot-query}
 
 -- ---- The walk of mode 1 over some addresses.
 
@@ -139,11 +139,7 @@ module _ {t : List ℕ} {lo hi depth key : ℕ} {first end : List ℕ} {present 
   abbrev over : ℕ → ℕ → Bool
   over l j = memberOver wide (slotSize depth) key (run t lo hi) l j
 
-  -- A route above it covers it, or the routes inside it do.
-  here-is : (l j : ℕ) → l ≤ 5 → j < 2 ^ l → here l j ≡ (over l j || coveredIn (slotSize depth) key (run t lo hi) l j)
-  here-is l j le lt = level-covered wide (slotSize depth) key (node-run n) l j le lt
-
-  -- The same of the position above one: there its own route stands above the one below too.
+  -- The position above one is covered by a route above the one below, its own too, or by the routes inside it.
   above-is : (l j : ℕ) → l ≤ 4 → j < 2 ^ suc l → here l (j / 2) ≡ (over (suc l) j || coveredIn (slotSize depth) key (run t lo hi) l (j / 2))
   unfolding memberOver
   above-is l j le lt =
@@ -158,7 +154,7 @@ module _ {t : List ℕ} {lo hi depth key : ℕ} {first end : List ℕ} {present 
       go : (b : Bool) → routed (ownAt wide (slotSize depth) key (run t lo hi) l j) ≡ b
           → here l j ≡ (b || (here (suc l) (2 * j) && here (suc l) (2 * j + 1)))
       go true e =
-          here-is l j (omega arith) small
+          position-covered n g l j (omega arith) small
           ∙ ap (λ (b : Bool). over l j || b) (halves-covered wide (slotSize depth) key (node-run n) l j lt ∙ rw e) ∙ or-true (over l j)
       go false e = covered-halves (held wide (run t lo hi)) (slotSize depth) key l j lt
 
@@ -182,7 +178,7 @@ module _ {t : List ℕ} {lo hi depth key : ℕ} {first end : List ℕ} {present 
 
   -- and one without records is not.
   empty-here : (c : ℕ) → c < 32 → getD end (31 + c) 0 ≤ getD first (31 + c) 0 → over 5 c ≡ false → here 5 c ≡ false
-  empty-here c lt none free = here-is 5 c (omega arith) lt ∙ ap₂ _||_ free (empty-covered n g c lt none)
+  empty-here c lt none free = position-covered n g 5 c (omega arith) lt ∙ ap₂ _||_ free (empty-covered n g c lt none)
 
 -- ---- The slots that are walked.
 
@@ -270,7 +266,7 @@ module _ {t : List ℕ} {lo hi depth key : ℕ} {first end : List ℕ} {present 
       found = coveredAt (held wide (run t lo hi)) (slotSize depth) key 5 c
 
       none : Passed t lo hi depth key first end c → over ≡ found
-      none (inl m) = m ∙ sym (here-is (s .node) (s .gathered) 5 c (omega arith) lt ∙ rw m)
+      none (inl m) = m ∙ sym (position-covered (s .node) (s .gathered) 5 c (omega arith) lt ∙ rw m)
       none (inr (m, free)) = m ∙ sym (empty-here (s .node) (s .gathered) c lt free m)
 
       go : (b : Bool) → bit walked c ≡ b → ((b && found) || over) ≡ found

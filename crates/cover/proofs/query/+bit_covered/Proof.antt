@@ -11,7 +11,8 @@ use Rattle.words.specs.Bits.{bit}
 use Rattle.nodes.specs.Node.{run, slotSize}
 use Rattle.nodes.proofs.GatherLaws.{child-node}
 use Rattle.cover.specs.Coverage.{coveredIn}
-use Rattle.cover.proofs.CoverLaws.{SlotsCovered, passes-up, slots-none, slots-take, slots-skip, slots-all, child-covered, empty-covered, folded-covered}
+use Rattle.nodes.proofs.MarkedBits.{Marked, passes-up, marked-none, marked-take, marked-skip, marked-all}
+use Rattle.cover.proofs.CoverLaws.{child-covered, empty-covered, folded-covered}
 use borrow.Fn.Kinds.{In}
 use borrow.Fn.PlainCycle.{Measures, is, falls, and}
 use Rattle.cover.proofs.query.bit_covered.Reads as bit-covered
@@ -38,7 +39,7 @@ bit-covered-below t =
 
 abbrev bit-covered-Inv-loop : bit-covered-lts.InvT-loop
 bit-covered-Inv-loop table lo hi depth key b first end g covered₀ c₀ covered c =
-    (c ≤ 32) × SlotsCovered (coveredIn (slotSize depth) key (run table lo hi) 5) (λ i. ltb i c) covered
+    (c ≤ 32) × Marked 32 (coveredIn (slotSize depth) key (run table lo hi) 5) (λ i. ltb i c) covered
 
 abbrev bit-covered-μ-loop : bit-covered-lts.MeasureT-loop
 bit-covered-μ-loop table lo hi depth key b first end g covered₀ c₀ covered c = 32 - c
@@ -55,7 +56,7 @@ bit-covered-gather-run-requires t c κs =
 bit-covered-loop-holds : (t : ℕ) → bit-covered-lts.Need-loop-holds (bit-covered-claims t) (bit-covered-at t) bit-covered.Post bit-covered-Inv-loop bit-covered-μ-loop
 bit-covered-loop-holds t c =
     let a = c .before .before .before .before .args in
-    (omega arith, slots-none (coveredIn (slotSize (a .depth)) (a .key) (run (a .table .now) (a .lo) (a .hi)) 5) (λ i. ltb i 0) (λ i lt. le-ltb i 0 (omega arith)))
+    (omega arith, marked-none 32 (coveredIn (slotSize (a .depth)) (a .key) (run (a .table .now) (a .lo) (a .hi)) 5) (λ i. ltb i 0) (λ i lt. le-ltb i 0 (omega arith)))
 
 bit-covered-add-from : (t : ℕ) → bit-covered-lts.Need-add-from (bit-covered-claims t) (bit-covered-at t) bit-covered.Post bit-covered-Inv-loop bit-covered-μ-loop
 bit-covered-add-from t c = omega arith
@@ -111,7 +112,7 @@ bit-covered-loop-again t c =
     let has = c .before .before .before .if1 .taken in
     let found = rw (c .before .before .slot-key .ensures) at (c .before .bit-covered .ensures 0 0 (omega arith) (omega arith) refl) in (
       omega arith,
-      slots-take (s .inv .1) (s .c) (λ i. ltb i (s .c + 1)) (passes-up (s .c)) (c .before .bit-covered .result) (c .with-slot .result)
+      marked-take (s .inv .1) (s .c) (λ i. ltb i (s .c + 1)) (passes-up (s .c)) (c .before .bit-covered .result) (c .with-slot .result)
           (found ∙ child-covered n g (s .c) lt has) (c .with-slot .ensures),
     )
 
@@ -124,7 +125,7 @@ bit-covered-loop-again-2 t c =
     let g = c .before .before .before .gather-run .ensures .0 in
     let s = c .before .before .loop in
     let lt = c .before .loop-test .taken in
-    (omega arith, slots-skip (s .inv .1) (s .c) (λ i. ltb i (s .c + 1)) (passes-up (s .c)) (empty-covered n g (s .c) lt (c .if1 .left)))
+    (omega arith, marked-skip (s .inv .1) (s .c) (λ i. ltb i (s .c + 1)) (passes-up (s .c)) (λ _. empty-covered n g (s .c) lt (c .if1 .left)))
 
 bit-covered-fold-coverage-requires : (t : ℕ) → bit-covered-lts.Need-fold-coverage-requires (bit-covered-claims t) (bit-covered-at t) bit-covered.Post bit-covered-Inv-loop bit-covered-μ-loop
 bit-covered-fold-coverage-requires t c κs = search needs
@@ -141,7 +142,7 @@ bit-covered-returns t c l j le lt e =
     let g = c .before .before .before .before .gather-run .ensures .0 in
     let s = c .before .before .before .loop in
     let full : s .c ≡ 32 = omega (arith, s .inv .0, c .before .before .loop-test .left) in
-    let slots = slots-all (rw full at (s .inv .1)) (λ i lt. lt-ltb i 32 lt) in
+    let slots = marked-all (rw full at (s .inv .1)) (λ i lt. lt-ltb i 32 lt) in
     c .has-bit .ensures
     ∙ ap (bit (c .before .fold-coverage .result)) e
     ∙ folded-covered n g (s .covered) (c .before .fold-coverage .result) slots (c .before .fold-coverage .ensures) l j le lt

@@ -1,10 +1,9 @@
 -- Mode 3 in a node: the bits that the code finds and the hops that cover the positions are the entries of the walk.
 use Prim.Native.Nat.{ℕ, zero, suc, _+_, _-_, _/_, _^_, _≤_, _<_}
 use mathlib.Core.Path.{_≡_, refl, sym, ap, _∙_}
-use mathlib.Core.Bool.{Bool, true, false, true≢false, cond, not, _&&_, _||_, and-false, or-false}
+use mathlib.Core.Bool.{Bool, true, false, true≢false, cond, not, _&&_, and-false}
 use mathlib.Core.List.{List, [], _∷_}
-use mathlib.Core.Logic.{_⊎_, inl, inr}
-use native.Mathlib.Nat.{pow-suc, le-refl, eq-or-lt-of-le}
+use native.Mathlib.Nat.{pow-suc, le-refl}
 use native.Mathlib.Decide.{decLt}
 use native.Mathlib.Omega.{arith}
 use lib.Dec.{eqb, ltb}
@@ -16,7 +15,7 @@ use Rattle.theory.specs.Shapes.{routed}
 use Rattle.table.specs.Wire.{route, routeAt}
 use Rattle.words.specs.Bits.{bit, NextBit}
 use Rattle.words.specs.Positions.{position}
-use Rattle.words.proofs.BitLaws.{if-lt, if-eq, bit-zero}
+use Rattle.words.proofs.BitLaws.{if-lt, if-eq}
 use Rattle.words.proofs.PositionLaws.{in-word, above}
 use Rattle.positions.specs.Runs.{hopOf, headHop, own, orElse, sizeAt, placeAt, cover, coverOver}
 use Rattle.positions.specs.Walk.{walk, slots}
@@ -29,6 +28,8 @@ use Rattle.nodes.specs.Gathered.{runAt, Gathered, overAt, coveringAt}
 use Rattle.nodes.specs.Output.{entryAt}
 use Rattle.nodes.proofs.GatherLaws.{position-run, covering-is, covering-le}
 use Rattle.nodes.proofs.GatherRuns.{run-none, run-first}
+use Rattle.nodes.proofs.BusySlots.{next-steps}
+use Rattle.nodes.proofs.MarkedBits.{Marked, passes-up, marked-skip}
 use Rattle.consistent.proofs.KeptSlots.{keptWalk, keptState, kept-no-child, kept-slots}
 
 -- ---- The bits.
@@ -54,46 +55,14 @@ module _ (first end hop over : ℕ) where
 abbrev pub entryBit : List ℕ → List ℕ → List ℕ → ℕ → ℕ → Bool
 entryBit first end hops inherited b = isEntry (getD first b 0) (getD end b 0) (getD hops b 0) (overAt hops b inherited)
 
--- The word has the bits that the test says, of the positions numbered below b.
-abbrev pub Marked : (ℕ → Bool) → ℕ → ℕ → Type 0
-Marked test b x = (i : ℕ) → i < 31 → bit x i ≡ (ltb i b && test i)
-
-module _ (test : ℕ → Bool) where
-  -- None yet.
-  pub marked-none : Marked test 0 0
-  marked-none i lt = bit-zero i ∙ rw (le-ltb i 0 (omega arith))
-
-  -- One more.
-  pub marked-next : (b x y : ℕ) → Marked test b x → ((i : ℕ) → i < 31 → bit y i ≡ ((eqb i b && test b) || bit x i)) → Marked test (b + 1) y
-  marked-next b x y m e i lt =
-      e i lt ∙ ap (λ (t : Bool). (eqb i b && test b) || t) (m i lt)
-      ∙ if-eq (λ (t : Bool). ((t && test b) || (ltb i b && test i)) ≡ (ltb i (b + 1) && test i)) i b
-      (λ q. rw (← q, le-ltb i i (le-refl i), lt-ltb i (i + 1) (omega arith)) (or-false (test i)))
-      (λ ne. if-lt (λ (t : Bool). (t && test i) ≡ (ltb i (b + 1) && test i)) i b
-      (λ h. rw (lt-ltb i (b + 1) (omega arith))) (λ h. rw (le-ltb i (b + 1) (let d = ne-lt h ne in omega arith))))
-    where
-      ne-lt : b ≤ i → (i ≡ b → ⊥) → b < i
-      ne-lt h ne = go (eq-or-lt-of-le h)
-        where
-          go : (b ≡ i) ⊎ (b < i) → b < i
-          go (inl q) = absurd (ne (sym q))
-          go (inr d) = d
-
-  -- All of them.
-  pub marked-all : (b x : ℕ) → 31 ≤ b → Marked test b x → (i : ℕ) → i < 31 → bit x i ≡ test i
-  marked-all b x all m i lt = m i lt ∙ rw (lt-ltb i b (omega arith))
-
--- None more up to the next position of a word that has every position with a record.
+-- Up to the next position of a word that has every position with a record there are no more entries.
 pub marked-past : (first end hops : List ℕ) (inherited x : ℕ) {present b r : ℕ}
     → ((i : ℕ) → i < 31 → bit present i ≡ false → getD end i 0 ≤ getD first i 0) → NextBit present b r
-    → Marked (entryBit first end hops inherited) b x → Marked (entryBit first end hops inherited) r x
-marked-past first end hops inherited x {b = b} {r} absent next m i lt =
-    m i lt
-    ∙ if-lt (λ (t : Bool). (t && entryBit first end hops inherited i) ≡ (ltb i r && entryBit first end hops inherited i)) i b
-    (λ h. rw (lt-ltb i r (omega (arith, next .low))))
-    (λ h. if-lt (λ (t : Bool). false ≡ (t && entryBit first end hops inherited i)) i r
-    (λ k. sym (bare-no-entry (getD first i 0) (getD end i 0) (getD hops i 0) (overAt hops i inherited) (absent i lt (next .clear i h k))))
-    (λ k. refl))
+    → Marked 31 (entryBit first end hops inherited) (λ i. ltb i b) x → Marked 31 (entryBit first end hops inherited) (λ i. ltb i r) x
+marked-past first end hops inherited x absent next =
+    next-steps (λ b. Marked 31 (entryBit first end hops inherited) (λ i. ltb i b) x) next (λ i lt off m.
+    marked-skip m i (λ k. ltb k (i + 1)) (passes-up i)
+    (λ small. bare-no-entry (getD first i 0) (getD end i 0) (getD hops i 0) (overAt hops i inherited) (absent i small off)))
 
 -- ---- What a hop of the code says.
 

@@ -2,17 +2,17 @@
 -- prefix that lies in the node, and that of a position by the slots below it.
 use Prim.Native.Nat.{ℕ, zero, suc, _+_, _-_, _*_, _/_, _^_, _≤_, _<_}
 use mathlib.Core.Path.{_≡_, refl, sym, ap, ap₂, subst, _∙_}
-use mathlib.Core.Bool.{Bool, true, false, true≢false, not, _&&_, _||_, and-false, or-true, or-false}
+use mathlib.Core.Bool.{Bool, true, false, true≢false, not, _&&_, _||_, or-true, or-false}
 use mathlib.Core.List.{List, []}
 use mathlib.Core.Logic.{_⊎_, inl, inr}
 use native.Mathlib.Nat.{pow-suc, eq-or-lt-of-le}
 use native.Mathlib.Numerals.{add-one}
 use native.Mathlib.Omega.{arith}
 use lib.Bits.{bitAnd, bitOr}
-use lib.Dec.{eqb, ltb, leb}
+use lib.Dec.{eqb, ltb}
 use lib.ListN.{getD}
 use lib.Pow.{shr-shr}
-use borrow.Author.Tests.{lt-ltb, le-ltb, le-leb, lt-leb, eq-eqb}
+use borrow.Author.Tests.{lt-ltb, le-ltb, eq-eqb}
 use Rattle.theory.specs.Results.{In, throughout}
 use Rattle.theory.specs.Routes.{Route, held, Aligned}
 use Rattle.theory.proofs.Blocks.{pow-pos}
@@ -20,16 +20,16 @@ use Rattle.theory.specs.Shapes.{Within, routed}
 use Rattle.words.specs.Bits.{bit, NextBit}
 use Rattle.words.specs.Coverage.{UnderMembers, WhollyCovered}
 use Rattle.words.specs.Positions.{position, member, whole}
-use Rattle.words.proofs.BitLaws.{if-lt, if-le, if-eq, bit-zero, bit-and, bit-or}
+use Rattle.words.proofs.BitLaws.{if-lt, bit-and, bit-or}
 use Rattle.words.proofs.PositionLaws.{in-word, Place, above}
 use Rattle.positions.specs.Runs.{inside, sizeAt, placeAt, memberOver}
 use Rattle.positions.proofs.Runs.{Nested, nested-start, throughout-under}
 use Rattle.positions.proofs.RunsNode.{size-slot, above-lt, ownAt, slot-run, level-held, level-covered, halves-covered}
 use Rattle.nodes.specs.Node.{wide, run, slotSize, Node}
 use Rattle.nodes.specs.Gathered.{some, runAt, levelOf, Gathered, Occupied}
-use Rattle.nodes.proofs.GatherLaws.{node-run, slot-records, no-child, member-is, slot-vacant, slot-occupied, child-node}
+use Rattle.nodes.proofs.GatherLaws.{node-run, slot-records, no-child, member-is, has-record, slot-vacant, slot-occupied, child-node}
 use Rattle.nodes.proofs.GatherPlaces.{in-heap, same-position, level-slot, place-in, place-at}
-use Rattle.nodes.proofs.GatherRuns.{some-run}
+use Rattle.nodes.proofs.MarkedBits.{Marked, passes-up, marked-none, marked-take, marked-all}
 use Rattle.nodes.proofs.MemberLaws.{slot-is}
 use Rattle.cover.specs.Coverage.{coveredIn, recordOver}
 
@@ -71,59 +71,9 @@ module _ {t : List ℕ} {lo hi depth key : ℕ} {first end : List ℕ} {present 
 
 -- ---- The word of covered slots, while slots are taken into it.
 
--- covered has, of the slots that are passed, those of which p holds, and no others.
-pub record SlotsCovered (p passed : ℕ → Bool) (covered : ℕ) : Type 0 where
-  pub each : (i : ℕ) → i < 32 → bit covered i ≡ (passed i && p i)
-
--- Slot c is passed too.
-abbrev pub Passes : (ℕ → Bool) → ℕ → (ℕ → Bool) → Type 0
-Passes passed c passed′ = (i : ℕ) → i < 32 → passed′ i ≡ (eqb i c || passed i)
-
--- The slots before c and slot c are those before c + 1; slot c and those from c + 1 on are those from c on.
-pub passes-up : (c : ℕ) → Passes (λ i. ltb i c) c (λ i. ltb i (c + 1))
-passes-up c i lt =
-    if-eq (λ (b : Bool). ltb i (c + 1) ≡ (b || ltb i c)) i c (λ e. lt-ltb i (c + 1) (omega arith))
-    (λ ne. if-lt (λ (b : Bool). ltb i (c + 1) ≡ b) i c (λ l. lt-ltb i (c + 1) (omega arith)) (λ l. le-ltb i (c + 1) (omega arith)))
-
-pub passes-down : (c : ℕ) → Passes (λ i. leb (c + 1) i) c (λ i. leb c i)
-passes-down c i lt =
-    if-eq (λ (b : Bool). leb c i ≡ (b || leb (c + 1) i)) i c (λ e. le-leb c i (omega arith))
-    (λ ne. if-le (λ (b : Bool). leb c i ≡ b) (c + 1) i (λ l. le-leb c i (omega arith)) (λ l. lt-leb c i (omega arith)))
-
--- At first none is.
-pub slots-none : (p passed : ℕ → Bool) → ((i : ℕ) → i < 32 → passed i ≡ false) → SlotsCovered p passed 0
-slots-none p passed none = record { each = λ i lt. bit-zero i ∙ sym (ap (λ (b : Bool). b && p i) (none i lt)) }
-
-module _ {p passed : ℕ → Bool} {covered : ℕ} (slots : SlotsCovered p passed covered) (c : ℕ) (passed′ : ℕ → Bool) (more : Passes passed c passed′) where
-  -- A slot is taken by what holds of it.
-  pub slots-take : (child : Bool) (r : ℕ) → child ≡ p c → ((i : ℕ) → i < 32 → bit r i ≡ ((eqb i c && child) || bit covered i)) → SlotsCovered p passed′ r
-  slots-take child r e with-slot = record { each = each }
-    where
-      either : (b q : Bool) → (b || (q && b)) ≡ b
-      either true q = refl
-      either false q = and-false q
-
-      each : (i : ℕ) → i < 32 → bit r i ≡ (passed′ i && p i)
-      each i lt =
-          with-slot i lt
-          ∙ ap (λ (b : Bool). (eqb i c && child) || b) (slots .each i lt)
-          ∙ if-eq (λ (b : Bool). ((b && child) || (passed i && p i)) ≡ ((b || passed i) && p i)) i c
-          (λ q. rw (e, q) (either (p c) (passed c))) (λ q. refl)
-          ∙ sym (ap (λ (b : Bool). b && p i) (more i lt))
-
-  -- One of which it does not hold is left out.
-  pub slots-skip : p c ≡ false → SlotsCovered p passed′ covered
-  slots-skip e = record { each = each }
-    where
-      each : (i : ℕ) → i < 32 → bit covered i ≡ (passed′ i && p i)
-      each i lt =
-          slots .each i lt
-          ∙ if-eq (λ (b : Bool). (passed i && p i) ≡ ((b || passed i) && p i)) i c (λ q. rw (q, e) (and-false (passed c))) (λ q. refl)
-          ∙ sym (ap (λ (b : Bool). b && p i) (more i lt))
-
--- So are all from a to r, if it holds of none of them.
-pub slots-past : {p : ℕ → Bool} {covered : ℕ} (a r : ℕ) → SlotsCovered p (λ i. ltb i a) covered → a ≤ r → ((i : ℕ) → a ≤ i → i < r → p i ≡ false)
-    → SlotsCovered p (λ i. ltb i r) covered
+-- Slots of which p does not hold, from a up to r, are left out.
+pub slots-past : {p : ℕ → Bool} {covered : ℕ} (a r : ℕ) → Marked 32 p (λ i. ltb i a) covered → a ≤ r → ((i : ℕ) → a ≤ i → i < r → p i ≡ false)
+    → Marked 32 p (λ i. ltb i r) covered
 slots-past {p} {covered} a r slots le none = record { each = each }
   where
     each : (i : ℕ) → i < 32 → bit covered i ≡ (ltb i r && p i)
@@ -131,11 +81,6 @@ slots-past {p} {covered} a r slots le none = record { each = each }
         slots .each i lt
         ∙ if-lt (λ (b : Bool). (b && p i) ≡ (ltb i r && p i)) i a (λ l. sym (ap (λ (b : Bool). b && p i) (lt-ltb i r (omega arith))))
         (λ ge. if-lt (λ (b : Bool). false ≡ (b && p i)) i r (λ l. sym (none i ge l)) (λ l. refl))
-
--- At last all are.
-pub slots-all : {p passed : ℕ → Bool} {covered : ℕ} → SlotsCovered p passed covered → ((i : ℕ) → i < 32 → passed i ≡ true)
-    → (c : ℕ) → c < 32 → bit covered c ≡ p c
-slots-all {p} slots all c lt = slots .each c lt ∙ ap (λ (b : Bool). b && p c) (all c lt)
 
 -- ---- The way up from a position to a record at it or above it, by the numbers of the positions.
 
@@ -224,11 +169,7 @@ module _ {t : List ℕ} {lo hi depth key : ℕ} {first end : List ℕ} {present 
   -- A position has a record exactly when it has a hop of its own.
   pub record-at : (l j : ℕ) → l ≤ 4 → j < 2 ^ l
       → ltb (getD first (position l j) 0) (getD end (position l j) 0) ≡ routed (ownAt wide (slotSize depth) key (run t lo hi) l j)
-  record-at l j le lt =
-      sym (some-run t (getD first (position l j) 0) (getD end (position l j) 0))
-      ∙ ap some (g .places l j (omega arith) lt)
-      ∙ sym (g .members l j le lt)
-      ∙ member-is g l j le lt
+  record-at l j le lt = sym (has-record g l j (omega arith) lt) ∙ sym (g .members l j le lt) ∙ member-is g l j le lt
 
   -- One stands at a position or above it exactly when the position has a hop of its own or a route stands above it.
   pub record-over : (l j : ℕ) → l ≤ 4 → j < 2 ^ l
@@ -467,7 +408,7 @@ pub record Asking (t : List ℕ) (lo hi depth key b : ℕ) (first end : List ℕ
 pub record Answered (t : List ℕ) (lo hi depth key b : ℕ) (first end : List ℕ) (present under walked covered c : ℕ) : Type 0 where
   pub asking : Asking t lo hi depth key b first end present under walked
   pub next : c < 32 → bit walked c ≡ true
-  pub slots : SlotsCovered (λ i. bit walked i && coveredIn (slotSize depth) key (run t lo hi) 5 i) (λ i. ltb i c) covered
+  pub slots : Marked 32 (λ i. bit walked i && coveredIn (slotSize depth) key (run t lo hi) 5 i) (λ i. ltb i c) covered
 
 module _ {t : List ℕ} {lo hi depth key b : ℕ} {first end : List ℕ} {present under walked : ℕ} where
   module _ (s : Asking t lo hi depth key b first end present under walked) (c : ℕ) (lt : c < 32) where
@@ -510,7 +451,7 @@ module _ {t : List ℕ} {lo hi depth key b : ℕ} {first end : List ℕ} {presen
       record {
         asking = s;
         next = z .isSet;
-        slots = slots-past 0 r (slots-none _ (λ i. ltb i 0) (λ i lt. le-ltb i 0 (omega arith))) (z .low) (λ i low lt. rw (z .clear i low lt));
+        slots = slots-past 0 r (marked-none 32 _ (λ i. ltb i 0) (λ i lt. le-ltb i 0 (omega arith))) (z .low) (λ i low lt. rw (z .clear i low lt));
       }
 
   module _ {covered c : ℕ} (w : Answered t lo hi depth key b first end present under walked covered c) where
@@ -527,7 +468,7 @@ module _ {t : List ℕ} {lo hi depth key b : ℕ} {first end : List ℕ} {presen
         let s = w .asking in
         let on = w .next lt in
         let all =
-        slots-take (w .slots) c (λ i. ltb i (c + 1)) (passes-up c) child covered′
+        marked-take (w .slots) c (λ i. ltb i (c + 1)) (passes-up c) child covered′
         (is ∙ child-covered (s .node) (s .gathered) c lt (asked-has s c lt on) ∙ sym (ap (λ (x : Bool). x && coveredIn (slotSize depth) key (run t lo hi) 5 c) on)) more in
         record {
           asking = s;
@@ -543,5 +484,5 @@ module _ {t : List ℕ} {lo hi depth key b : ℕ} {first end : List ℕ} {presen
         ap (bit r) e
         ∙ folded-below (s .gathered) (λ l j. throughout (held wide (run t lo hi)) (sizeAt (slotSize depth) l) (placeAt (slotSize depth) key l j))
         (position-halves (s .node) (s .gathered)) (bitOr covered under) r whole l j le lt
-        (λ i small z. joined s i small covered (slots-all (w .slots) (λ k few. lt-ltb k c (omega arith)) i small)
+        (λ i small z. joined s i small covered (marked-all (w .slots) (λ k few. lt-ltb k c (omega arith)) i small)
         (s .beneath l j le lt e i small ∙ eq-eqb _ _ z))

@@ -131,11 +131,7 @@ module _ {t : List ℕ} {lo hi depth key : ℕ} {first end : List ℕ} {present 
   abbrev over : ℕ → ℕ → Bool
   over l j = memberOver wide (slotSize depth) key (run t lo hi) l j
 
-  -- A route above it covers it, or the routes inside it do.
-  here-is : (l j : ℕ) → l ≤ 5 → j < 2 ^ l → here l j ≡ (over l j || coveredIn (slotSize depth) key (run t lo hi) l j)
-  here-is l j le lt = position-covered n g l j le lt
-
-  -- The same of the position above one: there its own route stands above the one below too.
+  -- The position above one is covered by a route above the one below, its own too, or by the routes inside it.
   above-is : (l j : ℕ) → l ≤ 4 → j < 2 ^ suc l → here l (j / 2) ≡ (over (suc l) j || coveredIn (slotSize depth) key (run t lo hi) l (j / 2))
   unfolding memberOver
   above-is l j le lt =
@@ -162,7 +158,7 @@ module _ {t : List ℕ} {lo hi depth key : ℕ} {first end : List ℕ} {present 
 
   -- and one without records is not.
   empty-here : (c : ℕ) → c < 32 → getD end (31 + c) 0 ≤ getD first (31 + c) 0 → over 5 c ≡ false → here 5 c ≡ false
-  empty-here c lt none free = here-is 5 c (omega arith) lt ∙ ap₂ _||_ free (empty-covered n g c lt none)
+  empty-here c lt none free = position-covered n g 5 c (omega arith) lt ∙ ap₂ _||_ free (empty-covered n g c lt none)
 
 -- ---- The slots that are walked.
 
@@ -250,7 +246,7 @@ module _ {t : List ℕ} {lo hi depth key : ℕ} {first end : List ℕ} {present 
       found = coveredAt (held wide (run t lo hi)) (slotSize depth) key 5 c
 
       none : Passed t lo hi depth key first end c → over ≡ found
-      none (inl m) = m ∙ sym (here-is (s .node) (s .gathered) 5 c (omega arith) lt ∙ rw m)
+      none (inl m) = m ∙ sym (position-covered (s .node) (s .gathered) 5 c (omega arith) lt ∙ rw m)
       none (inr (m, free)) = m ∙ sym (empty-here (s .node) (s .gathered) c lt free m)
 
       go : (b : Bool) → bit walked c ≡ b → ((b && found) || over) ≡ found

@@ -27,8 +27,8 @@ use Rattle.nodes.proofs.RoomLaws.{pushed-word, begins-word}
 use Rattle.nodes.proofs.RoomSizes.{Sized, nodes-below-deep, slot-nodes-le, block-by-length, room-child, room-own}
 use Rattle.nodes.proofs.RoomWalk.{laid-start, laid-next, laid-skip, laid-length, laid-own, Ahead, own-stored, ahead-start, ahead-stored, ahead-next, ahead-skip}
 use Rattle.nodes.proofs.BusySlots.{last-steps, Busy, walked-next, ahead-past}
+use Rattle.nodes.proofs.MarkedBits.{Marked, passes-down, marked-none, marked-take, marked-skip, marked-all}
 use Rattle.cover.specs.Coverage.{IsCoverage, coverageWord, uncovered, Entries}
-use Rattle.cover.proofs.CoverLaws.{SlotsCovered, passes-down, slots-none, slots-take, slots-skip, slots-all}
 use Rattle.cover.proofs.MaximalLaws.{maximalWalk, coveredAt, uncovered-selects, coverage-is, Opened, walked-has, walked-routes, passed-routes, child-bit, joined-bit, maximalSlot, maximal-slots, passed-nothing}
 
 -- The block of a node one deeper.
@@ -71,7 +71,7 @@ pub record Collecting (t : List ℕ) (lo hi depth key : ℕ) (first end : List �
   pub bound : c ≤ 32
   pub fits : top ≤ length o
   pub laid : SlotsLaid 160 (deeperBlock depth) (nodesBelow (nodesDeep (depth + 5))) (slotSize depth) key (openRoutes t lo hi depth key) c top at o o′
-  pub slots : SlotsCovered (λ i. bit walked i && coveredAt (held wide (run t lo hi)) (slotSize depth) key 5 i) (λ i. leb c i) covered
+  pub slots : Marked 32 (λ i. bit walked i && coveredAt (held wide (run t lo hi)) (slotSize depth) key 5 i) (λ i. leb c i) covered
 
 module _ {t : List ℕ} {lo hi depth key : ℕ} {first end : List ℕ} {present under walked top : ℕ} {o : List ℕ} where
   -- At first none is passed.
@@ -88,7 +88,7 @@ module _ {t : List ℕ} {lo hi depth key : ℕ} {first end : List ℕ} {present 
         bound = omega arith;
         fits = room .1;
         laid = laid-start 160 (deeperBlock depth) nodes (slotSize depth) key (openRoutes t lo hi depth key) top o (omega arith);
-        slots = slots-none _ (λ i. leb 32 i) (λ i lt. lt-leb 32 i lt);
+        slots = marked-none 32 _ (λ i. leb 32 i) (λ i lt. lt-leb 32 i lt);
       }
 
   -- A slot that is not walked is passed over,
@@ -103,7 +103,7 @@ module _ {t : List ℕ} {lo hi depth key : ℕ} {first end : List ℕ} {present 
         laid =
             laid-skip 160 (deeperBlock depth) (nodesBelow (nodesDeep (depth + 5))) (slotSize depth) key (openRoutes t lo hi depth key)
             (coverage-sized (nodesDeep (depth + 5))) (w .laid) refl (w .bound) (w .fits) (passed-routes (w .opened) c lt e);
-        slots = slots-skip (w .slots) c (λ i. leb c i) (passes-down c) (rw e);
+        slots = marked-skip (w .slots) c (λ i. leb c i) (passes-down c) (λ _. rw e);
       }
 
   -- and so are those down to one past the next that is walked.
@@ -159,7 +159,7 @@ module _ {t : List ℕ} {lo hi depth key : ℕ} {first end : List ℕ} {present 
                 (coverage-sized (nodesDeep (depth + 5))) (w .laid) next-is (w .bound) (w .fits)
                 (slot-block (w .opened) (b - 1) next-lt e (laid .words) .1 (laid .block)) (laid .pushed);
             slots =
-                slots-take (rw next-is at (w .slots)) (b - 1) (λ i. leb (b - 1) i) (passes-down (b - 1)) child covered′
+                marked-take (rw next-is at (w .slots)) (b - 1) (λ i. leb (b - 1) i) (passes-down (b - 1)) child covered′
                 (z ∙ child-bit (w .opened) (b - 1) next-lt e is ∙ rw e) more;
           })
 
@@ -171,7 +171,7 @@ module _ {t : List ℕ} {lo hi depth key : ℕ} {first end : List ℕ} {present 
         let s = w .opened in
         let is =
         coverage-is (s .node) (s .gathered) (bitOr covered under) cov
-        (λ c lt. joined-bit s c lt covered (slots-all (w .slots) (λ i small. le-leb b i (omega arith)) c lt)) whole in
+        (λ c lt. joined-bit s c lt covered (marked-all (w .slots) (λ i small. le-leb b i (omega arith)) c lt)) whole in
         let l =
         laid-own 160 (deeperBlock depth) (nodesBelow (nodesDeep (depth + 5))) (slotSize depth) key (openRoutes t lo hi depth key)
         (λ m a rs. coverageWord m a (run t lo hi)) (rw z at (w .laid)) (w .fits) (cov, refl, is)

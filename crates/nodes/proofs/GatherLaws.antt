@@ -78,7 +78,7 @@ module _ {t : List ℕ} {lo hi depth key : ℕ} {first end : List ℕ} {present 
   -- ---- Places without a record.
 
   -- Whether a place has a record in the run.
-  has-record : (l j : ℕ) → l ≤ 5 → j < 2 ^ l
+  pub has-record : (l j : ℕ) → l ≤ 5 → j < 2 ^ l
       → some (part (filed (slotSize depth) key l j) (run t lo hi)) ≡ ltb (getD first (position l j) 0) (getD end (position l j) 0)
   has-record l j le lt = ap some (sym (g .places l j le lt)) ∙ some-run t (getD first (position l j) 0) (getD end (position l j) 0)
 

@@ -15,9 +15,9 @@ use Rattle.words.proofs.BitLaws.{bit-zero}
 use Rattle.positions.specs.Runs.{placeAt}
 use Rattle.positions.proofs.RunsNode.{size-slot}
 use Rattle.nodes.specs.Node.{wideAt, slotSize, Node}
-use Rattle.nodes.specs.Gathered.{some, Gathered, Occupied, firstOf}
+use Rattle.nodes.specs.Gathered.{Gathered, Occupied, firstOf}
 use Rattle.nodes.proofs.GatherPlaces.{heapOf, heap-level, slot-next}
-use Rattle.nodes.proofs.GatherRuns.{some-run}
+use Rattle.nodes.proofs.GatherLaws.{has-record}
 use Rattle.nodes.proofs.GatherSteps.{Passed, mark-next, node-within, node-before, node-heap}
 
 -- The bits of a word say which slots have records first..end.
@@ -62,5 +62,4 @@ module _ {t : List ℕ} {lo hi depth key : ℕ} (node : Node t lo hi depth key) 
 -- After the last record the word says which slots have a record in them.
 pub slots-done : {t : List ℕ} {lo hi depth key : ℕ} {first end : List ℕ} {present : ℕ} → Gathered t lo hi depth key first end present
     → (occupied : ℕ) → Slots first end occupied → Occupied t lo hi depth key occupied
-slots-done {t} {first} {end} g occupied s c h =
-    s c h ∙ sym (some-run t (getD first (31 + c) 0) (getD end (31 + c) 0)) ∙ ap some (g .places 5 c (omega arith) h)
+slots-done g occupied s c h = s c h ∙ sym (has-record g 5 c (omega arith) h)

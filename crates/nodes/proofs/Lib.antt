@@ -16,3 +16,4 @@ pub mod GatherLaws
 pub mod MemberLaws
 pub mod OutputWalk
 pub mod BusySlots
+pub mod MarkedBits

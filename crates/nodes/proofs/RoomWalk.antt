@@ -1,6 +1,6 @@
 -- The loops over a node's slots, a step at a time: that which lays the blocks of the slots from the last to the first, then the node's own
 -- words, and that which reads the own words, then the blocks from the first slot to the last.
-use Prim.Native.Nat.{ℕ, _+_, _*_, _≤_, _<_}
+use Prim.Native.Nat.{ℕ, _+_, _-_, _*_, _≤_, _<_}
 use mathlib.Core.Path.{_≡_, refl, ap, _∙_}
 use mathlib.Core.List.{List, [], _++_}
 use native.Mathlib.Omega.{arith}
@@ -8,7 +8,7 @@ use lib.ListN.{length, length-append}
 use Rattle.theory.specs.Routes.{Route}
 use Rattle.positions.specs.Runs.{inside, placeAt}
 use Rattle.nodes.specs.Node.{wide, run, slotSize, Node}
-use Rattle.nodes.specs.Room.{Pushed, Begins, BlockBy, nodesDeep, slotNodes, StoredBy, SlotsLaid, SlotsAhead}
+use Rattle.nodes.specs.Room.{Pushed, Begins, SlotBlocks, BlockBy, nodesDeep, slotNodes, StoredBy, SlotsLaid, SlotsAhead}
 use Rattle.nodes.proofs.RoomBlocks.{BlockAt, NodeBlock, slot-none, slot-empty, slots-start, slots-down, slots-up, slots-end, block-by-deep}
 use Rattle.nodes.proofs.RoomLaws.{pushed-none, pushed-then, pushed-length, begins-left, begins-right}
 use Rattle.nodes.proofs.RoomSizes.{Sized, slot-length, room-step}
@@ -56,6 +56,14 @@ pub record Ahead (deeper : ℕ → ℕ → List Route → List Route) (own : ℕ
   pub each : (ws : List ℕ) → BlockBy deeper own (nodesDeep depth) key t ws → Begins ws top o
       → SlotsAhead (BlockBy deeper own (nodesDeep (depth + 5))) (slotSize depth) key (deeper (slotSize depth) key t) c at (top + length ws) o
 
+-- Words that stand from `at` to `end`, u and then the blocks of the slots from c on: u stands at `at`, and the blocks after it.
+parts-ahead : (block : ℕ → List Route → List ℕ → Type 0) (m a : ℕ) (t : List Route) (u v : List ℕ) (c at : ℕ) {end : ℕ} {ws o : List ℕ} → ws ≡ u ++ v
+    → Begins ws at o → at + length ws ≡ end → SlotBlocks block m a t (32 - c) v → Begins u at o × SlotsAhead block m a t c (at + length u) end o
+parts-ahead block m a t u v c at {ws = ws} {o} e i z s =
+    let d : Begins (u ++ v) at o = rw e at i in
+    let l : length ws ≡ length u + length v = ap length e ∙ length-append u v in
+    (begins-left u v at o d, record { words = v; begins = begins-right u v at o d; blocks = s; ends = omega arith })
+
 -- The own words of a node stand where its block does, and the blocks of its slots after them.
 own-first : (deeper : ℕ → ℕ → List Route → List Route) (own : ℕ → ℕ → List Route → List ℕ → Type 0) {t : List ℕ} {lo hi depth key : ℕ} (top : ℕ) (o : List ℕ)
     → Node t lo hi depth key → (ws : List ℕ) → BlockBy deeper own (nodesDeep depth) key (run t lo hi) ws → Begins ws top o
@@ -66,12 +74,8 @@ own-first : (deeper : ℕ → ℕ → List Route → List Route) (own : ℕ → 
     (top + length ws) o
 own-first deeper own {t} {lo} {hi} {depth} {key} top o n ws b i =
     let p = block-by-deep deeper own key (run t lo hi) ws depth (n .level) (n .fives) (n .deep) .0 b in
-    let u = p .0 in
-    let v = p .1 in
-    let e : ws ≡ u ++ v = p .2 in
-    let d : Begins (u ++ v) top o = rw e at i in
-    let l : length ws ≡ length u + length v = ap length e ∙ length-append u v in
-    (u, p .3, begins-left u v top o d, record { words = v; begins = begins-right u v top o d; blocks = p .4; ends = omega arith })
+    let q = parts-ahead (BlockBy deeper own (nodesDeep (depth + 5))) (slotSize depth) key (deeper (slotSize depth) key (run t lo hi)) (p .0) (p .1) 0 top (p .2) i refl (p .4) in
+    (p .0, p .3, q .0, q .1)
 
 module _ {deeper : ℕ → ℕ → List Route → List Route} {own : ℕ → ℕ → List Route → List ℕ → Type 0} {t : List ℕ} {lo hi depth key top : ℕ} {o : List ℕ}
     (n : Node t lo hi depth key) where
@@ -95,14 +99,11 @@ module _ {deeper : ℕ → ℕ → List Route → List Route} {own : ℕ → ℕ
       (top + length ws) o
   first-ahead lt ws b i =
       let a = h .each ws b i in
-      let s = slots-up (BlockBy deeper own (nodesDeep (depth + 5))) (slotSize depth) key (deeper (slotSize depth) key t) c lt (a .blocks) in
-      let u = s .0 in
-      let v = s .1 in
-      let e : a .words ≡ u ++ v = s .2 in
-      let d : Begins (u ++ v) at o = rw e at (a .begins) in
-      let l : length (a .words) ≡ length u + length v = ap length e ∙ length-append u v in
-      let z = a .ends in
-      (u, s .3, begins-left u v at o d, record { words = v; begins = begins-right u v at o d; blocks = s .4; ends = omega arith })
+      let block = BlockBy deeper own (nodesDeep (depth + 5)) in
+      let routes = deeper (slotSize depth) key t in
+      let p = slots-up block (slotSize depth) key routes c lt (a .blocks) in
+      let q = parts-ahead block (slotSize depth) key routes (p .0) (p .1) (c + 1) at (p .2) (a .begins) (a .ends) (p .4) in
+      (p .0, p .3, q .0, q .1)
 
   -- In a node that is stored it is read there.
   pub ahead-stored : c < 32 → StoredBy deeper own (nodesDeep depth) key t top o

@@ -118,7 +118,7 @@ pub record Opened (t : List ℕ) (lo hi depth key inherited fill above : ℕ) (w
   pub rewritten : ortc smallest wide (answerIn (run t lo hi) (hopOf inherited) (hopOf fill)) (wide - depth) key (hopOf above)
       ≡ slots (entryAt entries hops depth key) (slotRewrite t first end covering hops depth key fill) 32
   pub stored : Stored (setWords (answerIn (run t lo hi) (hopOf inherited) (hopOf fill))) (nodesDeep depth) key (run t lo hi) top work
-  pub rest : Busy entries hops depth key (slotRewrite t first end covering hops depth key fill) (run t lo hi) busy
+  pub quiet : Busy entries hops depth key (slotRewrite t first end covering hops depth key fill) (run t lo hi) busy
 
 -- The blocks of its slots from c on stand in the room from `at` on.
 abbrev AheadIn : List ℕ → ℕ → ℕ → ℕ → ℕ → ℕ → ℕ → ℕ → List ℕ → ℕ → ℕ → Type 0
@@ -157,7 +157,7 @@ module _ {t : List ℕ} {lo hi depth key : ℕ} {first end : List ℕ} {present 
             (λ c. ortc smallest wide f (slotSize depth) (placeAt (slotSize depth) key 5 c) (assignedAt f (slotSize depth) key (hopOf above) 4 (c / 2)))
             (slotRewrite t first end covering hops depth key fill) slot 32 (omega arith);
         stored = s;
-        rest = record {
+        quiet = record {
           rest = λ c lt clear.
               let p = neither (bitOr occupied marked) leaves c clear in
               let q = neither occupied marked c (p .0) in
@@ -242,7 +242,7 @@ module _ {t : List ℕ} {lo hi depth key inherited fill above : ℕ} {work : Lis
   pub walking-on : {k r at n : ℕ} {out₀ out : List ℕ} → NextBit busy k r
       → Walking t lo hi depth key inherited fill above work top first end covering hops entries k at n out₀ out
       → Walking t lo hi depth key inherited fill above work top first end covering hops entries r at n out₀ out
-  walking-on b h = record { walked = walked-next (q .rest) b (h .walked); ahead = ahead-past (q .rest) b (h .ahead) }
+  walking-on b h = record { walked = walked-next (q .quiet) b (h .walked); ahead = ahead-past (q .quiet) b (h .ahead) }
 
   -- After the last slot the node's rewrite is written, few enough, and its block is read.
   pub walking-end : {c at n : ℕ} {out₀ out : List ℕ}

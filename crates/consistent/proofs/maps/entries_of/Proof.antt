@@ -1,12 +1,16 @@
 -- `consistent::maps::entries_of` meets its contract. The loop's invariant: the bits of the positions before b are found. Assumes nothing.
-use Prim.Native.Nat.{_-_, _≤_}
+use Prim.Native.Nat.{_+_, _-_, _≤_}
+use mathlib.Core.Path.{refl}
 use native.Mathlib.Omega.{arith}
-use Rattle.consistent.proofs.MapLaws.{entryBit, Marked, marked-none, marked-next, marked-past, marked-all}
+use lib.Dec.{ltb}
+use borrow.Author.Tests.{lt-ltb, le-ltb}
+use Rattle.nodes.proofs.MarkedBits.{Marked, passes-up, marked-none, marked-take, marked-all}
+use Rattle.consistent.proofs.MapLaws.{entryBit, marked-past}
 use Rattle.consistent.proofs.maps.entries_of.Statement.{statement}
 use Rattle.consistent.proofs.maps.entries_of.Tie as tie
 
 abbrev Inv-loop : tie.InvT-loop
-Inv-loop present first end hops inherited entries₀ b₀ entries b = (b ≤ 32) × Marked (entryBit first end hops inherited) b entries
+Inv-loop present first end hops inherited entries₀ b₀ entries b = (b ≤ 32) × Marked 31 (entryBit first end hops inherited) (λ i. ltb i b) entries
 
 abbrev μ-loop : tie.MeasureT-loop
 μ-loop present first end hops inherited entries₀ b₀ entries b = 32 - b
@@ -17,7 +21,7 @@ next-bit-requires c κs = omega arith
 loop-holds : tie.Need-loop-holds Inv-loop μ-loop
 loop-holds c =
     let a = c .before .args in
-    (c .next-bit .ensures .high, marked-past (a .first .now) (a .end .now) (a .hops .now) (a .inherited) 0 (c .before .pre) (c .next-bit .ensures) (marked-none _))
+    (c .next-bit .ensures .high, marked-past (a .first .now) (a .end .now) (a .hops .now) (a .inherited) 0 (c .before .pre) (c .next-bit .ensures) (marked-none 31 _ (λ i. ltb i 0) (λ i lt. le-ltb i 0 (omega arith))))
 
 cast-with-entry : tie.Need-cast-with-entry Inv-loop μ-loop
 cast-with-entry c = omega arith
@@ -60,11 +64,11 @@ loop-again c =
     let with = c .before .with-entry in (
       c .next-bit2 .ensures .high,
       marked-past (a .first .now) (a .end .now) (a .hops .now) (a .inherited) (with .result) (start .pre) (c .next-bit2 .ensures)
-          (marked-next _ (l .b) (l .entries) (with .result) (l .inv .1) (rw (c .before .before .over-at .ensures) at (with .ensures))),
+          (marked-take (l .inv .1) (l .b) (λ i. ltb i (l .b + 1)) (passes-up (l .b)) _ (with .result) refl (rw (c .before .before .over-at .ensures) at (with .ensures))),
     )
 
 returns : tie.Need-returns Inv-loop μ-loop
-returns c = marked-all _ (c .before .loop .b) (c .before .loop .entries) (c .loop-test .left) (c .before .loop .inv .1)
+returns c = let l = c .before .loop in marked-all (l .inv .1) (λ i lt. lt-ltb i (l .b) (omega (arith, c .loop-test .left)))
 
 pub entries-of-spec : {M : Type 1} → statement M
 entries-of-spec =

@@ -5,7 +5,6 @@ use consistent::sets::aggregate_consistent_set;
 use cover::maximal::aggregate_set;
 use cover::maximal::collect_coverage;
 use ortc::walks::collect_sets;
-ghost use mathlib.Core.Path.{_≡_};
 ghost use Prim.Native.Nat.{_+_, _*_, _^_, _≤_};
 ghost use lib.ListN.{length};
 ghost use Rattle.nodes.specs.Node.{wide};

@@ -134,11 +134,6 @@ module _ (f : ℕ → Answer) (m a : ℕ) (g : Answer) where
   state-assigned zero j = refl
   state-assigned (suc l) j = ap (assigned smallest (setAt f m a l (j / 2))) (state-assigned l (j / 2)) ∙ sym (assigned-is l (j / 2))
 
-  -- At each position it goes on with what the position is assigned.
-  pub assigned-next : (l j : ℕ) → assignedAt f m a g l j
-      ≡ ortcNext smallest f (sizeAt m l) (placeAt m a l j) (stateAt (ortcOut smallest wide f) (ortcNext smallest f) m a g l j)
-  assigned-next l j = assigned-is l j ∙ ap (assigned smallest (setAt f m a l j)) (sym (state-assigned l j))
-
 -- A position that is not stored is assigned what stands above it.
 pub left-assigned : (f : ℕ → Answer) (m a : ℕ) (g : Answer) (xs : List ℕ) → ShowsNode f m a xs → (l j : ℕ) → l ≤ 5 → j < 2 ^ l
     → stored xs (position l j) ≡ false → assignedOver f m a g l j ≡ assignedAt f m a g l j

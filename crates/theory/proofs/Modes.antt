@@ -1,20 +1,19 @@
 -- The theorems of the five modes, over every width and every lawful choice of a hop: each result keeps what it must, is a table, has its
 -- hops from the table, and is given back when it is rewritten again; and demand 3, when two tables have the same result.
 use Prim.Native.Nat.{ℕ, _^_, _<_}
-use mathlib.Core.Path.{_≡_, refl, sym, _∙_}
+use mathlib.Core.Path.{_≡_, refl, _∙_}
 use mathlib.Core.List.{List}
-use mathlib.Core.Bool.{Bool}
 use mathlib.Core.Logic.{_↔_, _⊎_, inl, inr}
 use native.Mathlib.Omega.{arith}
-use Rattle.theory.specs.Routes.{Route, Table, Member, All, Match, miss, hit, Answer, none, via, held, answer, lookup, under, orDefault, filled, Alike}
-use Rattle.theory.specs.Results.{Mode, aggregateSet, aggregateConsistentSet, aggregateConsistentMap, aggregateMapDrop, aggregateMapFill, result, Chooses, whole}
+use Rattle.theory.specs.Routes.{Route, Table, All, Match, miss, hit, Answer, none, via, held, answer, lookup, under, orDefault, filled, Alike}
+use Rattle.theory.specs.Results.{Mode, aggregateSet, aggregateConsistentSet, aggregateConsistentMap, aggregateMapDrop, aggregateMapFill, result, Chooses}
 use Rattle.theory.specs.Demands.{Keeps, HopIn, HopFrom}
 use Rattle.theory.proofs.Lists.{all-map, member-all}
 use Rattle.theory.proofs.LongestMatch.{lookup-member}
 use Rattle.theory.proofs.Maximal.{maximal-holds, maximal-alike, maximal-again, maximal-table, maximal-bare}
 use Rattle.theory.proofs.Kept.{consistent-set-holds, consistent-map-answers, consistent-set-again, consistent-map-again, consistent-set-table, consistent-map-table, consistent-set-members, consistent-map-members}
 use Rattle.theory.proofs.Preserve.{answers}
-use Rattle.theory.proofs.Order.{HopOf, hops, whole-valid, whole-ascending}
+use Rattle.theory.proofs.Order.{hops, whole-valid, whole-ascending}
 use Rattle.theory.proofs.Repeat.{alike, again, again-filled}
 
 -- A hop that a table answers is a member's.

@@ -1,6 +1,5 @@
 -- `bench::repeat` is safe and ends: the measure is the number of rewrites that are left before the last. Assumes nothing.
 use mathlib.Core.Path.{_≡_}
-use native.Mathlib.Omega.{arith}
 use lib.ListN.{length}
 use borrow.Author.Needs.{needs}
 use Rattle.bench.proofs.repeat.Statement.{statement}

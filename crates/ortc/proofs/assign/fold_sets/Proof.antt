@@ -1,8 +1,7 @@
 -- `ortc::assign::fold_sets` meets its contract. The loop's invariant: the positions from b on are folded. Assumes nothing.
 use Prim.Native.Nat.{suc, _-_, _≤_}
-use mathlib.Core.Path.{_≡_, refl}
+use mathlib.Core.Path.{_≡_}
 use native.Mathlib.Omega.{arith}
-use lib.ListN.{length, length-set}
 use borrow.Author.Needs.{needs}
 use Rattle.ortc.proofs.AssignLaws.{Folded, folded-none, folded-next, folded-node}
 use Rattle.ortc.proofs.assign.fold_sets.Statement.{statement}

@@ -1,9 +1,8 @@
 -- `ortc::assign::with_entry` meets its contract. Assumes nothing.
 use borrow.Author.Needs.{needs}
-use mathlib.Core.Path.{_≡_, refl, sym, ap, _∙_}
-use mathlib.Core.Bool.{Bool, false, _||_, _&&_, and-false, and-true}
+use mathlib.Core.Path.{_∙_}
+use mathlib.Core.Bool.{and-false, and-true}
 use native.Mathlib.Omega.{arith}
-use lib.Dec.{eqb}
 use borrow.Author.Tests.{eq-eqb, ne-eqb, lt-ltb, le-ltb}
 use Rattle.ortc.proofs.assign.with_entry.Statement.{statement}
 use Rattle.ortc.proofs.assign.with_entry.Tie as tie

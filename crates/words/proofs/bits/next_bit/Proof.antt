@@ -1,9 +1,9 @@
 -- `words::bits::next_bit` meets its contract. Assumes nothing.
 use mathlib.Core.Path.{_≡_}
-use Prim.Native.Nat.{_+_, _/_, _^_, _<_, _≤_}
+use Prim.Native.Nat.{_/_, _^_}
 use native.Mathlib.Nat.{div-eq-of-lt}
 use native.Mathlib.Omega.{arith}
-use lib.Count.{trailingZeros, trailing-le}
+use lib.Count.{trailing-le}
 use borrow.Author.Needs.{needs}
 use Rattle.words.proofs.BitLaws.{next-none, next-found}
 use Rattle.words.proofs.bits.next_bit.Statement.{statement}

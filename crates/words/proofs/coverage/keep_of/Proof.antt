@@ -1,7 +1,7 @@
 -- `words::coverage::keep_of` meets its contract. Assumes nothing.
 use mathlib.Core.Path.{ap, ap₂, _∙_}
 use mathlib.Core.Bool.{Bool, _&&_}
-use Prim.Native.Nat.{ℕ, _-_, _^_}
+use Prim.Native.Nat.{_-_, _^_}
 use lib.Bits.{bitAnd}
 use Rattle.words.specs.Bits.{bit}
 use Rattle.words.proofs.BitLaws.{bit-and, bit-not}

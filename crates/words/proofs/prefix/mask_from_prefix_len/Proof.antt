@@ -1,6 +1,5 @@
 -- `words::prefix::mask_from_prefix_len` meets its contract. Assumes nothing.
 use mathlib.Core.Path.{sym, ap}
-use Prim.Native.Nat.{ℕ}
 use borrow.Author.Needs.{needs}
 use Rattle.words.specs.Prefix.{maskOf}
 use Rattle.words.proofs.PrefixLaws.{mask-shift}

@@ -20,7 +20,7 @@ use Rattle.theory.specs.Shapes.{Within, routed}
 use Rattle.words.specs.Bits.{bit, NextBit}
 use Rattle.words.specs.Coverage.{UnderMembers, WhollyCovered}
 use Rattle.words.specs.Positions.{position, member, whole}
-use Rattle.words.proofs.BitLaws.{if-lt, bit-and, bit-or}
+use Rattle.words.proofs.BitLaws.{bit-and, bit-or}
 use Rattle.words.proofs.PositionLaws.{in-word, Place, above}
 use Rattle.positions.specs.Runs.{inside, sizeAt, placeAt, memberOver}
 use Rattle.positions.proofs.Runs.{Nested, nested-start, throughout-under}
@@ -29,7 +29,8 @@ use Rattle.nodes.specs.Node.{wide, run, slotSize, Node}
 use Rattle.nodes.specs.Gathered.{some, runAt, levelOf, Gathered, Occupied}
 use Rattle.nodes.proofs.GatherLaws.{node-run, slot-records, no-child, member-is, has-record, slot-vacant, slot-occupied, child-node}
 use Rattle.nodes.proofs.GatherPlaces.{in-heap, same-position, level-slot, place-in, place-at}
-use Rattle.nodes.proofs.MarkedBits.{Marked, passes-up, marked-none, marked-take, marked-all}
+use Rattle.nodes.proofs.BusySlots.{next-steps}
+use Rattle.nodes.proofs.MarkedBits.{Marked, passes-up, marked-none, marked-take, marked-skip, marked-all}
 use Rattle.nodes.proofs.MemberLaws.{slot-is}
 use Rattle.cover.specs.Coverage.{coveredIn, recordOver}
 
@@ -71,16 +72,12 @@ module _ {t : List ℕ} {lo hi depth key : ℕ} {first end : List ℕ} {present 
 
 -- ---- The word of covered slots, while slots are taken into it.
 
--- Slots of which p does not hold, from a up to r, are left out.
-pub slots-past : {p : ℕ → Bool} {covered : ℕ} (a r : ℕ) → Marked 32 p (λ i. ltb i a) covered → a ≤ r → ((i : ℕ) → a ≤ i → i < r → p i ≡ false)
-    → Marked 32 p (λ i. ltb i r) covered
-slots-past {p} {covered} a r slots le none = record { each = each }
-  where
-    each : (i : ℕ) → i < 32 → bit covered i ≡ (ltb i r && p i)
-    each i lt =
-        slots .each i lt
-        ∙ if-lt (λ (b : Bool). (b && p i) ≡ (ltb i r && p i)) i a (λ l. sym (ap (λ (b : Bool). b && p i) (lt-ltb i r (omega arith))))
-        (λ ge. if-lt (λ (b : Bool). false ≡ (b && p i)) i r (λ l. sym (none i ge l)) (λ l. refl))
+-- Slots that are not asked, those whose bit of x is not set, are passed over.
+slots-past : {x : ℕ} (f : ℕ → Bool) {covered k r : ℕ} → NextBit x k r → Marked 32 (λ i. bit x i && f i) (λ i. ltb i k) covered
+    → Marked 32 (λ i. bit x i && f i) (λ i. ltb i r) covered
+slots-past {x} f {covered} next =
+    next-steps (λ c. Marked 32 (λ i. bit x i && f i) (λ i. ltb i c) covered) next
+    (λ i lt off m. marked-skip m i (λ k. ltb k (i + 1)) (passes-up i) (λ small. rw off))
 
 -- ---- The way up from a position to a record at it or above it, by the numbers of the positions.
 
@@ -451,7 +448,7 @@ module _ {t : List ℕ} {lo hi depth key b : ℕ} {first end : List ℕ} {presen
       record {
         asking = s;
         next = z .isSet;
-        slots = slots-past 0 r (marked-none 32 _ (λ i. ltb i 0) (λ i lt. le-ltb i 0 (omega arith))) (z .low) (λ i low lt. rw (z .clear i low lt));
+        slots = slots-past _ z (marked-none 32 _ (λ i. ltb i 0) (λ i lt. le-ltb i 0 (omega arith)));
       }
 
   module _ {covered c : ℕ} (w : Answered t lo hi depth key b first end present under walked covered c) where
@@ -473,7 +470,7 @@ module _ {t : List ℕ} {lo hi depth key b : ℕ} {first end : List ℕ} {presen
         record {
           asking = s;
           next = z .isSet;
-          slots = slots-past (c + 1) r all (z .low) (λ i low small. rw (z .clear i low small));
+          slots = slots-past _ z all;
         }
 
     -- All are: the fold finds whether the node's routes cover position b.

@@ -20,13 +20,14 @@ use Rattle.theory.specs.Routes.{held, All, Aligned, Valid, Table}
 use Rattle.theory.proofs.Chosen.{smallest-chooses}
 use Rattle.theory.proofs.Lengths.{mostOf, result-length}
 use Rattle.theory.proofs.Maximal.{throughout-agree}
-use Rattle.table.specs.Calls.{checkReply}
-use Rattle.table.specs.Facts.{Lawful}
-use Rattle.table.specs.Nodes.{nodes}
-use Rattle.table.specs.Rules.{Rule, rule, gives, refuses, judge}
-use Rattle.table.specs.Wire.{records, routes, tableRules, Bytes, bytesOf}
-use Rattle.table.proofs.Judging.{gives-any}
-use Rattle.table.proofs.Reading.{length-routes}
+use Rattle.table.specs.Checking.{checkReply}
+use Rattle.table.specs.Conditions.{Lawful}
+use Rattle.nodecount.specs.Nodes.{nodes}
+use Rattle.refusals.specs.Rules.{Rule, rule, gives, refuses, judge}
+use Rattle.records.specs.Wire.{records, routes, Bytes, bytesOf}
+use Rattle.table.specs.TableRules.{tableRules}
+use Rattle.refusals.proofs.Judged.{gives-any}
+use Rattle.records.proofs.Reading.{length-routes}
 use Rattle.table.proofs.Tables.{accepted-table, set-hops}
 use Rattle.positions.specs.Wide.{widened}
 use Rattle.positions.proofs.Wide.{aligned-widen, held-widen, throughout-widen, all-widen}

@@ -14,7 +14,7 @@ use Rattle.theory.specs.Results.{ortc, result, smallest}
 use Rattle.theory.specs.Routes.{Route, held, Answer, none, via, answer, orDefault, filled, Valid, All, Table}
 use Rattle.theory.proofs.Agree.{ortc-agree}
 use Rattle.theory.proofs.Chosen.{smallest-chooses}
-use Rattle.table.specs.Wire.{routes, bytesOf}
+use Rattle.records.specs.Wire.{routes, bytesOf}
 use Rattle.positions.specs.Runs.{hopOf, orElse}
 use Rattle.positions.specs.Walk.{walk}
 use Rattle.positions.specs.Walks.{maximalOut, maximalNext, consistentSetOut, consistentSetNext, consistentMapOut, consistentMapNext}

@@ -7,8 +7,8 @@ use lib.Dec.{leb}
 use lib.ListN.{length}
 use Rattle.theory.specs.Routes.{Route, All, none}
 use Rattle.theory.specs.Results.{result, smallest}
-use Rattle.table.specs.Rules.{rule, Reply, judge}
-use Rattle.table.specs.Wire.{records}
+use Rattle.refusals.specs.Rules.{rule, Reply, judge}
+use Rattle.records.specs.Wire.{records}
 use Rattle.positions.specs.Runs.{hopOf}
 use Rattle.nodes.specs.Node.{wide, run, Node}
 use Rattle.nodes.specs.Room.{Stored, StoredBy}

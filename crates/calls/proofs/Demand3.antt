@@ -14,15 +14,17 @@ use Rattle.theory.specs.Demands.{HopIn, HopFrom}
 use Rattle.theory.proofs.Lists.{all-map, all-member}
 use Rattle.theory.proofs.Chosen.{smallest-chooses}
 use Rattle.theory.proofs.Modes.{result-hops, result-again, drop-alike, fill-alike, set-alike}
-use Rattle.table.specs.Wire.{records, routes, bytesOf, Bytes, topHop}
-use Rattle.table.specs.Facts.{Accepted, Lawful}
-use Rattle.table.specs.Nodes.{nodes}
+use Rattle.records.specs.Wire.{records, routes, bytesOf, Bytes}
+use Rattle.table.specs.TableRules.{topHop}
+use Rattle.table.specs.Conditions.{Accepted, Lawful}
+use Rattle.nodecount.specs.Nodes.{nodes}
 use Rattle.table.proofs.Accepted.{accepted}
 use Rattle.table.proofs.Tables.{table-accepted}
-use Rattle.table.proofs.Written.{records-bytes, routes-bytes, bytes-small}
+use Rattle.records.proofs.Written.{records-bytes, routes-bytes, bytes-small}
 use Rattle.calls.specs.declared.Rewritten.{Rewritten}
 use Rattle.calls.specs.declared.Rewritten.the-variants.{Records}
-use Rattle.calls.specs.Conditions.{RewriteCondition, Answerable, None}
+use Rattle.calls.specs.Conditions.{RewriteCondition, Answerable}
+use Rattle.refusals.specs.Order.{None}
 use Rattle.calls.specs.Rewriting.{modeOf, resultOf, takesSet, Rewrites}
 use Rattle.calls.proofs.Refusals.{answerable-exactly}
 use Rattle.calls.proofs.Results.{rewrite-records, rewrite-written, rewrite-lawful, rewrite-table}

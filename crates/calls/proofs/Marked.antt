@@ -13,16 +13,19 @@ use Rattle.theory.proofs.Chosen.{smallest-chooses}
 use Rattle.theory.proofs.Quick.{ortcOf, setsOf}
 use Rattle.theory.proofs.Computed.{set-computed, drop-computed}
 use Rattle.theory.proofs.Cases.{route, Case, cases, Answered, worked}
-use Rattle.table.specs.Rules.{gives, judge}
-use Rattle.table.specs.Wire.{routeAt, routesFrom, routes, bytesOf, recordRules, rulesFrom, tableRules}
-use Rattle.table.specs.Nodes.{nodes, brought, fresh}
+use Rattle.refusals.specs.Rules.{gives, judge}
+use Rattle.records.specs.Wire.{routeAt, routesFrom, routes, bytesOf}
+use Rattle.table.specs.TableRules.{recordRules, rulesFrom, tableRules}
+use Rattle.nodecount.specs.Nodes.{nodes, brought, fresh}
 use Rattle.table.proofs.Accepted.{accepted}
-use Rattle.table.proofs.Written.{records-bytes}
+use Rattle.records.proofs.Written.{records-bytes}
 use Rattle.calls.specs.declared.Rewritten.{Rewritten}
 use Rattle.calls.specs.declared.Rewritten.the-variants.{Records}
-use Rattle.calls.specs.Conditions.{RewriteCondition, None}
+use Rattle.calls.specs.Conditions.{RewriteCondition}
+use Rattle.refusals.specs.Order.{None}
 use Rattle.calls.specs.Rewriting.{modeOf, resultOf, takesSet, Rewrites}
-use Rattle.calls.proofs.Refusals.{accepted-exactly, answerable-exactly, empty-table, empty-nodes}
+use Rattle.table.proofs.Accepted.{accepted-exactly}
+use Rattle.calls.proofs.Refusals.{answerable-exactly, empty-table, empty-nodes}
 use Rattle.calls.proofs.Results.{rewrite-result}
 
 -- A mode's number, and its default (0 where it is not read).

@@ -10,21 +10,25 @@ use native.Mathlib.Omega.{arith}
 use lib.IntN.{ℤ, pos}
 use lib.ListN.{length, replicate}
 use Rattle.theory.specs.Routes.{Route}
-use Rattle.table.specs.Rules.{Rule, Reply, gives, refuses}
-use Rattle.table.specs.Wire.{records, routes, routesFrom, tableRules}
-use Rattle.table.specs.Nodes.{nodes, brought}
-use Rattle.table.specs.Facts.{Accepted, Refused as BadTable}
+use Rattle.refusals.specs.Rules.{Rule, Reply, gives, refuses}
+use Rattle.records.specs.Wire.{records, routes, routesFrom}
+use Rattle.table.specs.TableRules.{tableRules}
+use Rattle.nodecount.specs.Nodes.{nodes, brought}
+use Rattle.table.specs.Conditions.{Accepted, Refused as BadTable}
 use Rattle.table.proofs.Accepted.{not-refused, accepted, refused-exactly}
 use Rattle.calls.specs.declared.Rewritten.{Rewritten}
 use Rattle.calls.specs.declared.Rewritten.the-variants.{Records, Refused}
 use Rattle.calls.specs.declared.Covers.{Covers}
 use Rattle.calls.specs.declared.Covers.the-variants.{Refused as NotAnswered}
-use Rattle.calls.specs.Conditions.{TableCondition, not-whole, too-many, of-record, RewriteCondition, no-mode, large-default, of-table, short-work, short-output, CoverCondition, Answerable, Earlier, First, None}
+use Rattle.table.specs.Conditions.{TableCondition, not-whole, too-many, of-record}
+use Rattle.calls.specs.Conditions.{RewriteCondition, no-mode, large-default, of-table, short-work, short-output, CoverCondition, Answerable}
+use Rattle.refusals.specs.Order.{Earlier, First, None}
 use Rattle.calls.specs.Covering.{coverRules, coveredBy, coversSays, Queried}
 use Rattle.calls.specs.Rewriting.{resultOf, takesSet, rewriteRules, Written, rewriteReply, writtenOf, outputOf, rewrittenSays, countOf, changeOf, Rewrites}
-use Rattle.calls.proofs.Judged.{earlier-not, gives-exactly, refuses-exactly}
+use Rattle.refusals.proofs.Judged.{earlier-not, gives-exactly, refuses-exactly}
 use Rattle.calls.proofs.Settled.{rewritten-same, covers-same}
-use Rattle.calls.proofs.Tested.{table-tests, table-in-order, rewrite-in-order, rewrite-tests, cover-in-order, cover-tests}
+use Rattle.table.proofs.Tested.{table-tests, table-in-order}
+use Rattle.calls.proofs.Tested.{rewrite-in-order, rewrite-tests, cover-in-order, cover-tests}
 
 -- ---- A table's conditions are what the table crate's facts say.
 module _ (s : Bool) (t : List ℕ) where

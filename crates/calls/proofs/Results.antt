@@ -15,17 +15,18 @@ use Rattle.theory.specs.Demands.{Keeps}
 use Rattle.theory.proofs.Chosen.{smallest-chooses}
 use Rattle.theory.proofs.Modes.{result-keeps, result-table}
 use Rattle.theory.proofs.Maximal.{throughout-each}
-use Rattle.table.specs.Rules.{Reply, gives, refuses}
-use Rattle.table.specs.Wire.{records, routes, bytesOf, Bytes}
-use Rattle.table.specs.Facts.{Lawful}
+use Rattle.refusals.specs.Rules.{Reply, gives, refuses}
+use Rattle.records.specs.Wire.{records, routes, bytesOf, Bytes}
+use Rattle.table.specs.Conditions.{Lawful}
 use Rattle.table.proofs.Accepted.{not-refused}
 use Rattle.table.proofs.Tables.{accepted-table}
-use Rattle.table.proofs.Written.{length-bytes, routes-bytes}
+use Rattle.records.proofs.Written.{length-bytes, routes-bytes}
 use Rattle.calls.specs.declared.Rewritten.{Rewritten}
 use Rattle.calls.specs.declared.Rewritten.the-variants.{Records}
 use Rattle.calls.specs.declared.Covers.{Covers}
 use Rattle.calls.specs.declared.Covers.the-variants.{Covered}
-use Rattle.calls.specs.Conditions.{RewriteCondition, CoverCondition, None}
+use Rattle.calls.specs.Conditions.{RewriteCondition, CoverCondition}
+use Rattle.refusals.specs.Order.{None}
 use Rattle.calls.specs.Covering.{coveredBy, coversSays, Queried}
 use Rattle.calls.specs.Rewriting.{modeOf, resultOf, takesSet, rewriteReply, writtenOf, outputOf, Rewrites}
 use Rattle.calls.proofs.Refusals.{answerable-exactly, reply-gives, rewrite-accepted, covers-answered}

@@ -8,14 +8,17 @@ use native.Mathlib.Omega.{arith}
 use lib.Dec.{eqb, leb}
 use lib.ListN.{length}
 use borrow.Author.Tests.{eqb-true, eqb-false, eq-eqb, ne-eqb, leb-true, leb-false, le-leb, lt-leb}
-use Rattle.table.specs.Rules.{Rule, rule}
-use Rattle.table.specs.Wire.{records, routeAt, routes, hostClear, tailKept, inOrder, recordRules, rulesFrom, tableRules}
-use Rattle.table.specs.Nodes.{nodes}
+use Rattle.refusals.specs.Rules.{Rule, rule}
+use Rattle.records.specs.Wire.{records, routeAt, routes}
+use Rattle.table.specs.TableRules.{hostClear, tailKept, inOrder, recordRules, rulesFrom, tableRules}
+use Rattle.nodecount.specs.Nodes.{nodes}
 use Rattle.table.proofs.Accepted.{Shows, yes, no, length-shown, host-shown, tail-shown, order-shown}
-use Rattle.calls.specs.Conditions.{RecordCondition, too-long, host-bits, bad-tail, not-after, TableCondition, not-whole, too-many, of-record, RewriteCondition, no-mode, large-default, of-table, short-work, short-output, CoverCondition, of-set, long-query, short-room, place, Earlier}
+use Rattle.table.specs.Conditions.{RecordCondition, too-long, host-bits, bad-tail, not-after, TableCondition, not-whole, too-many, of-record}
+use Rattle.calls.specs.Conditions.{RewriteCondition, no-mode, large-default, of-table, short-work, short-output, CoverCondition, of-set, long-query, short-room}
+use Rattle.refusals.specs.Order.{place, Earlier}
 use Rattle.calls.specs.Covering.{coverRules}
 use Rattle.calls.specs.Rewriting.{resultOf, takesSet, rewriteRules}
-use Rattle.calls.proofs.Judged.{Broken, InOrder}
+use Rattle.refusals.proofs.Judged.{Broken, InOrder}
 
 -- A condition at equal numbers.
 at : (Holds : ℕ → ℕ → Type 0) {m n i j : ℕ} → m ≡ n → i ≡ j → Holds m i → Holds n j

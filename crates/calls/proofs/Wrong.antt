@@ -13,11 +13,11 @@ use Rattle.theory.proofs.Lists.{all-member}
 use Rattle.theory.proofs.Chosen.{smallest-chooses}
 use Rattle.theory.proofs.Preserve.{answers}
 use Rattle.theory.proofs.Cases.{route, cases, worked}
-use Rattle.table.specs.Wire.{records, routeAt, routesFrom, routes, bytesOf}
-use Rattle.table.specs.Calls.{addressSum, heldSays, heldReply}
-use Rattle.table.specs.declared.answers.AddressesHeld.the-variants.{Sum}
-use Rattle.table.proofs.Written.{length-bytes}
-use Rattle.table.proofs.Calls.{held-sum-exactly}
+use Rattle.records.specs.Wire.{records, routeAt, routesFrom, routes, bytesOf}
+use Rattle.lookup.specs.Calls.{addressSum, heldSays, heldReply}
+use Rattle.lookup.specs.declared.answers.AddressesHeld.the-variants.{Sum}
+use Rattle.records.proofs.Written.{length-bytes}
+use Rattle.lookup.proofs.Calls.{held-sum-exactly}
 use Rattle.calls.specs.declared.Rewritten.{Rewritten}
 use Rattle.calls.specs.declared.Rewritten.the-variants.{Records, Refused}
 use Rattle.calls.specs.Rewriting.{countOf, Rewrites}

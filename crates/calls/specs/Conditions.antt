@@ -7,9 +7,9 @@ use mathlib.Core.List.{List}
 use mathlib.Core.Logic.{_⊎_}
 use lib.Dec.{leb}
 use lib.ListN.{length}
-use Rattle.table.specs.Facts.{LengthKept, HostKept, TailKept, OrderKept, Accepted}
-use Rattle.table.specs.Nodes.{nodes}
-use Rattle.table.specs.Wire.{records, routes}
+use Rattle.table.specs.Conditions.{LengthKept, HostKept, TailKept, OrderKept, Accepted}
+use Rattle.nodecount.specs.Nodes.{nodes}
+use Rattle.records.specs.Wire.{records, routes}
 use Rattle.calls.specs.Rewriting.{resultOf, takesSet}
 
 -- ---- The conditions.

@@ -8,9 +8,10 @@ use lib.IntN.{ℤ, pos, _-ℤ_}
 use lib.ListN.{length, drop, replicate}
 use Rattle.theory.specs.Routes.{Route}
 use Rattle.theory.specs.Results.{Mode, aggregateSet, aggregateConsistentSet, aggregateConsistentMap, aggregateMapDrop, aggregateMapFill, result, smallest}
-use Rattle.table.specs.Rules.{Rule, rule, Reply, gives, refuses, judge}
-use Rattle.table.specs.Wire.{records, routes, bytesOf, tableRules}
-use Rattle.table.specs.Nodes.{nodes}
+use Rattle.refusals.specs.Rules.{Rule, rule, Reply, gives, refuses, judge}
+use Rattle.records.specs.Wire.{records, routes, bytesOf}
+use Rattle.table.specs.TableRules.{tableRules}
+use Rattle.nodecount.specs.Nodes.{nodes}
 use Rattle.calls.specs.declared.Rewritten.{Rewritten}
 use Rattle.calls.specs.declared.Rewritten.the-variants.{Records, Refused}
 

@@ -8,7 +8,7 @@ use lib.ListN.{getD}
 use Rattle.theory.specs.Routes.{Route, Answer, none, via, All, nil, cons}
 use Rattle.theory.proofs.Parts.{all-part}
 use Rattle.theory.specs.Shapes.{routed}
-use Rattle.table.specs.Wire.{route}
+use Rattle.records.specs.Wire.{route}
 use Rattle.words.specs.Bits.{bit}
 use Rattle.words.specs.Coverage.{UnderMembers, Kept}
 use Rattle.words.specs.Positions.{position}

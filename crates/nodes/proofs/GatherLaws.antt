@@ -16,8 +16,9 @@ use Rattle.theory.proofs.Lists.{all-map, all-member}
 use Rattle.theory.proofs.Order.{valid-within}
 use Rattle.theory.proofs.Parts.{all-part, table-part, part-agree}
 use Rattle.theory.specs.Shapes.{Within, routed}
-use Rattle.table.specs.Wire.{records, routeAt, routes, topHop}
-use Rattle.table.specs.Facts.{Lawful}
+use Rattle.records.specs.Wire.{records, routeAt, routes}
+use Rattle.table.specs.TableRules.{topHop}
+use Rattle.table.specs.Conditions.{Lawful}
 use Rattle.words.specs.Bits.{bit}
 use Rattle.words.specs.Positions.{position}
 use Rattle.words.proofs.PositionLaws.{placed}

@@ -13,7 +13,7 @@ use Rattle.theory.specs.Results.{part}
 use Rattle.theory.specs.Routes.{Route, All, nil, cons, Before, Ascending, first, Member, head, later}
 use Rattle.theory.proofs.Lists.{all-member}
 use Rattle.theory.proofs.Parts.{part-whole, part-none, part-append}
-use Rattle.table.specs.Wire.{routesFrom}
+use Rattle.records.specs.Wire.{routesFrom}
 use Rattle.positions.specs.Wide.{widened}
 use Rattle.nodes.specs.Node.{spare, wideAt, run}
 use Rattle.nodes.specs.Gathered.{some}

@@ -13,9 +13,9 @@ use lib.Pow.{pow-pos, pow-add, pow-mono}
 use lib.Seq.{take-all}
 use borrow.Author.Tests.{eqb-true}
 use Rattle.theory.specs.Routes.{Route}
-use Rattle.table.specs.Wire.{recordOf, bytesOf, laid}
-use Rattle.table.proofs.Laid.{laid-none, laid-then, laid-tail, bytes-append}
-use Rattle.table.proofs.Written.{length-bytes}
+use Rattle.records.specs.Wire.{recordOf, bytesOf, laid}
+use Rattle.records.proofs.Laid.{laid-none, laid-then, laid-tail, bytes-append}
+use Rattle.records.proofs.Written.{length-bytes}
 use Rattle.positions.specs.Runs.{sizeAt, placeAt}
 use Rattle.positions.specs.Walk.{headsOf, slotsOf, startsAt, heads, slots}
 use Rattle.positions.specs.Wide.{narrow, narrowed}

@@ -9,10 +9,10 @@ use lib.Pow.{pow-add}
 use Rattle.theory.specs.Results.{In}
 use Rattle.theory.specs.Routes.{Route, All, Aligned, Valid}
 use Rattle.theory.proofs.Blocks.{aligned-zero, in→block, block→in}
-use Rattle.table.specs.Nodes.{nodes}
-use Rattle.table.specs.Wire.{records, routes, routesFrom}
-use Rattle.table.proofs.NodeCount.{both-true, true-both}
-use Rattle.table.proofs.NodeRuns.{orNone, inBlock, slotKey, slotRun, sumTo, nodesIn, nodes-runs}
+use Rattle.nodecount.specs.Nodes.{nodes}
+use Rattle.records.specs.Wire.{records, routes, routesFrom}
+use Rattle.nodecount.proofs.NodeCount.{both-true, true-both}
+use Rattle.nodecount.proofs.NodeRuns.{orNone, inBlock, slotKey, slotRun, sumTo, nodesIn, nodes-runs}
 use Rattle.positions.specs.Runs.{isIn, inside, placeAt}
 use Rattle.positions.specs.Wide.{widen, widened}
 use Rattle.positions.proofs.Runs.{is-in}

@@ -11,7 +11,7 @@ use lib.ListN.{length, length-append}
 use Rattle.theory.specs.Routes.{Route}
 use Rattle.positions.specs.Runs.{inside, placeAt}
 use Rattle.nodes.specs.Node.{wide, slotSize}
-use Rattle.table.proofs.NodeRuns.{orNone}
+use Rattle.nodecount.proofs.NodeRuns.{orNone}
 use Rattle.nodes.specs.Room.{SlotBlock, SlotBlocks, BlockBy, Block, everywhere, nodesDeep, slotNodes, nodesBelow}
 use Rattle.nodes.proofs.RoomBlocks.{deep-step}
 

@@ -7,7 +7,7 @@ use lib.Dec.{eqb, ltb}
 use lib.ListN.{getD}
 use Rattle.theory.specs.Routes.{Route}
 use Rattle.theory.specs.Results.{part}
-use Rattle.table.specs.Wire.{routeAt}
+use Rattle.records.specs.Wire.{routeAt}
 use Rattle.words.specs.Bits.{bit}
 use Rattle.words.specs.Positions.{position}
 use Rattle.positions.specs.Runs.{isAt, isIn, sizeAt, placeAt}

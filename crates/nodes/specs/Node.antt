@@ -4,7 +4,7 @@ use mathlib.Core.Path.{_≡_}
 use mathlib.Core.List.{List}
 use Rattle.theory.specs.Routes.{Route, All, Table, Aligned}
 use Rattle.theory.specs.Shapes.{Within}
-use Rattle.table.specs.Wire.{records, routesFrom, routeAt}
+use Rattle.records.specs.Wire.{records, routesFrom, routeAt}
 use Rattle.positions.specs.Wide.{widen, widened}
 
 -- The width of a wide address, and how many bits it has more than an address of the wire.

@@ -5,7 +5,7 @@ use mathlib.Core.Path.{_≡_}
 use mathlib.Core.List.{List, [], _∷_, _++_}
 use lib.ListN.{length, take, drop}
 use Rattle.theory.specs.Routes.{Route}
-use Rattle.table.proofs.NodeRuns.{orNone}
+use Rattle.nodecount.proofs.NodeRuns.{orNone}
 use Rattle.positions.specs.Runs.{inside, placeAt}
 use Rattle.nodes.specs.Node.{wide}
 

@@ -1,15 +1,15 @@
 // One pass over a node's run: which records stand at each of its positions, and which lie in each of its slots.
 
-use table::records::addr_at;
-use table::records::hop_at;
-use table::records::len_at;
+use records::addr_at;
+use records::hop_at;
+use records::len_at;
 use words::bits::with_bit;
 ghost use mathlib.Core.Path.{_≡_};
 ghost use Prim.Native.Nat.{ℕ, _+_, _-_, _*_, _/_, _^_, _≤_, _<_};
 ghost use lib.Dec.{eqb};
 ghost use mathlib.Core.Bool.{false, _||_};
 ghost use lib.ListN.{length, getD};
-ghost use Rattle.table.specs.Wire.{records};
+ghost use Rattle.records.specs.Wire.{records};
 ghost use Rattle.words.specs.Bits.{bit};
 ghost use Rattle.words.specs.Positions.{position};
 ghost use Rattle.positions.specs.Runs.{sizeAt, placeAt};

@@ -2,7 +2,7 @@
 use Prim.Native.Nat.{ℕ}
 use mathlib.Core.List.{List}
 use lib.Dec.{ltb}
-use Rattle.table.specs.Wire.{records}
+use Rattle.records.specs.Wire.{records}
 use Rattle.calls.specs.Rewriting.{rewriteReply}
 use Rattle.text.specs.Answers.{replyText}
 

@@ -2,8 +2,8 @@
 // the answers is kept in a buffer until there is much of it.
 
 use libc::STDOUT_FILENO;
-use table::addresses_held;
-use table::lookup;
+use lookup::addresses_held;
+use lookup::lookup;
 use text::answers::put_held;
 use text::answers::put_lookup;
 use text::put_bytes;

@@ -8,17 +8,20 @@ use Prim.Native.Nat.{ℕ, _≤_}
 use native.Mathlib.Omega.{arith}
 use lib.IntN.{ℤ}
 use lib.ListN.{length}
-use Rattle.table.specs.Calls.{lookupSays, heldSays}
-use Rattle.table.specs.Rules.{Reply, gives, refuses, judge}
-use Rattle.table.specs.Wire.{tableRules}
+use Rattle.lookup.specs.Calls.{lookupSays, heldSays}
+use Rattle.refusals.specs.Rules.{Reply, gives, refuses, judge}
+use Rattle.table.specs.TableRules.{tableRules}
 use Rattle.table.proofs.Accepted.{not-refused, accepted, refused-exactly}
-use Rattle.calls.specs.Conditions.{RecordCondition, too-long, host-bits, bad-tail, not-after, TableCondition, not-whole, too-many, of-record, RewriteCondition, no-mode, large-default, of-table, short-work, short-output, CoverCondition, of-set, long-query, short-room, First, None}
+use Rattle.table.specs.Conditions.{RecordCondition, too-long, host-bits, bad-tail, not-after, TableCondition, not-whole, too-many, of-record}
+use Rattle.calls.specs.Conditions.{RewriteCondition, no-mode, large-default, of-table, short-work, short-output, CoverCondition, of-set, long-query, short-room}
+use Rattle.refusals.specs.Order.{First, None}
 use Rattle.calls.specs.Covering.{coveredBy, coversSays}
 use Rattle.calls.specs.Rewriting.{Written, rewrittenSays}
 use Rattle.calls.specs.declared.Rewritten.{Rewritten}
 use Rattle.calls.specs.declared.Rewritten.the-variants.{Records, Refused}
 use Rattle.calls.specs.declared.Covers.the-variants.{Refused as NotAnswered}
-use Rattle.calls.proofs.Refusals.{accepted-exactly, refused-first, rewrite-refused, rewrite-accepted, covers-refused, covers-answered}
+use Rattle.table.proofs.Accepted.{accepted-exactly, refused-first}
+use Rattle.calls.proofs.Refusals.{rewrite-refused, rewrite-accepted, covers-refused, covers-answered}
 use Rattle.calls.proofs.Settled.{rewritten-same, covers-same}
 use Rattle.suovvamet.specs.Numbers.{numberOf, indexOf}
 use Rattle.suovvamet.specs.Calls.{RewriteInC, CoversInC, LookupInC, HeldInC}

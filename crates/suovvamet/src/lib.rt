@@ -3,10 +3,10 @@
 
 use calls::Covers;
 use calls::Rewritten;
-use table::answers::AddressesHeld;
-use table::answers::Lookup;
+use lookup::answers::AddressesHeld;
+use lookup::answers::Lookup;
 ghost use mathlib.Core.Path.{_≡_};
-ghost use Rattle.table.specs.Calls.{lookupSays, heldSays};
+ghost use Rattle.lookup.specs.Calls.{lookupSays, heldSays};
 ghost use Rattle.calls.specs.Covering.{coversSays};
 ghost use Rattle.calls.specs.Rewriting.{rewrittenSays, countOf, changeOf};
 ghost use Rattle.suovvamet.specs.Numbers.{numberOf, indexOf, coveredOf, foundOf, hopOf, lengthOf, sumOf};
@@ -206,7 +206,7 @@ pub extern "C" fn suovvamet_lookup(
 ) -> u32
     ensures { λ n. ⌜ LookupInC (now (table .entry)) address n (now (found .exit)) (now (hop .exit)) (now (length .exit)) (now (index .exit)) ⌝ }
 {
-    let answer = table::lookup(table, address);
+    let answer = lookup::lookup(table, address);
     *found = lookup_found(answer);
     *hop = lookup_hop(answer);
     *length = lookup_length(answer);
@@ -254,7 +254,7 @@ pub extern "C" fn suovvamet_addresses_held(
 ) -> u32
     ensures { λ n. ⌜ HeldInC (now (table .entry)) n (now (addresses .exit)) (now (index .exit)) ⌝ }
 {
-    let answer = table::addresses_held(table);
+    let answer = lookup::addresses_held(table);
     *addresses = held_sum(answer);
     *index = held_index(answer);
     held_number(answer)

@@ -11,21 +11,17 @@ use lib.ListN.{length}
 use lib.Pow.{split}
 use Rattle.theory.specs.Routes.{Route, Valid, All, nil, cons, Before, Ascending, empty, first}
 use Rattle.theory.proofs.Lists.{all-map}
-use Rattle.table.specs.Facts.{TailKept, OrderKept, Kept, Accepted, Lawful}
-use Rattle.table.specs.Rules.{gives, judge}
-use Rattle.table.specs.Wire.{byteAt, routeAt, routesFrom, records, routes, Bytes, bytesOf, topHop, tableRules}
+use Rattle.theory.proofs.Order.{before-trans}
+use Rattle.table.specs.Conditions.{TailKept, OrderKept, Kept, Accepted, Lawful}
+use Rattle.refusals.specs.Rules.{gives, judge}
+use Rattle.records.specs.Wire.{byteAt, routeAt, routesFrom, records, routes, Bytes, bytesOf}
+use Rattle.table.specs.TableRules.{topHop, tableRules}
 use Rattle.table.proofs.Accepted.{not-refused, accepted}
-use Rattle.table.proofs.Octets.{join-small}
-use Rattle.table.proofs.Reading.{length-from, length-routes}
-use Rattle.table.proofs.Written.{length-bytes, records-bytes, byte-shift, route-shift, route-head, bytes-back}
+use Rattle.records.proofs.Octets.{join-small}
+use Rattle.records.proofs.Reading.{length-from, length-routes}
+use Rattle.records.proofs.Written.{length-bytes, records-bytes, byte-shift, route-shift, route-head, bytes-back}
 
 -- ---- The order.
-pub before-trans : (r s u : Route) → Before r s → Before s u → Before r u
-before-trans r s u (inl a) (inl b) = inl (omega arith)
-before-trans r s u (inl a) (inr b) = inl (omega arith)
-before-trans r s u (inr a) (inl b) = inl (omega arith)
-before-trans r s u (inr a) (inr b) = inr (a .0 ∙ b .0, omega arith)
-
 front : (r s : Route) (rs : List Route) → Before r s → Ascending (s ∷ rs) → Ascending (r ∷ s ∷ rs)
 front r s rs b (first bs a) = first (cons b (all-map (λ u c. before-trans r s u b c) bs)) (first bs a)
 

@@ -7,8 +7,8 @@ use native.Mathlib.Omega.{arith}
 use lib.IntN.{ℤ}
 use lib.ListN.{length}
 use Rattle.theory.specs.Routes.{Route}
-use Rattle.table.specs.Rules.{Reply, refuses}
-use Rattle.table.specs.Wire.{records, Bytes}
+use Rattle.refusals.specs.Rules.{Reply, refuses}
+use Rattle.records.specs.Wire.{records, Bytes}
 use Rattle.calls.specs.declared.Rewritten.{Rewritten}
 use Rattle.calls.specs.declared.Rewritten.the-variants.{Records, Refused}
 use Rattle.calls.specs.Rewriting.{countOf, resultOf, rewriteReply, writtenOf, Rewrites}
@@ -19,7 +19,7 @@ use Rattle.text.specs.Answers.{rewrittenText, replyText}
 
 -- A reply that is said as a refusal is that refusal.
 said-refused : (before number index : ℕ) (q : Reply (List Route)) → refuses number index ≡ writtenOf before q → q ≡ refuses number index
-said-refused before number index (Rattle.table.specs.Rules.gives rs) e = cc
+said-refused before number index (Rattle.refusals.specs.Rules.gives rs) e = cc
 said-refused before number index (refuses m i) e = cc
 
 -- Of a rewrite.

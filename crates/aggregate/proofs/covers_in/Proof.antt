@@ -7,10 +7,10 @@ use native.Mathlib.Omega.{arith}
 use borrow.Author.Needs.{needs}
 use Rattle.theory.specs.Results.{startOf, throughout}
 use Rattle.theory.specs.Routes.{held}
-use Rattle.table.specs.Calls.{checkedSays, checkReply}
-use Rattle.table.specs.Nodes.{nodes}
-use Rattle.table.specs.Rules.{gives}
-use Rattle.table.specs.Wire.{routes, Bytes}
+use Rattle.table.specs.Checking.{checkedSays, checkReply}
+use Rattle.nodecount.specs.Nodes.{nodes}
+use Rattle.refusals.specs.Rules.{gives}
+use Rattle.records.specs.Wire.{routes, Bytes}
 use Rattle.nodes.specs.Node.{wide, spare, run}
 use Rattle.nodes.proofs.GatherLaws.{root-node}
 use Rattle.calls.specs.Covering.{coverReply}

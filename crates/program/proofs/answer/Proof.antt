@@ -4,7 +4,7 @@ use Prim.Native.Nat.{ℕ}
 use native.Mathlib.Omega.{arith}
 use lib.Dec.{ltb}
 use lib.ListN.{length-replicate}
-use Rattle.table.specs.Wire.{records}
+use Rattle.records.specs.Wire.{records}
 use Rattle.calls.specs.Rewriting.{rewriteReply}
 use Rattle.text.specs.Answers.{replyText}
 use Rattle.text.proofs.Puts.{put-as}

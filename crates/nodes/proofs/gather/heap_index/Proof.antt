@@ -4,7 +4,7 @@ use mathlib.Core.Path.{_≡_, ap}
 use native.Mathlib.Omega.{arith}
 use lib.Pow.{pow-pos}
 use borrow.Author.Needs.{needs}
-use Rattle.table.proofs.Laws.{one-shl}
+use Rattle.words.proofs.BitLaws.{one-shl}
 use Rattle.words.specs.Positions.{position}
 use Rattle.positions.specs.Runs.{sizeAt}
 use Rattle.nodes.specs.Node.{wide, slotSize}

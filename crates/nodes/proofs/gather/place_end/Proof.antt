@@ -4,7 +4,7 @@ use mathlib.Core.Path.{_≡_}
 use native.Mathlib.Omega.{arith}
 use lib.Pow.{pow-mono}
 use borrow.Author.Needs.{needs}
-use Rattle.table.proofs.Laws.{one-shl}
+use Rattle.words.proofs.BitLaws.{one-shl}
 use Rattle.positions.specs.Runs.{placeAt}
 use Rattle.nodes.specs.Node.{wide, slotSize}
 use Rattle.nodes.proofs.OutputLaws.{slot-below}

@@ -1,0 +1,2 @@
+-- The nodes of a table.
+pub mod Nodes

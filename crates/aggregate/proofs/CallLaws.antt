@@ -1,4 +1,4 @@
--- Laws of the calls: judging by a table's rules and then by more, the rooms' tests, the fill of each mode, the most records of a result, and the
+-- Laws of the calls: the replies that refuse, the rooms' tests, the fill of each mode, the most records of a result, and the
 -- cover query at wide addresses.
 -- Assumes nothing.
 use Prim.Native.Nat.{ℕ, zero, suc, _+_, _-_, _*_, _/_, _^_, _≤_, _<_}
@@ -26,9 +26,9 @@ use Rattle.nodecount.specs.Nodes.{nodes}
 use Rattle.refusals.specs.Rules.{Rule, rule, gives, refuses, judge}
 use Rattle.records.specs.Wire.{records, routes, Bytes, bytesOf}
 use Rattle.table.specs.TableRules.{tableRules}
-use Rattle.refusals.proofs.Judged.{gives-any}
+use Rattle.refusals.proofs.Judged.{gives-any, kept-next, broken-here, all-next, some-here}
 use Rattle.records.proofs.Reading.{length-routes}
-use Rattle.table.proofs.Tables.{accepted-table, set-hops}
+use Rattle.table.proofs.Tables.{accepted-table, hops-below, set-hops}
 use Rattle.positions.specs.Wide.{widened}
 use Rattle.positions.proofs.Wide.{aligned-widen, held-widen, throughout-widen, all-widen}
 use Rattle.nodes.specs.Node.{wide, spare}
@@ -38,40 +38,6 @@ use Rattle.calls.specs.Rewriting.{modeOf, resultOf, takesSet, rewriteRules, rew
 use Rattle.calls.specs.declared.Rewritten.{Rewritten}
 use Rattle.calls.specs.declared.Rewritten.the-variants.{Records, Refused}
 use Rattle.aggregate.specs.Walks.{whole, Ready, lastReply, Finished}
-
--- ---- Judging by some rules and then by more.
-
-module _ {A : Type 0} (a : A) where
-  -- A rule that is kept is passed.
-  pub kept-next : {b : Bool} (n i : ℕ) (rs : List Rule) → b ≡ true → judge (rule n i b ∷ rs) a ≡ judge rs a
-  unfolding judge
-  kept-next n i rs e = rw e
-
-  -- One that is not refuses.
-  pub broken-here : {b : Bool} (n i : ℕ) (rs : List Rule) → b ≡ false → judge (rule n i b ∷ rs) a ≡ refuses n i
-  unfolding judge
-  broken-here n i rs e = rw e
-
-  module _ {B : Type 0} (b : B) where
-    -- Rules that are all kept are passed.
-    pub all-next : {c : B} (rs more : List Rule) → judge rs b ≡ gives c → judge (rs ++ more) a ≡ judge more a
-    unfolding judge
-    all-next [] more e = refl
-    all-next {c} (r ∷ rs) more e = go (r .kept) refl (all-next {c = c} rs more)
-      where
-        go : (k : Bool) → r .kept ≡ k → (judge rs b ≡ gives c → judge (rs ++ more) a ≡ judge more a) → judge (r ∷ (rs ++ more)) a ≡ judge more a
-        go true p on = rw p (on (rw p at e))
-        go false p on = let z : _≡_ {A = ℕ} 0 1 = cc (rw p at e) in absurd (omega arith)
-
-    -- Rules that refuse do so whatever follows.
-    pub some-here : (n i : ℕ) (rs more : List Rule) → judge rs b ≡ refuses n i → judge (rs ++ more) a ≡ refuses n i
-    unfolding judge
-    some-here n i [] more e = let z : _≡_ {A = ℕ} 0 1 = cc in absurd (omega arith)
-    some-here n i (r ∷ rs) more e = go (r .kept) refl (some-here n i rs more)
-      where
-        go : (k : Bool) → r .kept ≡ k → (judge rs b ≡ refuses n i → judge (rs ++ more) a ≡ refuses n i) → judge (r ∷ (rs ++ more)) a ≡ refuses n i
-        go true p on = rw p (on (rw p at e))
-        go false p on = let f = rw p at e in rw p (cc)
 
 -- ---- The rewrite.
 
@@ -181,7 +147,7 @@ module _ (s : Bool) (t : List ℕ) (k : ℕ) (valid : checkReply s t ≡ gives k
 pub ready : (mode : ℕ) (t : List ℕ) → Lawful (takesSet mode) (routes t) → Ready t mode
 ready mode t lawful =
     record {
-      node = root-node (takesSet mode) t lawful;
+      node = root-node t (lawful .table) (hops-below (takesSet mode) (lawful .hops));
       bare = λ e. rw (root-run t) (all-widen spare (λ r h. h) (set-hops (rw e at (lawful .hops))));
     }
 

@@ -17,8 +17,6 @@ use Rattle.theory.proofs.Order.{valid-within}
 use Rattle.theory.proofs.Parts.{all-part, table-part, part-agree}
 use Rattle.theory.specs.Shapes.{Within, routed}
 use Rattle.records.specs.Wire.{records, routeAt, routes}
-use Rattle.table.specs.TableRules.{topHop}
-use Rattle.table.specs.Conditions.{Lawful}
 use Rattle.words.specs.Bits.{bit}
 use Rattle.words.specs.Positions.{position}
 use Rattle.words.proofs.PositionLaws.{placed}
@@ -201,9 +199,9 @@ pub root-run : (t : List ℕ) → run t 0 (records t) ≡ widened spare (routes 
 unfolding routes
 root-run t = let e : records t - 0 ≡ records t = omega arith in rw e
 
--- Those of a lawful table are those of a node.
-pub root-node : (s : Bool) (t : List ℕ) → Lawful s (routes t) → Node t 0 (records t) 0 0
-root-node s t l =
+-- Those of a table with hops below 64 are those of a node.
+pub root-node : (t : List ℕ) → Table 32 (routes t) → All (λ r. r .hop < 64) (routes t) → Node t 0 (records t) 0 0
+root-node t ok hops =
     record {
       low = omega arith;
       high = omega arith;
@@ -214,13 +212,9 @@ root-node s t l =
       small = omega arith;
       table = rw (root-run t) table;
       within = rw (root-run t) (all-map (valid-within wide) (table .valid));
-      short = rw (root-run t) (short-widen 32 spare (l .table .valid));
-      hops = rw (root-run t) (all-widen spare (λ r h. omega (arith, h, top s)) (l .hops));
+      short = rw (root-run t) (short-widen 32 spare (ok .valid));
+      hops = rw (root-run t) (all-widen spare (λ r h. h) hops);
     }
   where
     table : Table wide (widened spare (routes t))
-    table = table-widen 32 spare (l .table)
-
-    top : (b : Bool) → topHop b < 64
-    top true = omega arith
-    top false = omega arith
+    table = table-widen 32 spare ok

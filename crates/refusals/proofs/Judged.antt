@@ -2,11 +2,11 @@
 -- Assumes nothing.
 use mathlib.Core.Path.{_≡_, refl, sym, ap, _∙_}
 use mathlib.Core.Bool.{Bool, true, false}
-use mathlib.Core.List.{List, [], _∷_}
+use mathlib.Core.List.{List, [], _∷_, _++_}
 use mathlib.Core.Logic.{_⊎_, inl, inr, ⊎-elim, _↔_}
 use Prim.Native.Nat.{ℕ, _<_}
 use native.Mathlib.Omega.{arith}
-use Rattle.refusals.specs.Rules.{Rule, gives, refuses, judge}
+use Rattle.refusals.specs.Rules.{Rule, rule, gives, refuses, judge}
 use Rattle.refusals.specs.Order.{rank, Earlier, First, None}
 
 -- A rule of the list with number n and index i is not kept.
@@ -126,3 +126,37 @@ refuses-any (r ∷ rs) a b n i e = go (r .kept) refl (refuses-any rs a b n i)
     go : (k : Bool) → r .kept ≡ k → (judge rs a ≡ refuses n i → judge rs b ≡ refuses n i) → judge (r ∷ rs) b ≡ refuses n i
     go true p more = rw p (more (rw p at e))
     go false p more = let f = rw p at e in rw p (cc)
+
+-- ---- Judging by some rules and then by more.
+
+module _ {A : Type 0} (a : A) where
+  -- A rule that is kept is passed.
+  pub kept-next : {b : Bool} (n i : ℕ) (rs : List Rule) → b ≡ true → judge (rule n i b ∷ rs) a ≡ judge rs a
+  unfolding judge
+  kept-next n i rs e = rw e
+
+  -- One that is not refuses.
+  pub broken-here : {b : Bool} (n i : ℕ) (rs : List Rule) → b ≡ false → judge (rule n i b ∷ rs) a ≡ refuses n i
+  unfolding judge
+  broken-here n i rs e = rw e
+
+  module _ {B : Type 0} (b : B) where
+    -- Rules that are all kept are passed.
+    pub all-next : {c : B} (rs more : List Rule) → judge rs b ≡ gives c → judge (rs ++ more) a ≡ judge more a
+    unfolding judge
+    all-next [] more e = refl
+    all-next {c} (r ∷ rs) more e = go (r .kept) refl (all-next {c = c} rs more)
+      where
+        go : (k : Bool) → r .kept ≡ k → (judge rs b ≡ gives c → judge (rs ++ more) a ≡ judge more a) → judge (r ∷ (rs ++ more)) a ≡ judge more a
+        go true p on = rw p (on (rw p at e))
+        go false p on = let z : _≡_ {A = ℕ} 0 1 = cc (rw p at e) in absurd (omega arith)
+
+    -- Rules that refuse do so whatever follows.
+    pub some-here : (n i : ℕ) (rs more : List Rule) → judge rs b ≡ refuses n i → judge (rs ++ more) a ≡ refuses n i
+    unfolding judge
+    some-here n i [] more e = let z : _≡_ {A = ℕ} 0 1 = cc in absurd (omega arith)
+    some-here n i (r ∷ rs) more e = go (r .kept) refl (some-here n i rs more)
+      where
+        go : (k : Bool) → r .kept ≡ k → (judge rs b ≡ refuses n i → judge (rs ++ more) a ≡ refuses n i) → judge (r ∷ (rs ++ more)) a ≡ refuses n i
+        go true p on = rw p (on (rw p at e))
+        go false p on = let f = rw p at e in rw p (cc)

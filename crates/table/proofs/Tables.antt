@@ -91,6 +91,11 @@ module _ {A : Type 0} (a b : A) (s : Bool) (t : List ℕ) (bytes : Bytes t) (ok 
       let k = accepted s t a ok in
       bytes-back t bytes (k .whole) (λ j h. let p = k .each j h .tail-kept in (p .1, p .2))
 
+-- Hops in range are below 64.
+pub hops-below : (s : Bool) {rs : List Route} → All (λ r. r .hop ≤ topHop s) rs → All (λ r. r .hop < 64) rs
+hops-below true h = all-map (λ r l. omega arith) h
+hops-below false h = all-map (λ r l. omega arith) h
+
 -- A set's hops are zero.
 pub set-hops : {rs : List Route} → All (λ r. r .hop ≤ topHop true) rs → All (λ r. r .hop ≡ 0) rs
 set-hops h = all-map (λ r l. omega arith) h

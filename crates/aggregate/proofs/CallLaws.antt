@@ -31,10 +31,10 @@ use Rattle.records.proofs.Reading.{length-routes}
 use Rattle.table.proofs.Tables.{accepted-table, hops-below, set-hops}
 use Rattle.positions.specs.Wide.{widened}
 use Rattle.positions.proofs.Wide.{aligned-widen, held-widen, throughout-widen, all-widen}
-use Rattle.nodes.specs.Node.{wide, spare}
+use Rattle.nodes.specs.Node.{wide, spare, Node}
 use Rattle.nodes.proofs.GatherLaws.{root-run, root-node}
 use Rattle.calls.specs.Covering.{coverRules, coveredBy, coverReply}
-use Rattle.calls.specs.Rewriting.{modeOf, resultOf, takesSet, rewriteRules, rewriteReply, writtenOf, outputOf, RewritesIn}
+use Rattle.calls.specs.Rewriting.{modeOf, resultOf, takesSet, rewriteRules, replyBy, rewriteReply, writtenOf, outputOf, RewritesIn}
 use Rattle.calls.specs.declared.Rewritten.{Rewritten}
 use Rattle.calls.specs.declared.Rewritten.the-variants.{Records, Refused}
 use Rattle.aggregate.specs.Walks.{whole, Ready, lastReply, Finished}
@@ -44,26 +44,26 @@ use Rattle.aggregate.specs.Walks.{whole, Ready, lastReply, Finished}
 module _ (t : List ℕ) (mode default room words : ℕ) where
   -- Number 1.
   pub not-a-mode : (leb 1 mode && leb mode 5) ≡ false → rewriteReply t mode default room words ≡ refuses 1 0
-  unfolding rewriteReply rewriteRules
+  unfolding replyBy rewriteRules
   not-a-mode e = broken-here _ 1 0 _ e
 
   module _ (is : (leb 1 mode && leb mode 5) ≡ true) where
     -- Number 2.
     pub not-a-hop : (not (eqb mode 5) || leb default 63) ≡ false → rewriteReply t mode default room words ≡ refuses 2 0
-    unfolding rewriteReply rewriteRules
+    unfolding replyBy rewriteRules
     not-a-hop e = kept-next _ 1 0 _ is ∙ broken-here _ 2 0 _ e
 
     module _ (ok : (not (eqb mode 5) || leb default 63) ≡ true) where
       -- Numbers 3 to 8.
       pub not-a-table : {n i : ℕ} → checkReply (takesSet mode) t ≡ refuses n i → rewriteReply t mode default room words ≡ refuses n i
-      unfolding rewriteReply rewriteRules
+      unfolding replyBy rewriteRules
       not-a-table {n} {i} e = kept-next _ 1 0 _ is ∙ kept-next _ 2 0 _ ok ∙ some-here _ (records t) n i (tableRules (takesSet mode) t) _ e
 
       module _ {k : ℕ} (valid : checkReply (takesSet mode) t ≡ gives k) where
         -- Past the table's rules the rooms decide.
         past-table : rewriteReply t mode default room words
             ≡ judge (rule 10 0 (leb (160 * nodes 32 (routes t)) words) ∷ rule 11 0 (leb (8 * length (resultOf t mode default)) room) ∷ []) (resultOf t mode default)
-        unfolding rewriteReply rewriteRules
+        unfolding replyBy rewriteRules
         past-table = kept-next _ 1 0 _ is ∙ kept-next _ 2 0 _ ok ∙ all-next _ (records t) (tableRules (takesSet mode) t) _ valid
 
         -- Number 10.
@@ -142,6 +142,10 @@ module _ (s : Bool) (t : List ℕ) (k : ℕ) (valid : checkReply s t ≡ gives k
   -- Its routes are lawful.
   pub checked-lawful : Bytes t → Lawful s (routes t)
   checked-lawful bytes = accepted-table (records t) k s t bytes valid .0
+
+  -- Its records are those of the root.
+  pub checked-node : Bytes t → Node t 0 (records t) 0 0
+  checked-node bytes = root-node t (checked-lawful bytes .table) (hops-below s (checked-lawful bytes .hops))
 
 -- The walks can begin.
 pub ready : (mode : ℕ) (t : List ℕ) → Lawful (takesSet mode) (routes t) → Ready t mode

@@ -4,3 +4,4 @@ pub mod Shown
 pub mod Judged
 pub mod Ranked
 pub mod Answered
+pub mod Examples

@@ -12,9 +12,8 @@ use Rattle.nodecount.specs.Nodes.{nodes}
 use Rattle.refusals.specs.Rules.{gives}
 use Rattle.records.specs.Wire.{routes, Bytes}
 use Rattle.nodes.specs.Node.{wide, spare, run}
-use Rattle.nodes.proofs.GatherLaws.{root-node}
 use Rattle.calls.specs.Covering.{coverReply}
-use Rattle.aggregate.proofs.CallLaws.{checked-count, checked-lawful, query-table, query-long, query-room, query-answered, query-aligned, query-within, covered-wide}
+use Rattle.aggregate.proofs.CallLaws.{checked-count, checked-lawful, checked-node, query-table, query-long, query-room, query-answered, query-aligned, query-within, covered-wide}
 use Rattle.aggregate.proofs.covers_in.Statement.{statement}
 use Rattle.aggregate.proofs.covers_in.Tie as tie
 
@@ -46,7 +45,7 @@ covers-in-aggregate-requires c κs =
     let args = c .before .before .before .before .before .before .before .before .before .args in
     let valid = sym (c .before .before .before .before .before .before .before .check-table .ensures) ∙ ap checkedSays (c .before .before .before .before .before .records .given .1) in
     let query = c .masked .ensures in (
-      rw (checked-count true _ _ valid) (root-node true _ (checked-lawful true _ _ valid (λ k. omega (arith, c .before .before .before .before .before .before .before .before .shared-slice-known .given k)))),
+      rw (checked-count true _ _ valid) (checked-node true _ _ valid (λ k. omega (arith, c .before .before .before .before .before .before .before .before .shared-slice-known .given k))),
       (
         (omega arith, c .before .before .before .if1 .left),
         (

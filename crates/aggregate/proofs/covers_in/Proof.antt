@@ -12,7 +12,7 @@ use Rattle.nodecount.specs.Nodes.{nodes}
 use Rattle.refusals.specs.Rules.{gives}
 use Rattle.records.specs.Wire.{routes, Bytes}
 use Rattle.nodes.specs.Node.{wide, spare, run}
-use Rattle.nodes.proofs.GatherLaws.{root-node}
+use Rattle.gather.proofs.GatherLaws.{root-node}
 use Rattle.calls.specs.Covering.{coverReply}
 use Rattle.aggregate.proofs.CallLaws.{checked-count, checked-lawful, query-table, query-long, query-room, query-answered, query-aligned, query-within, covered-wide}
 use Rattle.aggregate.proofs.covers_in.Statement.{statement}

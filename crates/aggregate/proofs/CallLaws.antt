@@ -32,7 +32,7 @@ use Rattle.table.proofs.Tables.{accepted-table, hops-below, set-hops}
 use Rattle.positions.specs.Wide.{widened}
 use Rattle.positions.proofs.Wide.{aligned-widen, held-widen, throughout-widen, all-widen}
 use Rattle.nodes.specs.Node.{wide, spare, Node}
-use Rattle.nodes.proofs.GatherLaws.{root-run, root-node}
+use Rattle.gather.proofs.GatherLaws.{root-run, root-node}
 use Rattle.calls.specs.Covering.{coverRules, coveredBy, coverReply}
 use Rattle.calls.specs.Rewriting.{modeOf, resultOf, takesSet, rewriteRules, replyBy, rewriteReply, writtenOf, outputOf, RewritesIn}
 use Rattle.calls.specs.declared.Rewritten.{Rewritten}

@@ -24,10 +24,10 @@ use Rattle.positions.proofs.Wide.{result-narrow, length-narrow}
 use Rattle.nodes.specs.Node.{wide, spare}
 use Rattle.nodes.specs.Output.{wireOf, Wrote}
 use Rattle.nodes.specs.Room.{LaidBy, StoredBy}
-use Rattle.nodes.proofs.GatherLaws.{root-run}
+use Rattle.gather.proofs.GatherLaws.{root-run}
 use Rattle.nodes.proofs.OutputLaws.{wrote-whole, wrote-count}
 use Rattle.nodes.proofs.RoomLaws.{pushed-begins}
-use Rattle.ortc.specs.Answers.{answerIn}
+use Rattle.assign.specs.Answers.{answerIn}
 use Rattle.calls.specs.Rewriting.{modeOf, resultOf}
 use Rattle.aggregate.specs.Walks.{whole, Fills, wideResult}
 

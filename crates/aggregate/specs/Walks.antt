@@ -12,8 +12,8 @@ use Rattle.records.specs.Wire.{records}
 use Rattle.positions.specs.Runs.{hopOf}
 use Rattle.nodes.specs.Node.{wide, run, Node}
 use Rattle.nodes.specs.Room.{Stored, StoredBy}
-use Rattle.cover.specs.Coverage.{coverageWord, uncovered}
-use Rattle.ortc.specs.Answers.{answerIn, setWords}
+use Rattle.maximal.specs.Maximal.{coverageWord, uncovered}
+use Rattle.assign.specs.Answers.{answerIn, setWords}
 use Rattle.calls.specs.Rewriting.{modeOf, takesSet, resultOf, writtenOf, outputOf, rewrittenSays}
 use Rattle.calls.specs.declared.Rewritten.{Rewritten}
 

@@ -2,8 +2,8 @@
 
 use consistent::maps::aggregate_consistent_map;
 use consistent::sets::aggregate_consistent_set;
-use cover::maximal::aggregate_set;
-use cover::maximal::collect_coverage;
+use maximal::aggregate_set;
+use maximal::collect_coverage;
 use ortc::walks::collect_sets;
 ghost use Prim.Native.Nat.{_+_, _*_, _^_, _≤_};
 ghost use lib.ListN.{length};

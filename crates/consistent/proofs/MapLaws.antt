@@ -24,12 +24,12 @@ use Rattle.positions.proofs.Modes.{consistent-map-state}
 use Rattle.positions.proofs.RunsNode.{above-lt, cover-own}
 use Rattle.positions.proofs.Slots.{slots-agree}
 use Rattle.nodes.specs.Node.{wide, run, slotSize, Node}
-use Rattle.nodes.specs.Gathered.{runAt, Gathered, overAt, coveringAt}
+use Rattle.gather.specs.Gathered.{runAt, Gathered, overAt, coveringAt}
 use Rattle.nodes.specs.Output.{entryAt}
-use Rattle.nodes.proofs.GatherLaws.{position-run, covering-is, covering-le}
-use Rattle.nodes.proofs.GatherRuns.{run-none, run-first}
-use Rattle.nodes.proofs.BusySlots.{next-steps}
-use Rattle.nodes.proofs.MarkedBits.{Marked, passes-up, marked-skip}
+use Rattle.gather.proofs.GatherLaws.{position-run, covering-is, covering-le}
+use Rattle.gather.proofs.GatherRuns.{run-none, run-first}
+use Rattle.gather.proofs.BusySlots.{next-steps}
+use Rattle.gather.proofs.MarkedBits.{Marked, passes-up, marked-skip}
 use Rattle.consistent.proofs.KeptSlots.{keptWalk, keptState, kept-no-child, kept-slots}
 
 -- ---- The bits.

@@ -1,12 +1,12 @@
 // Mode 3: the entries of a map whose hop differs from that of the nearest entry above.
 
+use gather::covering_hops;
+use gather::gather_run;
+use gather::over_at;
+use gather::slot_key;
 use nodes::emit::emit_slot;
 use nodes::emit::head_slots;
 use nodes::emit::past;
-use nodes::gather::covering_hops;
-use nodes::gather::gather_run;
-use nodes::gather::over_at;
-use nodes::gather::slot_key;
 use words::bits::next_bit;
 use words::bits::with_bit;
 ghost use mathlib.Core.Path.{_≡_};
@@ -19,7 +19,7 @@ ghost use Rattle.positions.specs.Runs.{hopOf};
 ghost use Rattle.positions.specs.Walk.{walk};
 ghost use Rattle.positions.specs.Walks.{consistentMapOut, consistentMapNext};
 ghost use Rattle.nodes.specs.Node.{wide, run, Node};
-ghost use Rattle.nodes.specs.Gathered.{overAt};
+ghost use Rattle.gather.specs.Gathered.{overAt};
 ghost use Rattle.nodes.specs.Output.{Wrote};
 
 // The entries, with position b's if it has a record, by `hop`, and another hop covers it from above.

@@ -1,10 +1,10 @@
 // Mode 2: the members of a set with no member above them.
 
+use gather::gather_run;
+use gather::slot_key;
 use nodes::emit::emit_slot;
 use nodes::emit::head_slots;
 use nodes::emit::past;
-use nodes::gather::gather_run;
-use nodes::gather::slot_key;
 use words::bits::has_bit;
 use words::bits::next_bit;
 use words::coverage::keep_of;

@@ -1,9 +1,9 @@
 // The cover query: does a set cover every address of a prefix?
 
-use nodes::gather::gather_run;
-use nodes::gather::heap_index;
-use nodes::gather::level_of;
-use nodes::gather::slot_key;
+use gather::gather_run;
+use gather::heap_index;
+use gather::level_of;
+use gather::slot_key;
 use words::bits::has_bit;
 use words::bits::next_bit;
 use words::bits::with_bit;

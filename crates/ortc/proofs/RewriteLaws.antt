@@ -22,17 +22,17 @@ use Rattle.positions.specs.Walks.{ortcOut, ortcNext}
 use Rattle.positions.proofs.Modes.{ortc-walk}
 use Rattle.positions.proofs.Slots.{walk-slots, slots-agree}
 use Rattle.nodes.specs.Node.{wide, run, slotSize, Node}
-use Rattle.nodes.specs.Gathered.{runAt, Gathered, Occupied, coveringAt}
+use Rattle.gather.specs.Gathered.{runAt, Gathered, Occupied, coveringAt}
 use Rattle.nodes.specs.Output.{Wrote, entryAt, HeadSlots}
 use Rattle.nodes.specs.Room.{Begins, Block, everywhere, nodesDeep, Stored}
-use Rattle.nodes.proofs.GatherLaws.{no-child, slot-vacant, covering-le}
-use Rattle.nodes.proofs.GatherRuns.{run-none}
+use Rattle.gather.proofs.GatherLaws.{no-child, slot-vacant, covering-le}
+use Rattle.gather.proofs.GatherRuns.{run-none}
 use Rattle.nodes.proofs.OutputWalk.{Walked, walked-none, walked-all, no-heads}
 use Rattle.nodes.proofs.RoomWalk.{Ahead, own-stored, ahead-start, ahead-stored, ahead-next, ahead-skip, ahead-end}
-use Rattle.nodes.proofs.BusySlots.{Busy, walked-next, ahead-past}
-use Rattle.ortc.specs.Answers.{answerIn, ShowsNode, setWords, assignedAt, entryOver, LeafSlots}
-use Rattle.ortc.specs.Packed.{packed}
-use Rattle.ortc.proofs.AssignLaws.{state-assigned, AssignedHop, hasEntry, leaf-entry, entries-are}
+use Rattle.gather.proofs.BusySlots.{Busy, walked-next, ahead-past}
+use Rattle.assign.specs.Answers.{answerIn, ShowsNode, setWords, assignedAt, entryOver, LeafSlots}
+use Rattle.assign.specs.Packed.{packed}
+use Rattle.assign.proofs.AssignLaws.{state-assigned, AssignedHop, hasEntry, leaf-entry, entries-are}
 use Rattle.ortc.proofs.SlotLaws.{slot-alike, slot-block}
 
 -- ---- A node's rewrite, by its slots.

@@ -1,18 +1,18 @@
 // The two walks: collect_sets stores the candidate sets of each node, and rewrite assigns hops to them and writes the entries.
 
-use super::assign::assign_nodes;
-use super::assign::emit;
-use super::assign::fold_sets;
-use super::assign::leaf_sets;
-use super::assign::leaf_slots;
-use super::room::push_sets;
+use assign::assign_nodes;
+use assign::emit;
+use assign::fold_sets;
+use assign::leaf_sets;
+use assign::leaf_slots;
+use assign::room::push_sets;
+use gather::covering_hops;
+use gather::gather_run;
+use gather::slot_key;
 use hops::leaf_value;
 use nodes::emit::emit_slot;
 use nodes::emit::head_slots;
 use nodes::emit::past;
-use nodes::gather::covering_hops;
-use nodes::gather::gather_run;
-use nodes::gather::slot_key;
 use words::bits::last_bit;
 use words::bits::next_bit;
 ghost use mathlib.Core.Path.{_≡_};
@@ -25,7 +25,7 @@ ghost use Rattle.hops.specs.Sets.{ShowsSet};
 ghost use Rattle.nodes.specs.Node.{wide, run, Node};
 ghost use Rattle.nodes.specs.Output.{Wrote};
 ghost use Rattle.nodes.specs.Room.{Block, Begins, nodesDeep, nodesBelow, Laid, Stored};
-ghost use Rattle.ortc.specs.Answers.{answerIn, setWords};
+ghost use Rattle.assign.specs.Answers.{answerIn, setWords};
 
 // What the first walk says of a node: its set, and where its block begins.
 pub struct Collected {

@@ -10,8 +10,8 @@ use borrow.Fn.PlainCycle.{Measures, is, falls, and}
 use Rattle.nodes.specs.Node.{run}
 use Rattle.nodes.proofs.OutputLaws.{slot-below}
 use Rattle.nodes.proofs.OutputWalk.{relaid, Walked, Begun, walked-none, walked-small, begun, walked-alone, child-small, walked-child, walked-all}
-use Rattle.nodes.proofs.GatherLaws.{absent, ends-in, child-node}
-use Rattle.nodes.proofs.BusySlots.{Busy, busy-slots, walked-next}
+use Rattle.gather.proofs.GatherLaws.{absent, ends-in, child-node}
+use Rattle.gather.proofs.BusySlots.{Busy, busy-slots, walked-next}
 use Rattle.consistent.proofs.MapLaws.{mapSlot, map-no-child, Found, slot-le, map-slots, map-child}
 use Rattle.consistent.proofs.maps.aggregate_consistent_map.Reads as reads
 use Rattle.consistent.proofs.maps.aggregate_consistent_map.Kinds as kinds
@@ -20,9 +20,9 @@ use Rattle.consistent.proofs.maps.entries_of.Reads as entries-of-reads
 use Rattle.nodes.proofs.emit.emit_slot.Reads as emit-slot-reads
 use Rattle.nodes.proofs.emit.head_slots.Reads as head-slots-reads
 use Rattle.nodes.proofs.emit.past.Reads as past-reads
-use Rattle.nodes.proofs.gather.covering_hops.Reads as covering-hops-reads
-use Rattle.nodes.proofs.gather.gather_run.Reads as gather-run-reads
-use Rattle.nodes.proofs.gather.slot_key.Reads as slot-key-reads
+use Rattle.gather.proofs.covering_hops.Reads as covering-hops-reads
+use Rattle.gather.proofs.gather_run.Reads as gather-run-reads
+use Rattle.gather.proofs.slot_key.Reads as slot-key-reads
 use Rattle.words.proofs.bits.next_bit.Reads as next-bit-reads
 use Rattle.consistent.proofs.maps.+aggregate_consistent_map.{statement}
 use Rattle.consistent.proofs.maps.+aggregate_consistent_map.Tie.{close}

@@ -11,8 +11,8 @@ use borrow.Fn.PlainCycle.{Measures, is, falls, and}
 use Rattle.nodes.specs.Node.{run}
 use Rattle.nodes.proofs.OutputLaws.{slot-below}
 use Rattle.nodes.proofs.OutputWalk.{relaid, Walked, Begun, walked-none, walked-small, begun, walked-alone, child-small, walked-child, walked-all}
-use Rattle.nodes.proofs.GatherLaws.{child-node}
-use Rattle.nodes.proofs.BusySlots.{Busy, busy-slots, walked-next}
+use Rattle.gather.proofs.GatherLaws.{child-node}
+use Rattle.gather.proofs.BusySlots.{Busy, busy-slots, walked-next}
 use Rattle.consistent.proofs.SetLaws.{setSlot, slot-without, Found, slot-zero, slot-below-member, slot-open, set-slots}
 use Rattle.consistent.proofs.sets.aggregate_consistent_set.Reads as reads
 use Rattle.consistent.proofs.sets.aggregate_consistent_set.Kinds as kinds
@@ -20,8 +20,8 @@ use Rattle.consistent.proofs.sets.+aggregate_consistent_set.Lts-aggrega
 use Rattle.nodes.proofs.emit.emit_slot.Reads as emit-slot-reads
 use Rattle.nodes.proofs.emit.head_slots.Reads as head-slots-reads
 use Rattle.nodes.proofs.emit.past.Reads as past-reads
-use Rattle.nodes.proofs.gather.gather_run.Reads as gather-run-reads
-use Rattle.nodes.proofs.gather.slot_key.Reads as slot-key-reads
+use Rattle.gather.proofs.gather_run.Reads as gather-run-reads
+use Rattle.gather.proofs.slot_key.Reads as slot-key-reads
 use Rattle.words.proofs.bits.has_bit.Reads as has-bit-reads
 use Rattle.words.proofs.bits.next_bit.Reads as next-bit-reads
 use Rattle.words.proofs.coverage.keep_of.Reads as keep-of-reads

@@ -9,7 +9,7 @@ use borrow.Author.Needs.{needs}
 use borrow.Fn.Kinds.{In}
 use borrow.Fn.PlainCycle.{Measures, is, falls, and}
 use Rattle.nodes.specs.Node.{wide}
-use Rattle.nodes.proofs.GatherLaws.{ends-in, absent, child-node}
+use Rattle.gather.proofs.GatherLaws.{ends-in, absent, child-node}
 use Rattle.nodes.proofs.OutputLaws.{slot-below, slot-within}
 use Rattle.nodes.proofs.OutputWalk.{walked-small, begun, child-small, walked-child}
 use Rattle.ortc.proofs.RewriteLaws.{sets-stored, Opened, Walking, opened, walking-start, walking-on, child-stored, ahead-child, walking-end, leaf-rewrite}
@@ -23,13 +23,13 @@ use Rattle.hops.proofs.leaf_value.Reads as leaf-value-reads
 use Rattle.nodes.proofs.emit.emit_slot.Reads as emit-slot-reads
 use Rattle.nodes.proofs.emit.head_slots.Reads as head-slots-reads
 use Rattle.nodes.proofs.emit.past.Reads as past-reads
-use Rattle.nodes.proofs.gather.covering_hops.Reads as covering-hops-reads
-use Rattle.nodes.proofs.gather.gather_run.Reads as gather-run-reads
-use Rattle.nodes.proofs.gather.slot_key.Reads as slot-key-reads
+use Rattle.gather.proofs.covering_hops.Reads as covering-hops-reads
+use Rattle.gather.proofs.gather_run.Reads as gather-run-reads
+use Rattle.gather.proofs.slot_key.Reads as slot-key-reads
 use Rattle.words.proofs.bits.next_bit.Reads as next-bit-reads
-use Rattle.ortc.proofs.assign.assign_nodes.Reads as assign-nodes-reads
-use Rattle.ortc.proofs.assign.emit.Reads as emit-reads
-use Rattle.ortc.proofs.assign.leaf_slots.Reads as leaf-slots-reads
+use Rattle.assign.proofs.assign_nodes.Reads as assign-nodes-reads
+use Rattle.assign.proofs.emit.Reads as emit-reads
+use Rattle.assign.proofs.leaf_slots.Reads as leaf-slots-reads
 use Rattle.ortc.proofs.walks.+rewrite+rewrite_child.{statement}
 use Rattle.ortc.proofs.walks.+rewrite+rewrite_child.Tie.{close}
 

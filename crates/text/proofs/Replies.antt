@@ -44,6 +44,6 @@ module _ (t : List ℕ) (mode default : ℕ) (o : List ℕ) (words : ℕ) (o′ 
   rewritten-fits (Records count change) ok =
       let f = rewrite-records t mode default o words (Records count change) o′ w′ ok count change refl in
       let size = f .1 in
-      let room = answerable-exactly t mode default (length o) words .0 (f .0) .enough-output in
+      let room = answerable-exactly t mode default (length o) words .0 (f .0) .0 .enough-output in
       omega (arith, rewrite-length t mode default o words (Records count change) o′ w′ ok)
   rewritten-fits (Refused number index) ok = omega arith

@@ -29,11 +29,7 @@ ghost use Rattle.aggregate.specs.Walks.{whole, Ready, Fills, Finished};
 fn clear(work: &mut [u32])
     ensures { λ _. ⌜ now (work .exit) ≡ replicate (length (now (work .entry))) 0 ⌝ }
 {
-    let mut i: usize = 0;
-    while i < work.len() {
-        work[i] = 0;
-        i += 1;
-    }
+    rooms::words::fill(work, 0);
 }
 
 // Is the mode none of the five?

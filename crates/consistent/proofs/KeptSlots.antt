@@ -14,8 +14,8 @@ use Rattle.positions.specs.Walks.{keptOut, keptNext}
 use Rattle.positions.proofs.Modes.{kept-walk-inside, kept-walk-nothing}
 use Rattle.positions.proofs.Slots.{slots-agree, walk-slots}
 use Rattle.nodes.specs.Node.{wide, run, slotSize, Node}
-use Rattle.gather.specs.Gathered.{runAt, Gathered}
 use Rattle.nodes.specs.Output.{entryAt}
+use Rattle.gather.specs.Gathered.{runAt, Gathered}
 use Rattle.gather.proofs.GatherLaws.{slot-records, no-child}
 
 -- The walk of some routes: by the test that leaves entries out and the step of an own hop.

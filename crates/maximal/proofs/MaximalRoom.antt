@@ -16,16 +16,16 @@ use Rattle.words.specs.Coverage.{WhollyCovered}
 use Rattle.words.specs.Rules.{PushedSlots}
 use Rattle.words.proofs.BitLaws.{neither}
 use Rattle.positions.specs.Runs.{inside, placeAt}
-use Rattle.gather.specs.Gathered.{runAt}
 use Rattle.nodes.specs.Node.{wide, run, slotSize, Node}
 use Rattle.nodes.specs.Room.{Begins, BlockBy, nodesDeep, slotNodes, nodesBelow, LaidBy, StoredBy, SlotsLaid}
 use Rattle.nodes.specs.Output.{Wrote, HeadSlots}
-use Rattle.gather.proofs.GatherLaws.{child-node}
 use Rattle.nodes.proofs.OutputWalk.{Past, lent, relaid, Walked, Begun, walked-none, walked-alone, walked-child, walked-all, no-heads}
 use Rattle.nodes.proofs.RoomBlocks.{BlockAt, run-length, slot-some, block-by-deep}
 use Rattle.nodes.proofs.RoomLaws.{pushed-word, begins-word}
 use Rattle.nodes.proofs.RoomSizes.{Sized, nodes-below-deep, slot-nodes-le, block-by-length, room-child, room-own}
 use Rattle.nodes.proofs.RoomWalk.{laid-start, laid-next, laid-skip, laid-length, laid-own, Ahead, own-stored, ahead-start, ahead-stored, ahead-next, ahead-skip}
+use Rattle.gather.specs.Gathered.{runAt}
+use Rattle.gather.proofs.GatherLaws.{child-node}
 use Rattle.gather.proofs.BusySlots.{last-steps, Busy, walked-next, ahead-past}
 use Rattle.gather.proofs.MarkedBits.{Marked, passes-down, marked-none, marked-take, marked-skip, marked-all}
 use Rattle.maximal.specs.Maximal.{IsCoverage, coverageWord, uncovered, Entries}

@@ -9,9 +9,9 @@ use borrow.Author.Needs.{needs}
 use borrow.Fn.Kinds.{In}
 use borrow.Fn.PlainCycle.{Measures, is, falls, and}
 use Rattle.nodes.specs.Node.{wide}
-use Rattle.gather.proofs.GatherLaws.{ends-in, absent, child-node}
 use Rattle.nodes.proofs.OutputLaws.{slot-below, slot-within}
 use Rattle.nodes.proofs.OutputWalk.{walked-small, begun, child-small, walked-child}
+use Rattle.gather.proofs.GatherLaws.{ends-in, absent, child-node}
 use Rattle.ortc.proofs.RewriteLaws.{sets-stored, Opened, Walking, opened, walking-start, walking-on, child-stored, ahead-child, walking-end, leaf-rewrite}
 use Rattle.ortc.proofs.walks.rewrite.Reads as rewrite
 use Rattle.ortc.proofs.walks.rewrite.Kinds as rewrite-kinds

@@ -4,3 +4,4 @@ pub mod Runs
 pub mod RunsNode
 pub mod Slots
 pub mod Modes
+pub mod Counts

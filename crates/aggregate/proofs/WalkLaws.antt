@@ -1,6 +1,6 @@
 -- What the walks of the five modes make of a whole table: at wide addresses each is the mode's result, and narrowed it is the result itself.
 -- Assumes nothing.
-use Prim.Native.Nat.{ℕ, _*_, _≤_, _<_}
+use Prim.Native.Nat.{ℕ, _+_, _*_, _≤_, _<_}
 use mathlib.Core.Path.{_≡_, refl, sym, ap, _∙_}
 use mathlib.Core.Bool.{Bool, true, false}
 use mathlib.Core.List.{List, _++_}
@@ -14,7 +14,9 @@ use Rattle.theory.specs.Results.{ortc, result, smallest}
 use Rattle.theory.specs.Routes.{Route, held, Answer, none, via, answer, orDefault, filled, Valid, All, Table}
 use Rattle.theory.proofs.Agree.{ortc-agree}
 use Rattle.theory.proofs.Chosen.{smallest-chooses}
-use Rattle.records.specs.Wire.{routes, bytesOf}
+use Rattle.theory.proofs.Lengths.{most-of, result-length}
+use Rattle.records.specs.Wire.{records, routes, bytesOf}
+use Rattle.records.proofs.Reading.{length-routes}
 use Rattle.positions.specs.Runs.{noHop, hopOf, orElse}
 use Rattle.positions.specs.Walk.{walk}
 use Rattle.positions.specs.Walks.{maximalOut, maximalNext, consistentSetOut, consistentSetNext, consistentMapOut, consistentMapNext}
@@ -59,6 +61,19 @@ module _ (t : List ℕ) (mode fill : ℕ) (valid : All (Valid 32) (routes t)) wh
     written-bytes fits =
         let e : k * 8 ≡ 8 * k = omega arith in
         wrote-whole wrote (omega arith) .0 ∙ rw (wide-bytes, e)
+
+-- It counts at most one record more than the table has.
+pub written-most : (t : List ℕ) (mode fill : ℕ) → Table 32 (routes t) → {k : ℕ} {o o′ : List ℕ} → Wrote (wideResult t mode fill) 0 k o o′
+    → k ≤ records t + 1
+unfolding resultOf
+written-most t mode fill table wrote =
+    omega (
+      arith,
+      written-count t mode fill (table .valid) wrote,
+      result-length smallest smallest-chooses 32 (modeOf mode fill) table,
+      most-of (modeOf mode fill) (length (routes t)),
+      length-routes t,
+    )
 
 -- ---- The walks from the root.
 

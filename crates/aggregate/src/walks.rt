@@ -6,9 +6,8 @@ use hops::NO_HOP;
 use maximal::aggregate_set;
 use maximal::collect_coverage;
 use ortc::walks::collect_sets;
-ghost use Prim.Native.Nat.{_+_, _*_, _^_, _≤_};
+ghost use Prim.Native.Nat.{_*_, _≤_};
 ghost use lib.ListN.{length};
-ghost use Rattle.nodes.specs.Node.{wide};
 ghost use Rattle.nodes.specs.Output.{Wrote};
 ghost use Rattle.nodes.specs.Room.{nodesBelow};
 ghost use Rattle.aggregate.specs.Walks.{whole, Ready, Fills, Prepared, wideResult};
@@ -39,7 +38,6 @@ pub fn write(table: &[u8], mode: u32, fill: u8, work: &[u32], top: usize, out: &
     requires { ⌜ Ready (now table) mode ⌝ }
     requires { ⌜ Fills mode fill ⌝ }
     requires { ⌜ Prepared (now table) mode fill top (now work) ⌝ }
-    ensures { λ r. ⌜ r + 6 ≤ 8 * 2 ^ wide ⌝ }
     ensures { λ r. ⌜ Wrote (wideResult (now (table .entry)) mode fill) 0 r (now (out .entry)) (now (out .exit)) ⌝ }
 {
     let records = table.len() / 8;

@@ -7,7 +7,7 @@ use native.Mathlib.Nat.{pow-suc, le-refl}
 use native.Mathlib.Decide.{decLt}
 use native.Mathlib.Omega.{arith}
 use lib.Dec.{eqb, ltb}
-use lib.ListN.{getD}
+use lib.ListN.{length, getD}
 use lib.Pow.{pow-pos}
 use borrow.Author.Tests.{lt-ltb, le-ltb, eq-eqb, ne-eqb}
 use Rattle.theory.specs.Routes.{Route, Answer, none, via}
@@ -30,7 +30,7 @@ use Rattle.gather.proofs.GatherLaws.{position-run, covering-is, covering-le}
 use Rattle.gather.proofs.GatherRuns.{run-none, run-first}
 use Rattle.gather.proofs.BusySlots.{next-steps}
 use Rattle.gather.proofs.MarkedBits.{Marked, passes-up, marked-skip}
-use Rattle.consistent.proofs.KeptSlots.{keptWalk, keptState, kept-no-child, kept-slots}
+use Rattle.consistent.proofs.KeptSlots.{keptWalk, keptState, kept-no-child, kept-slots, kept-most}
 
 -- ---- The bits.
 
@@ -166,6 +166,10 @@ module _ {t : List ℕ} {lo hi depth key inherited : ℕ} {first end hops : List
       ∙ slots-agree 5 (entryAt entries hops depth key) (entryAt entries hops depth key) (λ l j lt small. refl) _ _
       (λ c lt. ap (keptWalk isSame orElse (runAt t first end (31 + c)) (slotSize depth) (placeAt (slotSize depth) key 5 c)) (sym (hops-slot c lt)))
       32 (le-refl 32)
+
+  -- It has no more entries than the node has records.
+  pub map-most : length (slots (entryAt entries hops depth key) (mapSlot t first end hops depth key) 32) ≤ hi - lo
+  map-most = omega (arith, ap length map-slots, kept-most isSame orElse (f .node) (hopOf inherited))
 
   -- A slot with records has what the walk of its node has.
   pub map-child : (c place : ℕ) → place ≡ placeAt (slotSize depth) key 5 c

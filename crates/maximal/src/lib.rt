@@ -18,7 +18,7 @@ use words::ladder::push_l4;
 ghost use mathlib.Core.Path.{_≡_};
 ghost use mathlib.Core.Bool.{_||_};
 ghost use mathlib.Core.List.{List};
-ghost use Prim.Native.Nat.{ℕ, _+_, _-_, _*_, _^_, _≤_, _<_};
+ghost use Prim.Native.Nat.{ℕ, _+_, _-_, _*_, _≤_, _<_};
 ghost use lib.ListN.{length};
 ghost use Rattle.theory.specs.Routes.{held};
 ghost use Rattle.words.specs.Bits.{bit};
@@ -123,7 +123,6 @@ pub fn aggregate_set(
 ) -> Walked
     requires { ⌜ Node (now table) lo hi depth key ⌝ }
     requires { ⌜ StoredBy uncovered coverageWord (nodesDeep depth) key (run (now table) lo hi) top (now work) ⌝ }
-    ensures { λ r. ⌜ r .count + 6 ≤ 8 * 2 ^ (wide - depth) ⌝ }
     ensures { λ r. ⌜ ((ws : List ℕ) → BlockBy uncovered coverageWord (nodesDeep depth) key (run (now (table .entry)) lo hi) ws → Begins ws top (now (work .entry)) → r .top ≡ top + length ws) ⌝ }
     ensures { λ r. ⌜ Wrote (walk (maximalOut wide (held wide (run (now (table .entry)) lo hi))) (maximalNext (held wide (run (now (table .entry)) lo hi))) (wide - depth) key above) 0 (r .count) (now (out .entry)) (now (out .exit)) ⌝ }
 {

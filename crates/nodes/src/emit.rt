@@ -84,7 +84,6 @@ pub fn emit_slot(
     out: &mut [u8],
 ) -> usize
     requires { ⌜ (c < 32) × ((depth ≤ 30) × (addr < 2 ^ wide)) ⌝ }
-    ensures { λ r. ⌜ r ≤ 5 ⌝ }
     ensures { λ r. ⌜ Wrote (slotHeads entries (now (hops .entry)) depth addr c 5) 0 r (now (out .entry)) (now (out .exit)) ⌝ }
 {
     if entries == 0 {

@@ -1,5 +1,5 @@
 -- The second walk of a node: its rewrite by its slots, the rewrite of a slot without routes, and the loop over the slots, a step at a time.
-use Prim.Native.Nat.{ℕ, _+_, _-_, _*_, _/_, _^_, _≤_, _<_}
+use Prim.Native.Nat.{ℕ, _+_, _-_, _/_, _^_, _≤_, _<_}
 use mathlib.Core.Path.{_≡_, refl, sym, ap, _∙_}
 use mathlib.Core.Bool.{Bool, false, cond}
 use mathlib.Core.List.{List, [], _∷_}
@@ -19,16 +19,18 @@ use Rattle.words.proofs.BitLaws.{neither}
 use Rattle.positions.specs.Runs.{noHop, hopOf, orElse, sizeAt, placeAt}
 use Rattle.positions.specs.Walk.{walk, stateAt, slots}
 use Rattle.positions.specs.Walks.{ortcOut, ortcNext}
+use Rattle.positions.proofs.Counts.{ortc-few}
 use Rattle.positions.proofs.Modes.{ortc-walk}
 use Rattle.positions.proofs.Slots.{walk-slots, slots-agree}
 use Rattle.nodes.specs.Node.{wide, run, slotSize, Node}
 use Rattle.nodes.specs.Output.{Wrote, entryAt, HeadSlots}
 use Rattle.nodes.specs.Room.{Begins, Block, everywhere, nodesDeep, Stored}
+use Rattle.gather.proofs.GatherLaws.{node-run, no-child, slot-vacant, covering-le}
+use Rattle.gather.proofs.GatherRuns.{run-none}
 use Rattle.nodes.proofs.OutputWalk.{Walked, walked-none, walked-all, no-heads}
+use Rattle.nodes.proofs.RoomBlocks.{run-length}
 use Rattle.nodes.proofs.RoomWalk.{Ahead, own-stored, ahead-start, ahead-stored, ahead-next, ahead-skip, ahead-end}
 use Rattle.gather.specs.Gathered.{runAt, Gathered, Occupied, coveringAt}
-use Rattle.gather.proofs.GatherLaws.{no-child, slot-vacant, covering-le}
-use Rattle.gather.proofs.GatherRuns.{run-none}
 use Rattle.gather.proofs.BusySlots.{Busy, walked-next, ahead-past}
 use Rattle.assign.specs.Answers.{answerIn, ShowsNode, setWords, assignedAt, entryOver, LeafSlots}
 use Rattle.assign.specs.Packed.{packed}
@@ -244,13 +246,22 @@ module _ {t : List ℕ} {lo hi depth key inherited fill above : ℕ} {work : Lis
       → Walking t lo hi depth key inherited fill above work top first end covering hops entries r at n out₀ out
   walking-on b h = record { walked = walked-next (q .quiet) b (h .walked); ahead = ahead-past (q .quiet) b (h .ahead) }
 
-  -- After the last slot the node's rewrite is written, few enough, and its block is read.
+  -- The node's rewrite has at most one entry more than the node has records.
+  pub opened-most : length (slots (entryAt entries hops depth key) (slotRewrite t first end covering hops depth key fill) 32) ≤ (hi - lo) + 1
+  opened-most =
+      let size : wide - depth ≡ slotSize depth + 5 = omega (arith, q .node .deep) in
+      omega (
+        arith,
+        rw size at (ap length (q .rewritten)),
+        ortc-few smallest smallest-chooses (node-run (q .node)) (hopOf inherited) (hopOf fill) (hopOf above),
+        run-length t lo hi,
+      )
+
+  -- After the last slot it is written, and the node's block is read.
   pub walking-end : {c at n : ℕ} {out₀ out : List ℕ}
       → Walking t lo hi depth key inherited fill above work top first end covering hops entries c at n out₀ out → 32 ≤ c
-      → (n + 6 ≤ 8 * 2 ^ (wide - depth))
-      × (((ws : List ℕ) → Block (setWords (answerIn (run t lo hi) (hopOf inherited) (hopOf fill))) (nodesDeep depth) key (run t lo hi) ws → Begins ws top work → at ≡ top + length ws)
-      × Wrote (ortc smallest wide (answerIn (run t lo hi) (hopOf inherited) (hopOf fill)) (wide - depth) key (hopOf above)) 0 n out₀ out)
-  walking-end {c} {at} {n} {out₀} {out} h all =
+      → ((ws : List ℕ) → Block (setWords (answerIn (run t lo hi) (hopOf inherited) (hopOf fill))) (nodesDeep depth) key (run t lo hi) ws → Begins ws top work → at ≡ top + length ws)
+      × Wrote (ortc smallest wide (answerIn (run t lo hi) (hopOf inherited) (hopOf fill)) (wide - depth) key (hopOf above)) 0 n out₀ out
+  walking-end {c} h all =
       let z : c ≡ 32 = omega (arith, h .walked .within) in
-      let done = walked-all (q .node .deep) (h .walked) all in
-      (done .0, (ahead-end (h .ahead) z, rw (q .rewritten) (done .1)))
+      (ahead-end (h .ahead) z, rw (q .rewritten) (walked-all (h .walked) all))

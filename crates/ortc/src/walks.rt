@@ -111,7 +111,6 @@ pub fn rewrite(
     requires { ⌜ Node (now table) lo hi depth key ⌝ }
     requires { ⌜ (inherited ≤ noHop) × ((fill ≤ noHop) × (above ≤ noHop)) ⌝ }
     requires { ⌜ Stored (setWords (answerIn (run (now table) lo hi) (hopOf inherited) (hopOf fill))) (nodesDeep depth) key (run (now table) lo hi) top (now work) ⌝ }
-    ensures { λ r. ⌜ r .count + 6 ≤ 8 * 2 ^ (wide - depth) ⌝ }
     ensures { λ r. ⌜ ((ws : List ℕ) → Block (setWords (answerIn (run (now (table .entry)) lo hi) (hopOf inherited) (hopOf fill))) (nodesDeep depth) key (run (now (table .entry)) lo hi) ws → Begins ws top (now (work .entry)) → r .top ≡ top + length ws) ⌝ }
     ensures { λ r. ⌜ Wrote (ortc Rattle.theory.specs.Results.smallest wide (answerIn (run (now (table .entry)) lo hi) (hopOf inherited) (hopOf fill)) (wide - depth) key (hopOf above)) 0 (r .count) (now (out .entry)) (now (out .exit)) ⌝ }
 {
@@ -169,7 +168,6 @@ fn rewrite_child(
     requires { ⌜ (depth ≤ 35) × (key + 2 ^ (wide - depth) ≤ 2 ^ wide) ⌝ }
     requires { ⌜ (covering ≤ noHop) × ((fill ≤ noHop) × (above ≤ noHop)) ⌝ }
     requires { ⌜ (lo < hi → Stored (setWords (answerIn (run (now table) lo hi) (hopOf covering) (hopOf fill))) (nodesDeep depth) key (run (now table) lo hi) top (now work)) ⌝ }
-    ensures { λ r. ⌜ r .count + 6 ≤ 8 * 2 ^ (wide - depth) ⌝ }
     ensures { λ r. ⌜ (hi ≤ lo → r .top ≡ top) ⌝ }
     ensures { λ r. ⌜ (lo < hi → (ws : List ℕ) → Block (setWords (answerIn (run (now (table .entry)) lo hi) (hopOf covering) (hopOf fill))) (nodesDeep depth) key (run (now (table .entry)) lo hi) ws → Begins ws top (now (work .entry)) → r .top ≡ top + length ws) ⌝ }
     ensures { λ r. ⌜ Wrote (ortc Rattle.theory.specs.Results.smallest wide (answerIn (run (now (table .entry)) lo hi) (hopOf covering) (hopOf fill)) (wide - depth) key (hopOf above)) 0 (r .count) (now (out .entry)) (now (out .exit)) ⌝ }

@@ -5,3 +5,4 @@ pub mod RunsNode
 pub mod Slots
 pub mod Modes
 pub mod Hops
+pub mod Counts

@@ -7,11 +7,11 @@ use lib.ListN.{getD, replicate, getD-replicate}
 use borrow.Author.Needs.{needs}
 use borrow.Fn.Kinds.{In}
 use borrow.Fn.PlainCycle.{Measures, is, falls, and}
-use Rattle.nodes.proofs.OutputLaws.{slot-below}
-use Rattle.nodes.proofs.OutputWalk.{relaid, Begun, begun, walked-small, child-small}
+use Rattle.nodes.proofs.OutputLaws.{slot-below, wrote-count}
+use Rattle.nodes.proofs.OutputWalk.{relaid, Begun, begun, begun-few}
 use Rattle.nodes.proofs.RoomWalk.{ahead-end}
 use Rattle.maximal.proofs.MaximalLaws.{maximalSlot}
-use Rattle.maximal.proofs.MaximalRoom.{slot-node, word-read, child-stored, Walking, walk-start, walk-child, walk-none, walk-end}
+use Rattle.maximal.proofs.MaximalRoom.{slot-node, word-read, child-stored, found-most, slot-wrote, Walking, walk-start, walk-child, walk-none, walk-end}
 use Rattle.maximal.proofs.aggregate_set.Reads as walk
 use Rattle.maximal.proofs.aggregate_set.Kinds as kinds
 use Rattle.maximal.proofs.+aggregate_set.Lts-aggregate_set as lts
@@ -167,11 +167,22 @@ emit-slot-requires t c κs =
     let lt = c .before .before .before .before .loop-test .taken in
     (lt, (n .deep, rw (c .before .before .before .slot-key .ensures) (slot-below _ _ _ (n .deep) lt (n .small))))
 
+-- The entries that begin at a slot are written once they come back.
+started : (t : ℕ) (c : lts.After-slice-known2 (claims t) (entered t) walk.Post Inv-loop μ-loop)
+    → let a = c .before .before .before .before .before .before .before .before .before .before .before .before .before .before .before .before .before .before .before .before .before .before .args in
+    let l = c .before .before .before .before .before .before .before .before .loop in
+    Begun (c .before .before .before .before .before .before .before .before .before .before .before .before .entries-of .result) (replicate 31 0) (a .depth) (a .key)
+    (maximalSlot (a .table .now) (a .depth) (a .key) (a .above) (c .before .before .before .before .before .before .before .before .before .before .before .before .before .before .before .before .gather-run .last .1 .1 .1 .1 .1 .0) (c .before .before .before .before .before .before .before .before .before .before .before .before .before .before .before .before .gather-run .last .1 .1 .1 .1 .1 .1 .0) (c .before .before .before .before .before .before .before .before .before .before .before .push-l4 .result))
+    (l .next) (l .n + c .before .before .emit-slot .result) (a .out .now) (relaid (c .before .before .before .before .before .past .result) (c .before .before .emit-slot .last .1 .1 .1 .1 .1 .0) (l .out))
+started t c =
+    begun (c .before .before .before .before .before .before .before .before .loop .inv .done) (c .before .before .before .before .before .before .before .loop-test .taken) (c .before .before .before .before .before .past .ensures) (c .before .before .before .before .before .before .slot-key .ensures)
+    (c .before .before .emit-slot .ensures) (c .before .out .given .1)
+
 add-n : (t : ℕ) → lts.Need-add-n (claims t) (entered t) walk.Post Inv-loop μ-loop
 add-n t c =
-    let small = walked-small (c .before .before .before .before .before .before .before .before .loop .inv .done) in
-    let five = c .before .before .emit-slot .ensures .0 in
-    search needs
+    let few = begun-few (started t c) in
+    let most = found-most (c .before .before .before .before .before .before .before .before .loop .inv .found) in
+    omega (arith, c .before .before .before .before .before .before .before .before .before .before .before .before .before .before .before .before .before .before .before .before .before .before .good)
 
 add-next-bit : (t : ℕ) → lts.Need-add-next-bit (claims t) (entered t) walk.Post Inv-loop μ-loop
 add-next-bit t c = search needs
@@ -232,23 +243,13 @@ aggregate-set-requires t c κs =
     let bits = c .before .before .before .before .before .before .before .before .before .before .before .before .before .before .before .before .before .before .before .before .before .before .before .before .before .before .before .before .pre .0 in
     (omega (arith, bits, s .node .deep), rw (c .before .before .before .before .before .before .before .before .before .before .before .before .slot-key .ensures) (slot-node s _ lt e, child-stored s (w .ahead) lt e (w .found .stored)))
 
--- The entries that begin at a slot are written once they come back.
-started : (t : ℕ) (c : lts.After-slice-known2 (claims t) (entered t) walk.Post Inv-loop μ-loop)
-    → let a = c .before .before .before .before .before .before .before .before .before .before .before .before .before .before .before .before .before .before .before .before .before .before .args in
-    let l = c .before .before .before .before .before .before .before .before .loop in
-    Begun (c .before .before .before .before .before .before .before .before .before .before .before .before .entries-of .result) (replicate 31 0) (a .depth) (a .key)
-    (maximalSlot (a .table .now) (a .depth) (a .key) (a .above) (c .before .before .before .before .before .before .before .before .before .before .before .before .before .before .before .before .gather-run .last .1 .1 .1 .1 .1 .0) (c .before .before .before .before .before .before .before .before .before .before .before .before .before .before .before .before .gather-run .last .1 .1 .1 .1 .1 .1 .0) (c .before .before .before .before .before .before .before .before .before .before .before .push-l4 .result))
-    (l .next) (l .n + c .before .before .emit-slot .result) (a .out .now) (relaid (c .before .before .before .before .before .past .result) (c .before .before .emit-slot .last .1 .1 .1 .1 .1 .0) (l .out))
-started t c =
-    begun (c .before .before .before .before .before .before .before .before .loop .inv .done) (c .before .before .before .before .before .before .before .loop-test .taken) (c .before .before .before .before .before .past .ensures) (c .before .before .before .before .before .before .slot-key .ensures)
-    (c .before .before .emit-slot .ensures .0) (c .before .before .emit-slot .ensures .1) (c .before .out .given .1)
-
 add-n-2 : (t : ℕ) → lts.Need-add-n-2 (claims t) (entered t) walk.Post Inv-loop μ-loop
 add-n-2 t c =
-    let deep = c .before .before .before .before .before .before .before .before .before .before .before .before .before .before .before .before .before .before .loop .inv .found .opened .node .deep in
-    let call = c .before .before .before .aggregate-set in
-    let small = child-small deep (started t (c .before .before .before .before .before .before .before .before .before .before)) (call .result .count) (call .ensures .0) in
-    omega arith
+    let l = c .before .before .before .before .before .before .before .before .before .before .before .before .before .before .before .before .before .before .loop in
+    let own = wrote-count (slot-wrote (l .inv .found) (l .next) (c .before .before .before .before .before .before .before .before .before .before .before .before .before .before .before .before .slot-key .ensures) (c .before .before .before .before .before .is-absorbed .ensures) (c .before .before .before .aggregate-set .ensures .1)) in
+    let few = begun-few (started t (c .before .before .before .before .before .before .before .before .before .before)) in
+    let most = found-most (l .inv .found) in
+    omega (arith, c .before .before .before .before .before .before .before .before .before .before .before .before .before .before .before .before .before .before .before .before .before .before .before .before .before .before .before .before .before .before .before .before .good)
 
 loop-less : (t : ℕ) → lts.Need-loop-less (claims t) (entered t) walk.Post Inv-loop μ-loop
 loop-less t c = search needs
@@ -257,8 +258,8 @@ loop-again : (t : ℕ) → lts.Need-loop-again (claims t) (entered t) walk.Post 
 loop-again t c =
     let e = sym (c .before .before .before .before .before .before .before .before .has-bit .ensures) ∙ c .before .before .before .before .before .before .before .if1 .taken in
     let call = c .before .before .before .aggregate-set in
-    walk-child (c .before .before .before .before .before .before .before .before .before .before .before .before .before .before .before .before .before .before .loop .inv) (c .before .before .before .before .before .before .before .before .before .next-bit2 .ensures) (started t (c .before .before .before .before .before .before .before .before .before .before)) e (call .result .count) (c .before .before .before .before .before .before .before .before .before .before .before .before .before .before .before .before .slot-key .ensures)
-    (c .before .before .before .before .before .is-absorbed .ensures) (call .ensures .0) (call .ensures .1 .0) (c .before .before .before .before .before .before .past2 .ensures) (call .ensures .1 .1) (c .before .before .out2 .given .1)
+    walk-child (c .before .before .before .before .before .before .before .before .before .before .before .before .before .before .before .before .before .before .loop .inv) (c .before .before .before .before .before .before .before .before .before .next-bit2 .ensures) (started t (c .before .before .before .before .before .before .before .before .before .before)) e (c .before .before .before .before .before .before .before .before .before .before .before .before .before .before .before .before .slot-key .ensures)
+    (c .before .before .before .before .before .is-absorbed .ensures) (call .ensures .0) (c .before .before .before .before .before .before .past2 .ensures) (call .ensures .1) (c .before .before .out2 .given .1)
 
 loop-less-2 : (t : ℕ) → lts.Need-loop-less-2 (claims t) (entered t) walk.Post Inv-loop μ-loop
 loop-less-2 t c = search needs
@@ -274,8 +275,7 @@ returns : (t : ℕ) → lts.Need-returns (claims t) (entered t) walk.Post Inv-lo
 returns t c =
     let w = c .before .loop .inv in
     let all : c .before .loop .next ≡ 32 = omega (arith, w .done .within, c .loop-test .left) in
-    let e = walk-end w (c .loop-test .left) in
-    (e .0, (ahead-end (w .ahead) all, e .1))
+    (ahead-end (w .ahead) all, walk-end w (c .loop-test .left))
 
 pub +aggregate-set-spec : {M : Type 1} → statement M
 +aggregate-set-spec = close measure λ t. lts.spec (claims t) (entered t) walk.Post Inv-loop μ-loop

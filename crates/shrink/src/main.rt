@@ -12,21 +12,24 @@ ghost use Rattle.program.specs.Printed.{printedIn};
 ghost use Rattle.shrink.specs.Input.{judged};
 ghost use Rattle.shrink.specs.Words.{behind, wordNumber};
 
+// What stands for no number: neither a mode nor a hop.
+const NO_NUMBER: u32 = 4294967295;
+
 // The number of the digits so far, and one byte more.
 fn one_more(n: u32, byte: u8) -> u32
     ensures { λ r. ⌜ r ≡ behind n byte ⌝ }
 {
     if byte < 48 {
-        return 4294967295;
+        return NO_NUMBER;
     }
     if 57 < byte {
-        return 4294967295;
+        return NO_NUMBER;
     }
     let next = (n as u64) * 10 + ((byte - 48) as u64);
     if next < 4294967295 {
         next as u32
     } else {
-        4294967295
+        NO_NUMBER
     }
 }
 
@@ -43,12 +46,12 @@ fn word_number(word: &[u8]) -> u32
     n
 }
 
-// The number of an argument. One that is left out is 0, as an empty one; one of more than 32 bytes is 2^32 - 1, as what is no number.
+// The number of an argument. One that is left out is 0, as an empty one; one of more than 32 bytes is none.
 fn argument(i: usize) -> u32 {
     let mut word = [0u8; 32];
     let size = os::arg(i, &mut word);
     if os::errno() == ENAMETOOLONG {
-        return 4294967295;
+        return NO_NUMBER;
     }
     word_number(&word[..size])
 }

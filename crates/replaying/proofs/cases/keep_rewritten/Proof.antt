@@ -62,8 +62,8 @@ returns c =
     let done = c .before .before .before .before .before .before .before .before .before .before .before .before .before .before .before .before .before .before .before .before .before .before .rewrite in
     let nothing = c .before .before .before .before .before .before .before .before .keep-work .ensures (rewrite-zero (done .ensures)) in
     let neither =
-        c .before .before .keep-output .ensures
-        (rw (c .before .before .before .before .written .ensures) (output-filled _ _ _ _ _ _ _ 165 (length (s .output .now)) (bytes .ensures) _ (done .ensures))) in
+    c .before .before .keep-output .ensures
+    (rw (c .before .before .before .before .written .ensures) (output-filled _ _ _ _ _ _ _ 165 (length (s .output .now)) (bytes .ensures) _ (done .ensures))) in
     put-at (c .before .before .before .before .before .before .before .before .before .before .before .before .before .before .before .before .room-for .ensures .0) (neither .0 ∙ nothing .0) (neither .1 ∙ nothing .1)
     (put-as
     (rewritten-text _ _ _ _ _ _ _ (ltb 2 (s .mode)) (λ k. c .before .before .before .before .before .before .before .before .before .before .before .before .before .before .before .before .before .before .before .before .before .before .before .before .before .before .before .before .before .before .before .before .before .before .before .before .shared-slice-known .given k .fits) _ (done .ensures)

@@ -17,7 +17,7 @@ use Rattle.theory.proofs.Chosen.{smallest-chooses}
 use Rattle.theory.proofs.Lengths.{most-of, result-length}
 use Rattle.records.specs.Wire.{records, routes, bytesOf}
 use Rattle.records.proofs.Reading.{length-routes}
-use Rattle.positions.specs.Runs.{hopOf, orElse}
+use Rattle.positions.specs.Runs.{noHop, hopOf, orElse}
 use Rattle.positions.specs.Walk.{walk}
 use Rattle.positions.specs.Walks.{maximalOut, maximalNext, consistentSetOut, consistentSetNext, consistentMapOut, consistentMapNext}
 use Rattle.positions.specs.Wide.{narrowed}
@@ -86,11 +86,11 @@ else-via : (d : ℕ) (a : Answer) → orElse a (via d) ≡ orDefault d a
 else-via d none = refl
 else-via d (via h) = refl
 
--- The filling hop is a hop or 64.
-pub fill-le : {mode fill : ℕ} → Fills mode fill → fill ≤ 64
+-- The filling hop is a hop or none.
+pub fill-le : {mode fill : ℕ} → Fills mode fill → fill ≤ noHop
 fill-le {mode} {fill} fills = go (eqb mode 5) refl
   where
-    go : (b : Bool) → eqb mode 5 ≡ b → fill ≤ 64
+    go : (b : Bool) → eqb mode 5 ≡ b → fill ≤ noHop
     go true e = omega (arith, fills .hop (eqb-true mode 5 e))
     go false e = omega (arith, fills .none (eqb-false mode 5 e))
 
@@ -120,7 +120,7 @@ module _ (t : List ℕ) {mode : ℕ} (fill : ℕ) where
     where
       go : (mode ≡ 5) ⊎ (mode < 5) → wideResult t mode fill ≡ ortc smallest wide (answerIn (whole t) none (hopOf fill)) wide 0 none
       go (inl e) =
-          rw (e, lt-ltb fill 64 (fills .hop e))
+          rw (e, lt-ltb fill noHop (fills .hop e))
           (ortc-agree (filled fill (answer wide (whole t))) (answerIn (whole t) none (via fill)) smallest wide wide 0 none
           (λ x i. sym (else-via fill (answer wide (whole t) x))))
       go (inr lt) =

@@ -9,7 +9,7 @@ use Rattle.theory.specs.Routes.{Route, All, none}
 use Rattle.theory.specs.Results.{result, smallest}
 use Rattle.refusals.specs.Rules.{rule, Reply, judge}
 use Rattle.records.specs.Wire.{records}
-use Rattle.positions.specs.Runs.{hopOf}
+use Rattle.positions.specs.Runs.{noHop, hopOf}
 use Rattle.nodes.specs.Node.{wide, run, Node}
 use Rattle.nodes.specs.Room.{Stored, StoredBy}
 use Rattle.maximal.specs.Maximal.{coverageWord, uncovered}
@@ -29,8 +29,8 @@ pub record Ready (t : List ℕ) (mode : ℕ) : Type 0 where
 
 -- The hop that fills what has no route: a hop in mode 5, none in the others.
 pub record Fills (mode fill : ℕ) : Type 0 where
-  pub hop : mode ≡ 5 → fill < 64
-  pub none : (mode ≡ 5 → ⊥) → fill ≡ 64
+  pub hop : mode ≡ 5 → fill < noHop
+  pub none : (mode ≡ 5 → ⊥) → fill ≡ noHop
 
 -- From `top` on the room holds what the mode's writing walk reads: the coverage of the nodes below no member in mode 1, the nodes' sets in modes 4
 -- and 5.

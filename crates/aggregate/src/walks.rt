@@ -2,6 +2,7 @@
 
 use consistent::maps::aggregate_consistent_map;
 use consistent::sets::aggregate_consistent_set;
+use hops::NO_HOP;
 use maximal::aggregate_set;
 use maximal::collect_coverage;
 use ortc::walks::collect_sets;
@@ -25,7 +26,7 @@ pub fn prepare(table: &[u8], mode: u32, fill: u8, work: &mut [u32]) -> usize
         return root.top;
     }
     if 4 <= mode {
-        let root = collect_sets(table, 0, records, 0, 0, 64, fill, work, size);
+        let root = collect_sets(table, 0, records, 0, 0, NO_HOP, fill, work, size);
         return root.top;
     }
     size
@@ -48,8 +49,20 @@ pub fn write(table: &[u8], mode: u32, fill: u8, work: &[u32], top: usize, out: &
         return aggregate_consistent_set(table, 0, records, 0, 0, out);
     }
     if mode == 3 {
-        return aggregate_consistent_map(table, 0, records, 0, 0, 64, out);
+        return aggregate_consistent_map(table, 0, records, 0, 0, NO_HOP, out);
     }
-    let root = ortc::walks::rewrite(table, 0, records, 0, 0, 64, fill, 64, work, top, out);
+    let root = ortc::walks::rewrite(
+        table,
+        0,
+        records,
+        0,
+        0,
+        NO_HOP,
+        fill,
+        NO_HOP,
+        work,
+        top,
+        out,
+    );
     root.count
 }

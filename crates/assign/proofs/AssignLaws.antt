@@ -11,27 +11,28 @@ use lib.Dec.{eqb, ltb}
 use lib.ListN.{length, getD, set, replicate, length-set, getD-replicate}
 use lib.Seq.{getD-set-same, getD-set-other, set-getD}
 use lib.Pow.{pow-pos, pow-mono}
-use borrow.Author.Tests.{eq-eqb, ne-eqb, ltb-false}
+use borrow.Author.Tests.{lt-ltb, le-ltb, eq-eqb, ne-eqb}
 use Rattle.theory.specs.Routes.{Answer, none, via}
 use Rattle.theory.specs.Results.{Cand, hole, of, sets, combine, leaf, assigned, smallest, allowed, here}
 use Rattle.theory.proofs.Chosen.{smallest-chooses}
 use Rattle.words.specs.Positions.{position}
 use Rattle.words.specs.Bits.{bit}
 use Rattle.words.specs.Rules.{PushedSlots}
-use Rattle.words.proofs.BitLaws.{if-lt, if-eq, bit-zero}
+use Rattle.words.proofs.BitLaws.{if-eq, bit-zero}
 use Rattle.words.proofs.PositionLaws.{in-word, below-left, below-right, pushed-is}
 use Rattle.words.proofs.PositionLaws as places
-use Rattle.positions.specs.Runs.{hopOf, orElse, sizeAt, placeAt}
+use Rattle.positions.specs.Runs.{noHop, hopOf, orElse, sizeAt, placeAt}
 use Rattle.positions.specs.Walk.{stateOf, stateAt}
 use Rattle.positions.specs.Walks.{ortcOut, ortcNext}
+use Rattle.positions.proofs.Hops.{hop-via, hop-none, hop-unique}
 use Rattle.positions.proofs.RunsNode.{size-halves, size-slot, place-left, place-right}
 use Rattle.hops.specs.Sets.{ShowsSet}
-use Rattle.hops.proofs.SetLaws.{same-word-same-set, shows-one}
+use Rattle.hops.proofs.SetLaws.{same-word-same-set, hop-shown}
 use Rattle.nodes.specs.Node.{wide, slotSize}
-use Rattle.gather.specs.Gathered.{overAt}
 use Rattle.nodes.specs.Output.{entryAt}
 use Rattle.nodes.specs.Room.{Begins}
-use Rattle.assign.specs.Answers.{ShowsNode, assignedAt, entryOver, Stepped, LeafSlots}
+use Rattle.gather.specs.Gathered.{overAt}
+use Rattle.assign.specs.Answers.{ShowsNode, assignedAt, isEntry, entryOver, Stepped, LeafSlots}
 use Rattle.assign.specs.Packed.{stored, packed}
 use Rattle.assign.proofs.PackedLaws.{left-parent, Reading, reading-start, reading-stored, reading-taken, reading-next, reading-end}
 
@@ -147,15 +148,15 @@ left-assigned f m a g xs n (suc l) j le lt e =
 
 -- ---- Assigning, from the first position to the last.
 
--- The hops have at position j of level l what it is assigned, 64 for nothing.
+-- The hops have at position j of level l what it is assigned, noHop for nothing.
 abbrev pub AssignedHop : (ℕ → Answer) → ℕ → ℕ → ℕ → List ℕ → ℕ → ℕ → Type 0
 AssignedHop f m a above hops l j =
-    (getD hops (position l j) 0 ≤ 64) × (hopOf (getD hops (position l j) 0) ≡ assignedAt f m a (hopOf above) l j)
+    (getD hops (position l j) 0 ≤ noHop) × (hopOf (getD hops (position l j) 0) ≡ assignedAt f m a (hopOf above) l j)
 
 -- Then they have above it what is assigned there.
-over-assigned : (f : ℕ → Answer) (m a above : ℕ) (hops : List ℕ) → above ≤ 64 → (l j : ℕ)
+over-assigned : (f : ℕ → Answer) (m a above : ℕ) (hops : List ℕ) → above ≤ noHop → (l j : ℕ)
     → ((k : ℕ) → suc k ≡ l → AssignedHop f m a above hops k (j / 2)) → j < 2 ^ l
-    → (overAt hops (position l j) above ≤ 64) × (hopOf (overAt hops (position l j) above) ≡ assignedOver f m a (hopOf above) l j)
+    → (overAt hops (position l j) above ≤ noHop) × (hopOf (overAt hops (position l j) above) ≡ assignedOver f m a (hopOf above) l j)
 over-assigned f m a above hops first zero j parent lt =
     let z : position 0 j ≡ 0 = omega arith in
     let q : overAt hops (position 0 j) above ≡ above = rw (eq-eqb (position 0 j) 0 z) in
@@ -168,7 +169,7 @@ over-assigned f m a above hops first (suc l) j parent lt =
 
 -- Does position b have an entry: is it assigned a hop, and another than the one above?
 abbrev pub hasEntry : List ℕ → ℕ → ℕ → Bool
-hasEntry hops above b = not (eqb (getD hops b 0) (overAt hops b above)) && ltb (getD hops b 0) 64
+hasEntry hops above b = isEntry (getD hops b 0) (overAt hops b above)
 
 -- The positions before b are assigned, and the reader stands before b.
 pub record Assigning (o : List ℕ) (top above : ℕ) (hops : List ℕ) (entries mask at b : ℕ) : Type 0 where
@@ -203,11 +204,11 @@ module _ {o : List ℕ} {top above : ℕ} {hops : List ℕ} {entries mask at b :
       let r = p .reads xs h in
       reading-taken r small (sym (reading-stored r small) ∙ e) .room
 
-  module _ {over hop mask′ at′ : ℕ} (small : b < 31) (first : above ≤ 64) (is : over ≡ overAt hops b above)
+  module _ {over hop mask′ at′ : ℕ} (small : b < 31) (first : above ≤ noHop) (is : over ≡ overAt hops b above)
       (s : Stepped o mask at over hop mask′ at′) where
     -- The position's hop is what it is assigned.
     hop-is : (f : ℕ → Answer) (m a : ℕ) (xs : List ℕ) → ShowsNode f m a xs → Begins (packed xs) top o → (l j : ℕ) → l ≤ 4 → j < 2 ^ l
-        → b ≡ position l j → (hop ≤ 64) × (hopOf hop ≡ assignedAt f m a (hopOf above) l j)
+        → b ≡ position l j → (hop ≤ noHop) × (hopOf hop ≡ assignedAt f m a (hopOf above) l j)
     hop-is f m a xs n h l j le lt e = (s .low (rw (is, e) (parents .0)), go (stored xs b) refl)
       where
         r : Reading xs top o b mask at
@@ -219,7 +220,7 @@ module _ {o : List ℕ} {top above : ℕ} {hops : List ℕ} {entries mask at b :
             let up : b ≡ position (suc k) j = rw q e in
             p .each f m a xs n h k (j / 2) (omega arith) (omega (arith, pow-suc 2 k)) (omega (arith, pow-suc 2 k, pow-pos k))
 
-        parents : (overAt hops (position l j) above ≤ 64) × (hopOf (overAt hops (position l j) above) ≡ assignedOver f m a (hopOf above) l j)
+        parents : (overAt hops (position l j) above ≤ noHop) × (hopOf (overAt hops (position l j) above) ≡ assignedOver f m a (hopOf above) l j)
         parents = over-assigned f m a above hops first l j parent lt
 
         over-is : hopOf (overAt hops b above) ≡ assignedOver f m a (hopOf above) l j
@@ -236,7 +237,7 @@ module _ {o : List ℕ} {top above : ℕ} {hops : List ℕ} {entries mask at b :
 
     -- One position more.
     pub assigning-next : (entries′ : ℕ)
-        → ((i : ℕ) → i < 31 → bit entries′ i ≡ ((eqb i b && (not (eqb hop over) && ltb hop 64)) || bit entries i))
+        → ((i : ℕ) → i < 31 → bit entries′ i ≡ ((eqb i b && isEntry hop over) || bit entries i))
         → Assigning o top above (set hops b hop) entries′ mask′ at′ (b + 1)
     assigning-next entries′ w = record {
       sized = length-set hops b hop ∙ p .sized;
@@ -270,14 +271,14 @@ module _ {o : List ℕ} {top above : ℕ} {hops : List ℕ} {entries mask at b :
             ∙ rw (ne-eqb i b (λ z. omega arith), before-is i (omega arith), over-kept hops b above hop i (omega arith)) (p .done i (omega arith))
 
 -- The first position, where all are given its hop at once.
-pub assigning-first : (o : List ℕ) (top above : ℕ) {hop mask at mask′ at′ : ℕ} → mask ≡ getD o top 0 → at ≡ top + 1 → above ≤ 64
+pub assigning-first : (o : List ℕ) (top above : ℕ) {hop mask at mask′ at′ : ℕ} → mask ≡ getD o top 0 → at ≡ top + 1 → above ≤ noHop
     → Stepped o mask at above hop mask′ at′ → (entries : ℕ)
-    → ((i : ℕ) → i < 31 → bit entries i ≡ ((eqb i 0 && (not (eqb hop above) && ltb hop 64)) || bit 0 i))
+    → ((i : ℕ) → i < 31 → bit entries i ≡ ((eqb i 0 && isEntry hop above) || bit 0 i))
     → Assigning o top above (replicate 31 hop) entries mask′ at′ 1
 assigning-first o top above {hop} {mask} {at} e s first p =
     assigning-next (assigning-start o top above (replicate 31 hop) mask at refl e s) (omega arith) first refl p
 
-module _ {o : List ℕ} {top above entries at : ℕ} (first : above ≤ 64) where
+module _ {o : List ℕ} {top above entries at : ℕ} (first : above ≤ noHop) where
   -- A position with the hop above it is assigned where none to come is stored.
   assigning-left : {hops : List ℕ} {b : ℕ} → Assigning o top above hops entries 0 at b → b < 31 → getD hops b 0 ≡ overAt hops b above
       → Assigning o top above hops entries 0 at (b + 1)
@@ -321,35 +322,10 @@ assigning-end p z = (
 
 -- ---- The entries.
 
--- Two hops up to 64 that say the same are equal.
-pub hop-unique : (h k : ℕ) → h ≤ 64 → k ≤ 64 → hopOf h ≡ hopOf k → h ≡ k
-hop-unique h k p q = go (ltb h 64) refl (ltb k 64) refl
-  where
-    go : (s : Bool) → ltb h 64 ≡ s → (t : Bool) → ltb k 64 ≡ t → cond s (via h) none ≡ cond t (via k) none → h ≡ k
-    go true e true d same = cc
-    go true e false d same = let z : _≡_ {A = ℕ} 0 1 = cc in absurd (omega arith)
-    go false e true d same = let z : _≡_ {A = ℕ} 0 1 = cc in absurd (omega arith)
-    go false e false d same = omega (arith, ltb-false h 64 e, ltb-false k 64 d)
-
--- A hop that says a hop is it, and below 64; one that says nothing is not.
-pub hop-via : (h k : ℕ) → hopOf h ≡ via k → (h ≡ k) × (ltb h 64 ≡ true)
-hop-via h k = go (ltb h 64)
-  where
-    go : (s : Bool) → cond s (via h) none ≡ via k → (h ≡ k) × (s ≡ true)
-    go true e = (cc, refl)
-    go false e = let z : _≡_ {A = ℕ} 0 1 = cc in absurd (omega arith)
-
-pub hop-none : (h : ℕ) → hopOf h ≡ none → ltb h 64 ≡ false
-hop-none h = go (ltb h 64)
-  where
-    go : (s : Bool) → cond s (via h) none ≡ none → s ≡ false
-    go true e = let z : _≡_ {A = ℕ} 0 1 = cc in absurd (omega arith)
-    go false e = refl
-
 -- A position has an entry exactly where its hop is one and not the one above: it is ORTC's.
-pub entry-is : (x : ℕ) (S : Cand) → ShowsSet x S → (n a len hop over : ℕ) → len ≡ wide - n → hop ≤ 64 → over ≤ 64
+pub entry-is : (x : ℕ) (S : Cand) → ShowsSet x S → (n a len hop over : ℕ) → len ≡ wide - n → hop ≤ noHop → over ≤ noHop
     → hopOf hop ≡ assigned smallest S (hopOf over) → entryOver a len hop over ≡ here smallest wide S n a (hopOf over)
-entry-is x hole shown n a len hop over k p q = λ e. rw (hop-none hop e, and-false)
+entry-is x hole shown n a len hop over k p q = λ e. rw (le-ltb hop noHop (hop-none hop e), and-false)
 entry-is x (of []) shown n a len hop over k p q = λ e. absurd (shown .1)
 entry-is x (of (c ∷ s)) shown n a len hop over k p q = go (allowed (hopOf over) (c ∷ s)) refl
   where
@@ -358,7 +334,7 @@ entry-is x (of (c ∷ s)) shown n a len hop over k p q = go (allowed (hopOf over
     go true t e = rw (eq-eqb hop over (hop-unique hop over p q e))
     go false t e =
         let v = hop-via hop c e in
-        rw (ne-eqb hop over (λ z. true≢false (sym (smallest-chooses c s) ∙ ap (λ (g : Answer). allowed g (c ∷ s)) (sym e ∙ ap hopOf z) ∙ t)), v .1, v .0, k)
+        rw (ne-eqb hop over (λ z. true≢false (sym (smallest-chooses c s) ∙ ap (λ (g : Answer). allowed g (c ∷ s)) (sym e ∙ ap hopOf z) ∙ t)), lt-ltb hop noHop (v .1), v .0, k)
 
 -- A region where all addresses have one answer is assigned that answer, and has an entry unless it is the one above.
 pub assigned-leaf : (v g : Answer) → assigned smallest (leaf v) g ≡ v
@@ -366,16 +342,14 @@ assigned-leaf none g = refl
 assigned-leaf (via h) none = refl
 assigned-leaf (via h) (via i) = if-eq (λ t. cond (t || false) (via i) (via h) ≡ via h) i h (λ e. ap via e) (λ e. refl)
 
-pub leaf-entry : (n a len hop over : ℕ) → len ≡ wide - n → hop ≤ 64 → over ≤ 64
+pub leaf-entry : (n a len hop over : ℕ) → len ≡ wide - n → hop ≤ noHop → over ≤ noHop
     → entryOver a len hop over ≡ here smallest wide (leaf (hopOf hop)) n a (hopOf over)
 leaf-entry n a len hop over k p q =
+    let shown = hop-shown hop in
     entry-is (shown .0) (leaf (hopOf hop)) (shown .1) n a len hop over k p q (sym (assigned-leaf (hopOf hop) (hopOf over)))
-  where
-    shown : (x : ℕ) × ShowsSet x (leaf (hopOf hop))
-    shown = if-lt (λ t. (x : ℕ) × ShowsSet x (leaf (cond t (via hop) none))) hop 64 (λ lt. (1 * 2 ^ hop % 2 ^ 64, (shows-one hop lt, tt))) (λ le. (0, refl))
 
 -- The entries that the bits and the hops of a node say are those of ORTC's walk.
-module _ (f : ℕ → Answer) (depth key above entries : ℕ) (hops xs : List ℕ) (deep : depth ≤ 30) (first : above ≤ 64)
+module _ (f : ℕ → Answer) (depth key above entries : ℕ) (hops xs : List ℕ) (deep : depth ≤ 30) (first : above ≤ noHop)
     (shown : ShowsNode f (slotSize depth) key xs)
     (assigns : (l j : ℕ) → l ≤ 4 → j < 2 ^ l → AssignedHop f (slotSize depth) key above hops l j)
     (bits : (b : ℕ) → b < 31 → bit entries b ≡ hasEntry hops above b) where
@@ -390,7 +364,7 @@ module _ (f : ℕ → Answer) (depth key above entries : ℕ) (hops xs : List �
       (assigns l j le lt .1 ∙ assigned-is f (slotSize depth) key (hopOf above) l j
       ∙ ap (assigned smallest (setAt f (slotSize depth) key l j)) (sym (over .1))))
     where
-      over : (overAt hops (position l j) above ≤ 64)
+      over : (overAt hops (position l j) above ≤ noHop)
           × (hopOf (overAt hops (position l j) above) ≡ assignedOver f (slotSize depth) key (hopOf above) l j)
       over = over-assigned f (slotSize depth) key above hops first l j
           (λ k q. assigns k (j / 2) (omega arith) (let half : j < 2 ^ suc k = rw q lt in omega (arith, pow-suc 2 k))) lt
@@ -398,16 +372,16 @@ module _ (f : ℕ → Answer) (depth key above entries : ℕ) (hops xs : List �
 -- ---- The slots that have an entry with no record in them.
 
 -- Two hops that say the same are entries under the same hops.
-same-entry : (v w over : ℕ) → hopOf v ≡ hopOf w → (not (eqb v over) && ltb v 64) ≡ (not (eqb w over) && ltb w 64)
-same-entry v w over q = go (ltb w 64) refl
+same-entry : (v w over : ℕ) → hopOf v ≡ hopOf w → isEntry v over ≡ isEntry w over
+same-entry v w over q = go (ltb w noHop) refl
   where
-    go : (t : Bool) → ltb w 64 ≡ t → (not (eqb v over) && ltb v 64) ≡ (not (eqb w over) && ltb w 64)
+    go : (t : Bool) → ltb w noHop ≡ t → isEntry v over ≡ isEntry w over
     go true e =
         let s : hopOf w ≡ via w = rw e in
         rw (hop-via v w (q ∙ s) .0)
     go false e =
         let s : hopOf w ≡ none = rw e in
-        rw (hop-none v (q ∙ s), e) (and-false (not (eqb v over)) ∙ sym (and-false (not (eqb w over))))
+        rw (le-ltb v noHop (hop-none v (q ∙ s)), e) (and-false (not (eqb v over)) ∙ sym (and-false (not (eqb w over))))
 
 -- At the positions of the last level before p, what answers the slots under them is what they are assigned.
 abbrev pub LeavesSame : List ℕ → List ℕ → ℕ → ℕ → Type 0
@@ -426,13 +400,13 @@ same-next covering hops fill p h v is e = λ i le lt. go i le (eq-or-lt-of-le lt
 pub same-unmarked : (covering hops : List ℕ) (fill : ℕ) → LeavesSame covering hops fill 31 → LeafSlots covering hops fill 0
 same-unmarked covering hops fill h c v lt e =
     let w = getD hops (15 + c / 2) 0 in
-    let q : (not (eqb w w) && ltb w 64) ≡ false = rw (eq-eqb w w refl) in
+    let q : isEntry w w ≡ false = rw (eq-eqb w w refl) in
     bit-zero c ∙ sym (same-entry v w w (e ∙ sym (h (15 + c / 2) (omega arith) (omega arith))) ∙ q)
 
 -- The positions of the last level before p are marked where what answers the slots under them is a hop, and not the one they are assigned.
 pub record LeavesMarked (covering hops : List ℕ) (fill marked p : ℕ) : Type 0 where
   pub done : (i v : ℕ) → 15 ≤ i → i < p → hopOf v ≡ orElse (hopOf (getD covering i 0)) (hopOf fill)
-      → bit marked i ≡ (not (eqb v (getD hops i 0)) && ltb v 64)
+      → bit marked i ≡ isEntry v (getD hops i 0)
   pub clear : (i : ℕ) → p ≤ i → i < 32 → bit marked i ≡ false
 
 -- At the start none is.
@@ -442,7 +416,7 @@ leaves-start covering hops fill = record { done = λ i v le lt e. absurd (omega 
 module _ {covering hops : List ℕ} {fill marked p : ℕ} (h : LeavesMarked covering hops fill marked p) where
   -- One position more.
   pub leaves-next : p < 31 → (w : ℕ) → hopOf w ≡ orElse (hopOf (getD covering p 0)) (hopOf fill) → (marked′ : ℕ)
-      → ((i : ℕ) → i < 32 → bit marked′ i ≡ ((eqb i p && (not (eqb w (getD hops p 0)) && ltb w 64)) || bit marked i))
+      → ((i : ℕ) → i < 32 → bit marked′ i ≡ ((eqb i p && isEntry w (getD hops p 0)) || bit marked i))
       → LeavesMarked covering hops fill marked′ (p + 1)
   leaves-next small w is marked′ bits = record {
     done = λ i v le lt e. go i v le (eq-or-lt-of-le lt) e;
@@ -450,7 +424,7 @@ module _ {covering hops : List ℕ} {fill marked p : ℕ} (h : LeavesMarked cove
   }
     where
       go : (i v : ℕ) → 15 ≤ i → (suc i ≡ p + 1) ⊎ (suc i < p + 1) → hopOf v ≡ orElse (hopOf (getD covering i 0)) (hopOf fill)
-          → bit marked′ i ≡ (not (eqb v (getD hops i 0)) && ltb v 64)
+          → bit marked′ i ≡ isEntry v (getD hops i 0)
       go i v le (inl z) e =
           let q : i ≡ p = omega arith in
           rw q (bits p (omega arith)

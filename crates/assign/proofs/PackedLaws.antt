@@ -67,6 +67,10 @@ words-most xs (suc k) = go (stored xs (30 - k)) (words-most xs k)
     go true h = omega arith
     go false h = omega arith
 
+-- So a node has at most 63: a mask, and two for each of 31 positions.
+pub packed-length : (xs : List ℕ) → length (packed xs) ≤ 63
+packed-length xs = omega (arith, words-most xs 31)
+
 -- The mask has a bit for each position.
 pub mask-small : (xs : List ℕ) (k : ℕ) → maskOf xs k < 2 ^ k
 unfolding maskOf

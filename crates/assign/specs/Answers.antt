@@ -1,7 +1,7 @@
 -- What the two walks of a node are about: the answers of its addresses, the sets of its positions, and what these are assigned.
 use Prim.Native.Nat.{ℕ, zero, suc, _+_, _*_, _/_, _%_, _^_, _≤_, _<_}
 use mathlib.Core.Path.{_≡_}
-use mathlib.Core.Bool.{true, false, cond, not, _&&_}
+use mathlib.Core.Bool.{Bool, true, false, cond, not, _&&_}
 use mathlib.Core.List.{List, [], _∷_}
 use lib.Dec.{eqb, ltb}
 use lib.ListN.{length, getD}
@@ -9,7 +9,7 @@ use Rattle.theory.specs.Routes.{Route, Answer, lookup, under}
 use Rattle.theory.specs.Results.{Cand, sets, assigned, smallest}
 use Rattle.words.specs.Bits.{bit}
 use Rattle.words.specs.Positions.{position}
-use Rattle.positions.specs.Runs.{hopOf, orElse, sizeAt, placeAt}
+use Rattle.positions.specs.Runs.{noHop, hopOf, orElse, sizeAt, placeAt}
 use Rattle.hops.specs.Sets.{ShowsSet}
 use Rattle.nodes.specs.Node.{wide}
 use Rattle.assign.specs.Packed.{packed}
@@ -32,16 +32,20 @@ unfoldable pub assignedAt : (ℕ → Answer) → ℕ → ℕ → Answer → ℕ 
 assignedAt f m a g zero j = assigned smallest (sets f (sizeAt m zero) (placeAt m a zero j)) g
 assignedAt f m a g (suc l) j = assigned smallest (sets f (sizeAt m (suc l)) (placeAt m a (suc l) j)) (assignedAt f m a g l (j / 2))
 
--- One record, if it is by a hop and not by the one above.
-abbrev pub entryOver : ℕ → ℕ → ℕ → ℕ → List Route
-entryOver addr len hop above = cond (not (eqb hop above) && ltb hop 64) (record { addr = addr; len = len; hop = hop } ∷ []) []
+-- Is it an entry under the hop above: is it a hop, and not that one?
+abbrev pub isEntry : ℕ → ℕ → Bool
+isEntry hop above = not (eqb hop above) && ltb hop noHop
 
--- The bits of a word mark the slots that, with no record in them, have an entry: v, which answers there, is a hop, and not the one that the
+-- One record, if it is an entry under the hop above.
+abbrev pub entryOver : ℕ → ℕ → ℕ → ℕ → List Route
+entryOver addr len hop above = cond (isEntry hop above) (record { addr = addr; len = len; hop = hop } ∷ []) []
+
+-- The bits of a word mark the slots that, with no record in them, have an entry: v, which answers there, is one under the hop that the
 -- position above the slot is assigned.
 abbrev pub LeafSlots : List ℕ → List ℕ → ℕ → ℕ → Type 0
 LeafSlots covering hops fill marked =
     (c v : ℕ) → c < 32 → hopOf v ≡ orElse (hopOf (getD covering (15 + c / 2) 0)) (hopOf fill)
-    → bit marked c ≡ (not (eqb v (getD hops (15 + c / 2) 0)) && ltb v 64)
+    → bit marked c ≡ isEntry v (getD hops (15 + c / 2) 0)
 
 -- A position was assigned `hop` under `over`, by the words of the room from top on, the lowest bit of the mask saying whether its set is there.
 pub record Stepped (o : List ℕ) (mask top over hop mask′ top′ : ℕ) : Type 0 where
@@ -50,4 +54,4 @@ pub record Stepped (o : List ℕ) (mask top over hop mask′ top′ : ℕ) : Typ
   pub kept : eqb (mask % 2) 1 ≡ false → hop ≡ over
   pub taken : eqb (mask % 2) 1 ≡ true → (S : Cand) → ShowsSet (getD o top 0 + getD o (top + 1) 0 * 4294967296) S
       → hopOf hop ≡ assigned smallest S (hopOf over)
-  pub low : over ≤ 64 → hop ≤ 64
+  pub low : over ≤ noHop → hop ≤ noHop

@@ -1,10 +1,11 @@
 // The parts of the two walks of modes 4 and 5 inside one node: the room that its candidate sets are kept in, the sets of its positions from
 // those of its slots, what these are assigned by the words of the room, and which of them have an entry.
-// A hop is a u8, 64 for none. A candidate set is a u64, 0 for a hole (crate hops).
+// A hop is a u8, NO_HOP for none. A candidate set is a u64, 0 for a hole (crate hops).
 
 pub mod room;
 
 use gather::over_at;
+use hops::NO_HOP;
 use hops::assign;
 use hops::combine;
 use hops::leaf_set;
@@ -14,23 +15,23 @@ use room::NodeReader;
 use words::bits::with_bit;
 use words::ladder::push_l4;
 ghost use mathlib.Core.Path.{_≡_};
-ghost use mathlib.Core.Bool.{true, not, _&&_, _||_};
+ghost use mathlib.Core.Bool.{true, _&&_, _||_};
 ghost use mathlib.Core.List.{List};
 ghost use Prim.Native.Nat.{ℕ, _+_, _/_, _%_, _^_, _≤_, _<_};
-ghost use lib.Dec.{eqb, ltb};
+ghost use lib.Dec.{eqb};
 ghost use lib.ListN.{length, getD};
 ghost use Rattle.theory.specs.Routes.{Answer};
 ghost use Rattle.theory.specs.Results.{leaf, sets};
 ghost use Rattle.words.specs.Bits.{bit};
 ghost use Rattle.words.specs.Positions.{position};
-ghost use Rattle.positions.specs.Runs.{hopOf, orElse, placeAt};
+ghost use Rattle.positions.specs.Runs.{noHop, hopOf, orElse, placeAt};
 ghost use Rattle.hops.specs.Sets.{ShowsSet};
 ghost use Rattle.nodes.specs.Node.{wide};
-ghost use Rattle.gather.specs.Gathered.{overAt};
 ghost use Rattle.nodes.specs.Output.{Wrote};
 ghost use Rattle.nodes.specs.Room.{Begins};
+ghost use Rattle.gather.specs.Gathered.{overAt};
 ghost use Rattle.assign.specs.Packed.{packed};
-ghost use Rattle.assign.specs.Answers.{ShowsNode, assignedAt, entryOver, Stepped, LeafSlots};
+ghost use Rattle.assign.specs.Answers.{ShowsNode, assignedAt, isEntry, entryOver, Stepped, LeafSlots};
 
 // The sets of a node's slots if none of them has a record: by pairs, since two slots stand under one position. The other places are 0.
 pub fn leaf_sets(covering: &[u8; 31], fill: u8) -> [u64; 63]
@@ -63,12 +64,12 @@ pub fn fold_sets(slots: &mut [u64; 63])
 // The entries, with position b's if it is assigned a hop other than the one above.
 pub fn with_entry(entries: u32, b: u32, hop: u8, over: u8) -> u32
     requires { ⌜ b < 31 ⌝ }
-    ensures { λ r. ⌜ ((i : ℕ) → i < 32 → bit r i ≡ ((eqb i b && (not (eqb hop over) && ltb hop 64)) || bit entries i)) ⌝ }
+    ensures { λ r. ⌜ ((i : ℕ) → i < 32 → bit r i ≡ ((eqb i b && isEntry hop over) || bit entries i)) ⌝ }
 {
     if hop == over {
         return entries;
     }
-    if hop < 64 {
+    if hop < NO_HOP {
         with_bit(entries, b)
     } else {
         entries
@@ -87,7 +88,7 @@ pub fn step_at(work: &[u32], reader: NodeReader, over: u8, entries: u32, b: u32)
     requires { ⌜ (eqb (reader .mask % 2) 1 ≡ true → reader .top + 2 ≤ length (now work)) ⌝ }
     requires { ⌜ b < 31 ⌝ }
     ensures { λ r. ⌜ Stepped (now (work .entry)) (reader .mask) (reader .top) over (r .hop) (r .reader .mask) (r .reader .top) ⌝ }
-    ensures { λ r. ⌜ ((i : ℕ) → i < 32 → bit (r .entries) i ≡ ((eqb i b && (not (eqb (r .hop) over) && ltb (r .hop) 64)) || bit entries i)) ⌝ }
+    ensures { λ r. ⌜ ((i : ℕ) → i < 32 → bit (r .entries) i ≡ ((eqb i b && isEntry (r .hop) over) || bit entries i)) ⌝ }
 {
     if reader.stored() {
         let p = reader.pop(work);
@@ -106,7 +107,7 @@ pub fn step_at(work: &[u32], reader: NodeReader, over: u8, entries: u32, b: u32)
     }
 }
 
-// What a node's positions are assigned, 64 for nothing; which of them have an entry; and where its own words end.
+// What a node's positions are assigned, NO_HOP for nothing; which of them have an entry; and where its own words end.
 pub struct Assigned {
     pub hops: [u8; 31],
     pub entries: u32,
@@ -116,10 +117,10 @@ pub struct Assigned {
 // Assigns hops to a node's positions from the first to the last, reading its own words from `top` on; `above` is assigned above the node.
 pub fn assign_nodes(work: &[u32], top: usize, above: u8) -> Assigned
     requires { ⌜ ((xs : List ℕ) × Begins (packed xs) top (now work)) ⌝ }
-    requires { ⌜ above ≤ 64 ⌝ }
+    requires { ⌜ above ≤ noHop ⌝ }
     ensures { λ r. ⌜ ((xs : List ℕ) → Begins (packed xs) top (now (work .entry)) → r .top ≡ top + length (packed xs)) ⌝ }
-    ensures { λ r. ⌜ ((f : ℕ → Answer) (m a : ℕ) (xs : List ℕ) → ShowsNode f m a xs → Begins (packed xs) top (now (work .entry)) → (l j : ℕ) → l ≤ 4 → j < 2 ^ l → (getD (r .hops) (position l j) 0 ≤ 64) × (hopOf (getD (r .hops) (position l j) 0) ≡ assignedAt f m a (hopOf above) l j)) ⌝ }
-    ensures { λ r. ⌜ ((b : ℕ) → b < 31 → bit (r .entries) b ≡ (not (eqb (getD (r .hops) b 0) (overAt (r .hops) b above)) && ltb (getD (r .hops) b 0) 64)) ⌝ }
+    ensures { λ r. ⌜ ((f : ℕ → Answer) (m a : ℕ) (xs : List ℕ) → ShowsNode f m a xs → Begins (packed xs) top (now (work .entry)) → (l j : ℕ) → l ≤ 4 → j < 2 ^ l → (getD (r .hops) (position l j) 0 ≤ noHop) × (hopOf (getD (r .hops) (position l j) 0) ≡ assignedAt f m a (hopOf above) l j)) ⌝ }
+    ensures { λ r. ⌜ ((b : ℕ) → b < 31 → bit (r .entries) b ≡ isEntry (getD (r .hops) b 0) (overAt (r .hops) b above)) ⌝ }
 {
     let first = step_at(work, NodeReader::new(work, top), above, 0, 0);
     let mut hops = [first.hop; 31];
@@ -197,7 +198,7 @@ pub fn emit(out: &mut [u8], addr: u64, len: usize, hop: u8, above: u8) -> usize
     if hop == above {
         return 0;
     }
-    if hop < 64 {
+    if hop < NO_HOP {
         put(out, addr, len, hop);
         return 1;
     }

@@ -15,10 +15,10 @@ use Rattle.positions.proofs.Counts.{kept-few}
 use Rattle.positions.proofs.Modes.{kept-walk-inside, kept-walk-nothing}
 use Rattle.positions.proofs.Slots.{slots-agree, walk-slots}
 use Rattle.nodes.specs.Node.{wide, run, slotSize, Node}
-use Rattle.gather.specs.Gathered.{runAt, Gathered}
 use Rattle.nodes.specs.Output.{entryAt}
 use Rattle.nodes.proofs.RoomBlocks.{run-length}
 use Rattle.gather.proofs.GatherLaws.{node-run, slot-records, no-child}
+use Rattle.gather.specs.Gathered.{runAt, Gathered}
 
 -- The walk of some routes: by the test that leaves entries out and the step of an own hop.
 abbrev pub keptWalk : {S : Type 0} → (ℕ → S → Bool) → (Answer → S → S) → List Route → ℕ → ℕ → S → List Route

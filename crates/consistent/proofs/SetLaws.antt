@@ -19,8 +19,8 @@ use Rattle.positions.specs.Walks.{entryUnless, keptOut, keptNext, isBelow, orRo
 use Rattle.positions.proofs.Modes.{consistent-set-state}
 use Rattle.positions.proofs.Slots.{reached-keeps, walk-nothing}
 use Rattle.nodes.specs.Node.{wide, run, slotSize, Node}
-use Rattle.gather.specs.Gathered.{runAt, Gathered}
 use Rattle.nodes.specs.Output.{Wrote, entryAt}
+use Rattle.gather.specs.Gathered.{runAt, Gathered}
 use Rattle.gather.proofs.GatherLaws.{slot-records}
 use Rattle.gather.proofs.MemberLaws.{slot-is, top-member}
 use Rattle.consistent.proofs.KeptSlots.{keptWalk, keptState, kept-no-child, kept-slots, kept-most}

@@ -15,12 +15,12 @@ ghost use Prim.Native.Nat.{ℕ, _-_, _≤_, _<_};
 ghost use lib.Dec.{eqb, ltb};
 ghost use lib.ListN.{getD};
 ghost use Rattle.words.specs.Bits.{bit};
-ghost use Rattle.positions.specs.Runs.{hopOf};
+ghost use Rattle.positions.specs.Runs.{noHop, hopOf};
 ghost use Rattle.positions.specs.Walk.{walk};
 ghost use Rattle.positions.specs.Walks.{consistentMapOut, consistentMapNext};
 ghost use Rattle.nodes.specs.Node.{wide, run, Node};
-ghost use Rattle.gather.specs.Gathered.{overAt};
 ghost use Rattle.nodes.specs.Output.{Wrote};
+ghost use Rattle.gather.specs.Gathered.{overAt};
 
 // The entries, with position b's if it has a record, by `hop`, and another hop covers it from above.
 fn with_entry(entries: u32, b: u32, first: u16, end: u16, hop: u8, over: u8) -> u32
@@ -73,7 +73,7 @@ pub fn aggregate_consistent_map(
     out: &mut [u8],
 ) -> usize
     requires { ⌜ Node (now table) lo hi depth key ⌝ }
-    requires { ⌜ inherited ≤ 64 ⌝ }
+    requires { ⌜ inherited ≤ noHop ⌝ }
     ensures { λ r. ⌜ Wrote (walk (consistentMapOut wide (run (now (table .entry)) lo hi)) (consistentMapNext wide (run (now (table .entry)) lo hi)) (wide - depth) key (hopOf inherited)) 0 r (now (out .entry)) (now (out .exit)) ⌝ }
 {
     let mut first = [0u16; 63];

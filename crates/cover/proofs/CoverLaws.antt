@@ -26,7 +26,7 @@ use Rattle.positions.specs.Runs.{inside, sizeAt, placeAt, memberOver}
 use Rattle.positions.proofs.Runs.{Nested, nested-start, throughout-under}
 use Rattle.positions.proofs.RunsNode.{size-slot, above-lt, ownAt, slot-run, level-held, level-covered, halves-covered}
 use Rattle.nodes.specs.Node.{wide, run, slotSize, Node}
-use Rattle.gather.specs.Gathered.{some, runAt, levelOf, Gathered, Occupied}
+use Rattle.gather.specs.Gathered.{runAt, levelOf, Gathered, Occupied}
 use Rattle.gather.proofs.GatherLaws.{node-run, slot-records, no-child, member-is, has-record, slot-vacant, slot-occupied, child-node}
 use Rattle.gather.proofs.GatherPlaces.{in-heap, same-position, level-slot, place-in, place-at}
 use Rattle.gather.proofs.BusySlots.{next-steps}

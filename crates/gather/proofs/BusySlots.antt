@@ -13,11 +13,11 @@ use Rattle.words.proofs.BitLaws.{neither}
 use Rattle.positions.specs.Runs.{inside, placeAt}
 use Rattle.positions.specs.Walk.{heads}
 use Rattle.nodes.specs.Node.{wide, run, slotSize}
-use Rattle.gather.specs.Gathered.{Gathered, Occupied}
 use Rattle.nodes.specs.Output.{entryAt, HeadSlots}
-use Rattle.gather.proofs.GatherLaws.{no-child, slot-vacant}
 use Rattle.nodes.proofs.OutputWalk.{Walked, walked-over, no-heads}
 use Rattle.nodes.proofs.RoomWalk.{Ahead, ahead-skip}
+use Rattle.gather.specs.Gathered.{Gathered, Occupied}
+use Rattle.gather.proofs.GatherLaws.{no-child, slot-vacant}
 
 -- ---- From one bit that is set to the next.
 

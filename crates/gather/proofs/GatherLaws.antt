@@ -2,7 +2,7 @@
 -- node of a whole table.
 use Prim.Native.Nat.{ℕ, zero, suc, _+_, _-_, _/_, _^_, _≤_, _<_}
 use mathlib.Core.Path.{_≡_, refl, sym, ap, subst, _∙_}
-use mathlib.Core.Bool.{Bool, true, false}
+use mathlib.Core.Bool.{true, false}
 use mathlib.Core.List.{List, [], _∷_}
 use native.Mathlib.Decide.{decLt}
 use native.Mathlib.Omega.{arith}
@@ -20,16 +20,16 @@ use Rattle.records.specs.Wire.{records, routeAt, routes}
 use Rattle.words.specs.Bits.{bit}
 use Rattle.words.specs.Positions.{position}
 use Rattle.words.proofs.PositionLaws.{placed}
-use Rattle.positions.specs.Runs.{isAt, inside, headHop, own, orElse, sizeAt, placeAt, cover, hopOf}
+use Rattle.positions.specs.Runs.{isAt, inside, headHop, own, orElse, sizeAt, placeAt, cover, noHop, hopOf}
 use Rattle.positions.specs.Wide.{widened}
 use Rattle.positions.proofs.Runs.{Run, inside-within}
 use Rattle.positions.proofs.RunsNode.{size-slot, place-aligned, above-lt}
 use Rattle.positions.proofs.Wide.{all-widen, table-widen, short-widen}
 use Rattle.nodes.specs.Node.{wide, spare, wideAt, run, slotSize, Node}
+use Rattle.nodes.proofs.OutputLaws.{slot-within}
 use Rattle.gather.specs.Gathered.{filed, some, runAt, Gathered, Occupied, valueOf, coveringAt}
 use Rattle.gather.proofs.GatherPlaces.{filed-position}
 use Rattle.gather.proofs.GatherRuns.{member-run, run-none, run-first, some-run}
-use Rattle.nodes.proofs.OutputLaws.{slot-within}
 
 -- ---- The records of a position, and of a slot.
 
@@ -102,21 +102,21 @@ module _ {t : List ℕ} {lo hi depth key : ℕ} {first end : List ℕ} {present 
 -- ---- The hops that cover the positions.
 
 -- What the hop of the first of some records says, or the one above: their head's hop, or else the one above.
-module _ (t : List ℕ) (first end over : ℕ) (hops : All (λ r. r .hop < 64) (run t first end)) where
-  first-hop : first < end → routeAt t first .hop < 64
+module _ (t : List ℕ) (first end over : ℕ) (hops : All (λ r. r .hop < noHop) (run t first end)) where
+  first-hop : first < end → routeAt t first .hop < noHop
   first-hop lt = all-member hops (member-run t first end first (omega arith) lt)
 
   value-is : hopOf (valueOf t first end over) ≡ orElse (headHop (run t first end)) (hopOf over)
   value-is = go (decLt first end)
     where
       go : Dec (first < end) → hopOf (valueOf t first end over) ≡ orElse (headHop (run t first end)) (hopOf over)
-      go (yes lt) = rw (lt-ltb first end lt, run-first t first end lt, lt-ltb (routeAt t first .hop) 64 (first-hop lt))
+      go (yes lt) = rw (lt-ltb first end lt, run-first t first end lt, lt-ltb (routeAt t first .hop) noHop (first-hop lt))
       go (no ge) = let le : end ≤ first = omega arith in rw (le-ltb first end le, run-none t first end le)
 
-  value-le : over ≤ 64 → valueOf t first end over ≤ 64
+  value-le : over ≤ noHop → valueOf t first end over ≤ noHop
   value-le h = go (decLt first end)
     where
-      go : Dec (first < end) → valueOf t first end over ≤ 64
+      go : Dec (first < end) → valueOf t first end over ≤ noHop
       go (yes lt) = rw (lt-ltb first end lt) (omega (arith, first-hop lt))
       go (no ge) = let le : end ≤ first = omega arith in rw (le-ltb first end le) h
 
@@ -126,7 +126,7 @@ module _ {t : List ℕ} {lo hi depth key : ℕ} {first end : List ℕ} {present 
   pub ends-in : (b : ℕ) → b < 63 → getD end b 0 ≤ records t
   ends-in b h = omega (arith, g .bounds b h, n .high)
 
-  hops-at : (l j : ℕ) → l ≤ 4 → j < 2 ^ l → All (λ r. r .hop < 64) (runAt t first end (position l j))
+  hops-at : (l j : ℕ) → l ≤ 4 → j < 2 ^ l → All (λ r. r .hop < noHop) (runAt t first end (position l j))
   hops-at l j le lt = rw (position-run g l j le lt) (all-part _ (λ r h e. h) (n .hops))
 
   position-hop : (l j over : ℕ) → l ≤ 4 → j < 2 ^ l
@@ -146,7 +146,7 @@ module _ {t : List ℕ} {lo hi depth key : ℕ} {first end : List ℕ} {present 
       ∙ ap (orElse (own wide (sizeAt (slotSize depth) (suc l)) (placeAt (slotSize depth) key (suc l) j) (run t lo hi)))
       (covering-is inherited l (j / 2) (omega arith) (above-lt l j lt))
 
-  pub covering-le : (inherited l j : ℕ) → inherited ≤ 64 → l ≤ 4 → j < 2 ^ l → coveringAt t first end inherited l j ≤ 64
+  pub covering-le : (inherited l j : ℕ) → inherited ≤ noHop → l ≤ 4 → j < 2 ^ l → coveringAt t first end inherited l j ≤ noHop
   unfolding coveringAt
   covering-le inherited zero j h le lt = value-le t _ _ inherited (hops-at zero j le lt) h
   covering-le inherited (suc l) j h le lt =
@@ -199,8 +199,8 @@ pub root-run : (t : List ℕ) → run t 0 (records t) ≡ widened spare (routes 
 unfolding routes
 root-run t = let e : records t - 0 ≡ records t = omega arith in rw e
 
--- Those of a table with hops below 64 are those of a node.
-pub root-node : (t : List ℕ) → Table 32 (routes t) → All (λ r. r .hop < 64) (routes t) → Node t 0 (records t) 0 0
+-- Those of a table, by hops of the code, are those of a node.
+pub root-node : (t : List ℕ) → Table 32 (routes t) → All (λ r. r .hop < noHop) (routes t) → Node t 0 (records t) 0 0
 root-node t ok hops =
     record {
       low = omega arith;

@@ -13,8 +13,8 @@ use Rattle.words.proofs.CoverageLaws.{slot-under}
 use Rattle.words.proofs.PositionLaws.{in-word}
 use Rattle.positions.specs.Runs.{own, sizeAt, placeAt, memberOver}
 use Rattle.positions.proofs.RunsNode.{above-lt}
-use Rattle.gather.specs.Gathered.{Gathered}
 use Rattle.nodes.specs.Node.{wide, run, slotSize}
+use Rattle.gather.specs.Gathered.{Gathered}
 use Rattle.gather.proofs.GatherLaws.{member-is}
 
 module _ {t : List ℕ} {lo hi depth key : ℕ} {first end : List ℕ} {present : ℕ} (g : Gathered t lo hi depth key first end present) where

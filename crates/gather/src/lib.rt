@@ -183,12 +183,12 @@ pub fn value_at(table: &[u8], first: u16, end: u16, over: u8) -> u8
     }
 }
 
-// The hop that covers each position of a node, its own record included; 64 for none.
+// The hop that covers each position of a node, its own record included; `noHop` for none.
 pub fn covering_values(table: &[u8], first: &[u16; 63], end: &[u16; 63], inherited: u8) -> [u8; 31]
     requires { ⌜ ((b : ℕ) → b < 63 → getD (now end) b 0 ≤ records (now table)) ⌝ }
     ensures { λ r. ⌜ ((l j : ℕ) → l ≤ 4 → j < 2 ^ l → getD r (position l j) 0 ≡ coveringAt (now (table .entry)) (now (first .entry)) (now (end .entry)) inherited l j) ⌝ }
 {
-    let mut hops = [64u8; 31];
+    let mut hops = [inherited; 31];
     let mut b: usize = 0;
     while b < 31 {
         hops[b] = value_at(table, first[b], end[b], over_at(&hops, b, inherited));
@@ -197,7 +197,7 @@ pub fn covering_values(table: &[u8], first: &[u16; 63], end: &[u16; 63], inherit
     hops
 }
 
-// The hop that covers each position of a node, its own record included; 64 for none. Where no position has a record it is the inherited one.
+// The hop that covers each position of a node, its own record included; `noHop` for none. Where no position has a record it is the inherited one.
 pub fn covering_hops(
     table: &[u8],
     present: u32,

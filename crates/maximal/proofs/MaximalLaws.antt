@@ -28,15 +28,15 @@ use Rattle.positions.proofs.Modes.{maximal-covered}
 use Rattle.positions.proofs.Runs.{is-in, Nested, nested-self}
 use Rattle.positions.proofs.RunsNode.{size-slot, above-lt, above-in}
 use Rattle.positions.proofs.Slots.{reached-nested, walk-agree, walk-nothing, walk-slots, slots-agree}
-use Rattle.gather.specs.Gathered.{Gathered, Occupied, runAt}
 use Rattle.nodes.specs.Node.{wide, run, slotSize, Node}
 use Rattle.nodes.specs.Output.{entryAt}
+use Rattle.nodes.proofs.RoomSizes.{Selects}
+use Rattle.gather.specs.Gathered.{Gathered, Occupied, runAt}
 use Rattle.gather.proofs.GatherLaws.{slot-records, no-child, slot-vacant, slot-occupied, child-node}
 use Rattle.gather.proofs.MemberLaws.{slot-is}
-use Rattle.nodes.proofs.RoomSizes.{Selects}
 use Rattle.cover.specs.Coverage.{coveredIn}
-use Rattle.maximal.specs.Maximal.{IsCoverage, uncovered, Entries}
 use Rattle.cover.proofs.CoverLaws.{none-covered, empty-covered, folded-is, record-over, record-over-slot, position-covered, position-query, position-halves, slot-query}
+use Rattle.maximal.specs.Maximal.{IsCoverage, uncovered, Entries}
 
 -- ---- The walk of mode 1 over some addresses.
 

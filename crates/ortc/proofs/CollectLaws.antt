@@ -1,8 +1,7 @@
 -- The first walk of a node: its sets and its blocks by those of its slots, from the last slot to the first.
-use Prim.Native.Nat.{ℕ, zero, suc, _+_, _-_, _*_, _/_, _^_, _≤_, _<_}
+use Prim.Native.Nat.{ℕ, _+_, _-_, _*_, _/_, _^_, _≤_, _<_}
 use mathlib.Core.Path.{_≡_, refl, sym, ap, subst, _∙_}
-use mathlib.Core.Bool.{Bool, true, false, cond}
-use mathlib.Core.List.{List, [], _∷_}
+use mathlib.Core.List.{List, []}
 use mathlib.Core.Logic.{_⊎_, inl, inr}
 use native.Mathlib.Nat.{eq-or-lt-of-le}
 use native.Mathlib.Omega.{arith}
@@ -18,17 +17,17 @@ use Rattle.nodecount.specs.Walk.{slotNodes}
 use Rattle.positions.specs.Runs.{hopOf, orElse, placeAt}
 use Rattle.hops.specs.Sets.{ShowsSet}
 use Rattle.nodes.specs.Node.{wide, run, slotSize, Node}
-use Rattle.gather.specs.Gathered.{runAt, Gathered, Occupied, coveringAt}
 use Rattle.nodes.specs.Room.{Pushed, Block, nodesDeep, nodesBelow, Laid, SlotsLaid}
-use Rattle.gather.proofs.GatherLaws.{slot-records, no-child, slot-vacant}
 use Rattle.nodes.proofs.RoomLaws.{pushed-length}
 use Rattle.nodes.proofs.RoomBlocks.{block-deep}
 use Rattle.nodes.proofs.RoomSizes.{Sized, nodes-below-deep, block-length, room-child}
 use Rattle.nodes.proofs.RoomWalk.{laid-start, laid-next, laid-skip, laid-own}
+use Rattle.gather.specs.Gathered.{runAt, Gathered, Occupied, coveringAt}
+use Rattle.gather.proofs.GatherLaws.{slot-records, no-child, slot-vacant}
 use Rattle.gather.proofs.BusySlots.{last-steps}
-use Rattle.writer.specs.Write.{low, high}
 use Rattle.assign.specs.Answers.{answerIn, ShowsNode, setWords}
-use Rattle.assign.specs.Packed.{stored, wordsOf, packed}
+use Rattle.assign.specs.Packed.{packed}
+use Rattle.assign.proofs.PackedLaws.{packed-length}
 use Rattle.assign.proofs.LeafLaws.{leafAt}
 use Rattle.ortc.proofs.SlotLaws.{slot-alike, slot-some-routes, slot-block}
 
@@ -40,23 +39,7 @@ node-set {f} {m} {a} {xs} s =
     let e : placeAt m a 0 0 ≡ a = omega arith in
     rw e at (s .places 0 0 (omega arith) (omega arith))
 
--- ---- How many words a node has.
-
-words-length : (xs : List ℕ) (k : ℕ) → length (wordsOf xs k) ≤ 2 * k
-unfolding wordsOf
-words-length xs zero = omega arith
-words-length xs (suc k) = go (stored xs (30 - k)) (words-length xs k)
-  where
-    go : (s : Bool) → length (wordsOf xs k) ≤ 2 * k
-        → length (cond s (low (getD xs (30 - k) 0) ∷ high (getD xs (30 - k) 0) ∷ wordsOf xs k) (wordsOf xs k)) ≤ 2 * suc k
-    go true h = omega arith
-    go false h = omega arith
-
--- At most 63: a mask, and two for each of 31 positions.
-pub packed-length : (xs : List ℕ) → length (packed xs) ≤ 63
-packed-length xs = omega (arith, words-length xs 31)
-
--- So a block has at most 160 for each of its nodes.
+-- A node has at most 63 words, so a block has at most 160 for each of its nodes.
 pub sets-sized : (f : ℕ → Answer) (k : ℕ) → Sized 160 (Block (setWords f) k) (nodesBelow k)
 sets-sized f k =
     block-length 160 (setWords f)

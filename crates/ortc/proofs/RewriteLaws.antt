@@ -16,14 +16,13 @@ use Rattle.theory.proofs.Quick.{ortc-uniform}
 use Rattle.words.specs.Bits.{bit, NextBit}
 use Rattle.words.specs.Positions.{position}
 use Rattle.words.proofs.BitLaws.{neither}
-use Rattle.positions.specs.Runs.{hopOf, orElse, sizeAt, placeAt}
+use Rattle.positions.specs.Runs.{noHop, hopOf, orElse, sizeAt, placeAt}
 use Rattle.positions.specs.Walk.{walk, stateAt, slots}
 use Rattle.positions.specs.Walks.{ortcOut, ortcNext}
 use Rattle.positions.proofs.Counts.{ortc-few}
 use Rattle.positions.proofs.Modes.{ortc-walk}
 use Rattle.positions.proofs.Slots.{walk-slots, slots-agree}
 use Rattle.nodes.specs.Node.{wide, run, slotSize, Node}
-use Rattle.gather.specs.Gathered.{runAt, Gathered, Occupied, coveringAt}
 use Rattle.nodes.specs.Output.{Wrote, entryAt, HeadSlots}
 use Rattle.nodes.specs.Room.{Begins, Block, everywhere, nodesDeep, Stored}
 use Rattle.gather.proofs.GatherLaws.{node-run, no-child, slot-vacant, covering-le}
@@ -31,6 +30,7 @@ use Rattle.gather.proofs.GatherRuns.{run-none}
 use Rattle.nodes.proofs.OutputWalk.{Walked, walked-none, walked-all, no-heads}
 use Rattle.nodes.proofs.RoomBlocks.{run-length}
 use Rattle.nodes.proofs.RoomWalk.{Ahead, own-stored, ahead-start, ahead-stored, ahead-next, ahead-skip, ahead-end}
+use Rattle.gather.specs.Gathered.{runAt, Gathered, Occupied, coveringAt}
 use Rattle.gather.proofs.BusySlots.{Busy, walked-next, ahead-past}
 use Rattle.assign.specs.Answers.{answerIn, ShowsNode, setWords, assignedAt, entryOver, LeafSlots}
 use Rattle.assign.specs.Packed.{packed}
@@ -63,7 +63,7 @@ module _ (f : ℕ → Answer) (m a : ℕ) (g : Answer) where
 -- ---- A region without routes.
 
 -- Its rewrite is one entry at most, by the hop that covers it or else fills.
-pub leaf-rewrite : (t : List ℕ) (lo hi depth key covering fill hop above : ℕ) → hi ≤ lo → depth ≤ 35 → hop ≤ 64 → above ≤ 64
+pub leaf-rewrite : (t : List ℕ) (lo hi depth key covering fill hop above : ℕ) → hi ≤ lo → depth ≤ 35 → hop ≤ noHop → above ≤ noHop
     → hopOf hop ≡ orElse (hopOf covering) (hopOf fill)
     → ortc smallest wide (answerIn (run t lo hi) (hopOf covering) (hopOf fill)) (wide - depth) key (hopOf above) ≡ entryOver key depth hop above
 leaf-rewrite t lo hi depth key covering fill hop above none deep hop-low above-low e =
@@ -73,12 +73,12 @@ leaf-rewrite t lo hi depth key covering fill hop above none deep hop-low above-l
     ∙ rw (← e) (sym (leaf-entry (wide - depth) key depth hop above (omega arith) hop-low above-low)))
 
 -- Some hop says which that is.
-leaf-hop : (covering fill : ℕ) → covering ≤ 64 → fill ≤ 64 → (v : ℕ) × (v ≤ 64) × (hopOf v ≡ orElse (hopOf covering) (hopOf fill))
-leaf-hop covering fill p q = go (decLt covering 64)
+leaf-hop : (covering fill : ℕ) → covering ≤ noHop → fill ≤ noHop → (v : ℕ) × (v ≤ noHop) × (hopOf v ≡ orElse (hopOf covering) (hopOf fill))
+leaf-hop covering fill p q = go (decLt covering noHop)
   where
-    go : Dec (covering < 64) → (v : ℕ) × (v ≤ 64) × (hopOf v ≡ orElse (hopOf covering) (hopOf fill))
-    go (yes lt) = (covering, p, rw (lt-ltb covering 64 lt))
-    go (no ge) = (fill, q, rw (le-ltb covering 64 (omega arith)))
+    go : Dec (covering < noHop) → (v : ℕ) × (v ≤ noHop) × (hopOf v ≡ orElse (hopOf covering) (hopOf fill))
+    go (yes lt) = (covering, p, rw (lt-ltb covering noHop lt))
+    go (no ge) = (fill, q, rw (le-ltb covering noHop (omega arith)))
 
 -- ---- A node in the room.
 
@@ -97,8 +97,8 @@ slotRewrite t first end covering hops depth key fill c =
     (wide - (depth + 5)) (placeAt (slotSize depth) key 5 c) (hopOf (getD hops (15 + c / 2) 0))
 
 -- One without records lists nothing where no entry of its own is marked.
-leaf-none : (t first end covering hops : List ℕ) (depth key fill leaves : ℕ) → LeafSlots covering hops fill leaves → depth ≤ 30 → fill ≤ 64
-    → (c : ℕ) → c < 32 → getD end (31 + c) 0 ≤ getD first (31 + c) 0 → getD covering (15 + c / 2) 0 ≤ 64 → getD hops (15 + c / 2) 0 ≤ 64
+leaf-none : (t first end covering hops : List ℕ) (depth key fill leaves : ℕ) → LeafSlots covering hops fill leaves → depth ≤ 30 → fill ≤ noHop
+    → (c : ℕ) → c < 32 → getD end (31 + c) 0 ≤ getD first (31 + c) 0 → getD covering (15 + c / 2) 0 ≤ noHop → getD hops (15 + c / 2) 0 ≤ noHop
     → bit leaves c ≡ false → slotRewrite t first end covering hops depth key fill c ≡ []
 leaf-none t first end covering hops depth key fill leaves marks deep fill-low c lt none covers-low hops-low clear =
     let v = leaf-hop (getD covering (15 + c / 2) 0) fill covers-low fill-low in
@@ -115,8 +115,8 @@ pub record Opened (t : List ℕ) (lo hi depth key inherited fill above : ℕ) (w
   pub present : ℕ
   pub gathered : Gathered t lo hi depth key first end present
   pub covers : (c : ℕ) → c < 32 → getD covering (15 + c / 2) 0 ≡ coveringAt t first end inherited 4 (c / 2)
-  pub covers-low : (c : ℕ) → c < 32 → getD covering (15 + c / 2) 0 ≤ 64
-  pub hops-low : (c : ℕ) → c < 32 → getD hops (15 + c / 2) 0 ≤ 64
+  pub covers-low : (c : ℕ) → c < 32 → getD covering (15 + c / 2) 0 ≤ noHop
+  pub hops-low : (c : ℕ) → c < 32 → getD hops (15 + c / 2) 0 ≤ noHop
   pub rewritten : ortc smallest wide (answerIn (run t lo hi) (hopOf inherited) (hopOf fill)) (wide - depth) key (hopOf above)
       ≡ slots (entryAt entries hops depth key) (slotRewrite t first end covering hops depth key fill) 32
   pub stored : Stored (setWords (answerIn (run t lo hi) (hopOf inherited) (hopOf fill))) (nodesDeep depth) key (run t lo hi) top work
@@ -134,8 +134,8 @@ pub record Walking (t : List ℕ) (lo hi depth key inherited fill above : ℕ) (
   pub ahead : AheadIn t lo hi depth key inherited fill top work c at
 
 module _ {t : List ℕ} {lo hi depth key : ℕ} {first end : List ℕ} {present : ℕ} (n : Node t lo hi depth key)
-    (g : Gathered t lo hi depth key first end present) (inherited fill above : ℕ) (inherited-low : inherited ≤ 64) (fill-low : fill ≤ 64)
-    (above-low : above ≤ 64) where
+    (g : Gathered t lo hi depth key first end present) (inherited fill above : ℕ) (inherited-low : inherited ≤ noHop) (fill-low : fill ≤ noHop)
+    (above-low : above ≤ noHop) where
   -- By what the passes over the node find.
   pub opened : {work : List ℕ} {top : ℕ} {covering hops : List ℕ} {entries : ℕ} (occupied marked leaves : ℕ)
       → Stored (setWords (answerIn (run t lo hi) (hopOf inherited) (hopOf fill))) (nodesDeep depth) key (run t lo hi) top work
@@ -183,10 +183,10 @@ module _ {t : List ℕ} {lo hi depth key : ℕ} {first end : List ℕ} {present 
       covers : (c : ℕ) → c < 32 → getD covering (15 + c / 2) 0 ≡ coveringAt t first end inherited 4 (c / 2)
       covers c lt = cover 4 (c / 2) (omega arith) (omega arith)
 
-      covers-low : (c : ℕ) → c < 32 → getD covering (15 + c / 2) 0 ≤ 64
+      covers-low : (c : ℕ) → c < 32 → getD covering (15 + c / 2) 0 ≤ noHop
       covers-low c lt = rw (covers c lt) (covering-le n g inherited 4 (c / 2) inherited-low (omega arith) (omega arith))
 
-      hops-low : (c : ℕ) → c < 32 → getD hops (15 + c / 2) 0 ≤ 64
+      hops-low : (c : ℕ) → c < 32 → getD hops (15 + c / 2) 0 ≤ noHop
       hops-low c lt = assigned 4 (c / 2) (omega arith) (omega arith) .0
 
       slot : (c : ℕ) → c < 32

@@ -20,7 +20,7 @@ ghost use mathlib.Core.List.{List};
 ghost use Prim.Native.Nat.{ℕ, _+_, _-_, _*_, _^_, _≤_, _<_};
 ghost use lib.ListN.{length};
 ghost use Rattle.theory.specs.Results.{sets, ortc};
-ghost use Rattle.positions.specs.Runs.{hopOf};
+ghost use Rattle.positions.specs.Runs.{noHop, hopOf};
 ghost use Rattle.hops.specs.Sets.{ShowsSet};
 ghost use Rattle.nodes.specs.Node.{wide, run, Node};
 ghost use Rattle.nodes.specs.Output.{Wrote};
@@ -34,7 +34,7 @@ pub struct Collected {
 }
 
 // The first walk: lays the sets of a node and of all below it into the room, from `top` downward. `inherited` covers the node from above, and
-// `fill` is the hop of what has no route; 64 for none.
+// `fill` is the hop of what has no route; `noHop` for none.
 pub fn collect_sets(
     table: &[u8],
     lo: u16,
@@ -47,7 +47,7 @@ pub fn collect_sets(
     top: usize,
 ) -> Collected
     requires { ⌜ Node (now table) lo hi depth key ⌝ }
-    requires { ⌜ (inherited ≤ 64) × (fill ≤ 64) ⌝ }
+    requires { ⌜ (inherited ≤ noHop) × (fill ≤ noHop) ⌝ }
     requires { ⌜ (160 * nodesBelow (nodesDeep depth) key (run (now table) lo hi) ≤ top) × (top ≤ length (now work)) ⌝ }
     ensures { λ r. ⌜ ShowsSet (r .set) (sets (answerIn (run (now (table .entry)) lo hi) (hopOf inherited) (hopOf fill)) (wide - depth) key) ⌝ }
     ensures { λ r. ⌜ Laid (setWords (answerIn (run (now (table .entry)) lo hi) (hopOf inherited) (hopOf fill))) (nodesDeep depth) key (run (now (table .entry)) lo hi) top (r .top) (now (work .entry)) (now (work .exit)) ⌝ }
@@ -109,7 +109,7 @@ pub fn rewrite(
     out: &mut [u8],
 ) -> Walked
     requires { ⌜ Node (now table) lo hi depth key ⌝ }
-    requires { ⌜ (inherited ≤ 64) × ((fill ≤ 64) × (above ≤ 64)) ⌝ }
+    requires { ⌜ (inherited ≤ noHop) × ((fill ≤ noHop) × (above ≤ noHop)) ⌝ }
     requires { ⌜ Stored (setWords (answerIn (run (now table) lo hi) (hopOf inherited) (hopOf fill))) (nodesDeep depth) key (run (now table) lo hi) top (now work) ⌝ }
     ensures { λ r. ⌜ ((ws : List ℕ) → Block (setWords (answerIn (run (now (table .entry)) lo hi) (hopOf inherited) (hopOf fill))) (nodesDeep depth) key (run (now (table .entry)) lo hi) ws → Begins ws top (now (work .entry)) → r .top ≡ top + length ws) ⌝ }
     ensures { λ r. ⌜ Wrote (ortc Rattle.theory.specs.Results.smallest wide (answerIn (run (now (table .entry)) lo hi) (hopOf inherited) (hopOf fill)) (wide - depth) key (hopOf above)) 0 (r .count) (now (out .entry)) (now (out .exit)) ⌝ }
@@ -166,7 +166,7 @@ fn rewrite_child(
 ) -> Walked
     requires { ⌜ (lo < hi → Node (now table) lo hi depth key) ⌝ }
     requires { ⌜ (depth ≤ 35) × (key + 2 ^ (wide - depth) ≤ 2 ^ wide) ⌝ }
-    requires { ⌜ (covering ≤ 64) × ((fill ≤ 64) × (above ≤ 64)) ⌝ }
+    requires { ⌜ (covering ≤ noHop) × ((fill ≤ noHop) × (above ≤ noHop)) ⌝ }
     requires { ⌜ (lo < hi → Stored (setWords (answerIn (run (now table) lo hi) (hopOf covering) (hopOf fill))) (nodesDeep depth) key (run (now table) lo hi) top (now work)) ⌝ }
     ensures { λ r. ⌜ (hi ≤ lo → r .top ≡ top) ⌝ }
     ensures { λ r. ⌜ (lo < hi → (ws : List ℕ) → Block (setWords (answerIn (run (now (table .entry)) lo hi) (hopOf covering) (hopOf fill))) (nodesDeep depth) key (run (now (table .entry)) lo hi) ws → Begins ws top (now (work .entry)) → r .top ≡ top + length ws) ⌝ }

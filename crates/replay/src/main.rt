@@ -5,9 +5,9 @@ use aggregate::rewrite;
 use calls::Rewritten;
 use libc::STDIN_FILENO;
 use records::join4;
+use replaying::FILLED_BYTE;
+use replaying::FILLED_WORD;
 use replaying::Turn;
-use replaying::fill_bytes;
-use replaying::fill_words;
 use replaying::join2;
 use replaying::keep_held;
 use replaying::keep_output;
@@ -49,8 +49,8 @@ fn keep_rewritten(
     requires { ⌜ 262144 ≤ length (now kept) ⌝ }
     ensures { λ r. ⌜ r ≤ length (now (kept .entry)) ⌝ }
 {
-    fill_bytes(output);
-    fill_words(work);
+    rooms::bytes::fill(output, FILLED_BYTE);
+    rooms::words::fill(work, FILLED_WORD);
     let answer = rewrite(table, mode as u32, default as u32, output, work);
     let begin = room_for(kept, at);
     let end = put_rewritten(answer, output, 2 < mode, begin, kept);
@@ -71,7 +71,7 @@ fn keep_covers(
     requires { ⌜ 262144 ≤ length (now kept) ⌝ }
     ensures { λ r. ⌜ r ≤ length (now (kept .entry)) ⌝ }
 {
-    fill_words(work);
+    rooms::words::fill(work, FILLED_WORD);
     let answer = covers(table, address, len as u32, work);
     let begin = room_for(kept, at);
     let end = put_covers(answer, begin, kept);

@@ -9,8 +9,12 @@ use text::answers::put_lookup;
 use text::put_bytes;
 ghost use mathlib.Core.Path.{_≡_};
 ghost use Prim.Native.Nat.{_+_, _*_, _≤_, _<_};
-ghost use lib.ListN.{length, drop, replicate};
-ghost use Rattle.replaying.specs.Rooms.{allAre};
+ghost use lib.ListN.{length};
+
+// What stands in the rooms before a call: no byte and no word of it is zero.
+pub const FILLED_BYTE: u8 = 165;
+
+pub const FILLED_WORD: u32 = 2779096485;
 
 // The bytes of text that are kept, and whether there is more to do.
 pub struct Turn {
@@ -32,56 +36,6 @@ pub fn join2(a: u8, b: u8) -> usize
     ensures { λ r. ⌜ r ≤ 65535 ⌝ }
 {
     (a as usize) * 256 + (b as usize)
-}
-
-// Makes every word of the room one that is not zero.
-pub fn fill_words(work: &mut [u32])
-    ensures { λ _. ⌜ now (work .exit) ≡ replicate (length (now (work .entry))) 2779096485 ⌝ }
-{
-    let mut i: usize = 0;
-    while i < work.len() {
-        work[i] = 2779096485;
-        i += 1;
-    }
-}
-
-// Makes every byte of the output the same.
-pub fn fill_bytes(output: &mut [u8])
-    ensures { λ _. ⌜ now (output .exit) ≡ replicate (length (now (output .entry))) 165 ⌝ }
-{
-    let mut i: usize = 0;
-    while i < output.len() {
-        output[i] = 165;
-        i += 1;
-    }
-}
-
-// Is every word zero?
-fn is_zero(work: &[u32]) -> bool
-    ensures { λ r. ⌜ r ≡ allAre 0 (now (work .entry)) ⌝ }
-{
-    let mut i: usize = 0;
-    while i < work.len() {
-        if work[i] != 0 {
-            return false;
-        }
-        i += 1;
-    }
-    true
-}
-
-// Is every byte from a place on as it was filled?
-fn is_kept(output: &[u8], from: usize) -> bool
-    ensures { λ r. ⌜ r ≡ allAre 165 (drop from (now (output .entry))) ⌝ }
-{
-    let mut i = from;
-    while i < output.len() {
-        if output[i] != 165 {
-            return false;
-        }
-        i += 1;
-    }
-    true
 }
 
 // Writes the kept text.
@@ -135,7 +89,7 @@ pub fn keep_work(work: &[u32], at: usize, kept: &mut [u8]) -> usize
     requires { ⌜ 262144 ≤ length (now kept) ⌝ }
     ensures { λ r. ⌜ r ≤ length (now (kept .entry)) ⌝ }
 {
-    if is_zero(work) {
+    if rooms::words::are(work, 0, 0) {
         return at;
     }
     keep_line(b"work not zero\n", at, kept)
@@ -147,7 +101,7 @@ pub fn keep_output(output: &[u8], from: usize, at: usize, kept: &mut [u8]) -> us
     requires { ⌜ 262144 ≤ length (now kept) ⌝ }
     ensures { λ r. ⌜ r ≤ length (now (kept .entry)) ⌝ }
 {
-    if is_kept(output, from) {
+    if rooms::bytes::are(output, from, FILLED_BYTE) {
         return at;
     }
     keep_line(b"output touched\n", at, kept)

@@ -27,7 +27,7 @@ fn no_refusal() -> Refusal
     }
 }
 
-fn refusal(number: u8, index: usize) -> Refusal
+fn in_numbers(number: u8, index: usize) -> Refusal
     ensures { λ f. ⌜ (f .number ≡ number) × (f .index ≡ index) ⌝ }
 {
     Refusal {
@@ -45,7 +45,7 @@ fn rewritten_refusal(r: Rewritten) -> Refusal
             count: _,
             change: _,
         } => no_refusal(),
-        Rewritten::Refused { number, index } => refusal(number, index),
+        Rewritten::Refused { number, index } => in_numbers(number, index),
     }
 }
 
@@ -102,7 +102,7 @@ fn covers_refusal(r: Covers) -> Refusal
     match r {
         Covers::Covered => no_refusal(),
         Covers::Uncovered => no_refusal(),
-        Covers::Refused { number, index } => refusal(number, index),
+        Covers::Refused { number, index } => in_numbers(number, index),
     }
 }
 
@@ -145,7 +145,7 @@ fn lookup_refusal(r: Lookup) -> Refusal
     match r {
         Lookup::Route { hop: _, length: _ } => no_refusal(),
         Lookup::NoRoute => no_refusal(),
-        Lookup::Refused { number, index } => refusal(number, index),
+        Lookup::Refused { number, index } => in_numbers(number, index),
     }
 }
 
@@ -215,7 +215,7 @@ fn held_refusal(r: AddressesHeld) -> Refusal
 {
     match r {
         AddressesHeld::Sum(_) => no_refusal(),
-        AddressesHeld::Refused { number, index } => refusal(number, index),
+        AddressesHeld::Refused { number, index } => in_numbers(number, index),
     }
 }
 

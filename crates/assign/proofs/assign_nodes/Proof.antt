@@ -1,4 +1,4 @@
--- `ortc::assign::assign_nodes` meets its contract. The loop's invariant: the positions before b are assigned, and the reader stands before b.
+-- `assign::assign_nodes` meets its contract. The loop's invariant: the positions before b are assigned, and the reader stands before b.
 -- Assumes nothing.
 use Prim.Native.Nat.{_-_, _≤_}
 use mathlib.Core.Path.{refl}

@@ -1,4 +1,4 @@
--- `ortc::assign::fold_sets` meets its contract. The loop's invariant: the positions from b on are folded. Assumes nothing.
+-- `assign::fold_sets` meets its contract. The loop's invariant: the positions from b on are folded. Assumes nothing.
 use Prim.Native.Nat.{suc, _-_, _≤_}
 use mathlib.Core.Path.{_≡_}
 use native.Mathlib.Omega.{arith}

@@ -1,4 +1,4 @@
--- `ortc::assign::leaf_sets` meets its contract. The loop's invariant: the slots under the first p positions have their leaves. Assumes nothing.
+-- `assign::leaf_sets` meets its contract. The loop's invariant: the slots under the first p positions have their leaves. Assumes nothing.
 use Prim.Native.Nat.{_-_, _≤_}
 use mathlib.Core.Path.{refl}
 use native.Mathlib.Omega.{arith}

@@ -1,4 +1,4 @@
--- `ortc::assign::leaf_slots` meets its contract. The loop's invariant: the positions of the last level before p are marked. Assumes nothing.
+-- `assign::leaf_slots` meets its contract. The loop's invariant: the positions of the last level before p are marked. Assumes nothing.
 use Prim.Native.Nat.{_-_, _≤_}
 use native.Mathlib.Omega.{arith}
 use borrow.Author.Needs.{needs}

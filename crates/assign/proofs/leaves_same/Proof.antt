@@ -1,4 +1,4 @@
--- `ortc::assign::leaves_same` meets its contract. The loop's invariant: while the answer is yes, it is so at the positions of the last level
+-- `assign::leaves_same` meets its contract. The loop's invariant: while the answer is yes, it is so at the positions of the last level
 -- before p. Assumes nothing.
 use Prim.Native.Nat.{_-_, _≤_}
 use mathlib.Core.Path.{_≡_, sym, _∙_}

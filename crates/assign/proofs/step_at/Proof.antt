@@ -1,4 +1,4 @@
--- `ortc::assign::step_at` meets its contract. Assumes nothing.
+-- `assign::step_at` meets its contract. Assumes nothing.
 use borrow.Author.Needs.{needs}
 use mathlib.Core.Path.{refl, sym, subst, _∙_}
 use mathlib.Core.Bool.{true≢false, and-false}

@@ -1,4 +1,4 @@
--- `ortc::assign::still_same` meets its contract. Assumes nothing.
+-- `assign::still_same` meets its contract. Assumes nothing.
 use borrow.Author.Tests.{eq-eqb, ne-eqb}
 use Rattle.assign.proofs.still_same.Statement.{statement}
 use Rattle.assign.proofs.still_same.Tie as tie

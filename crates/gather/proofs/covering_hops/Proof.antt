@@ -1,4 +1,4 @@
--- `nodes::gather::covering_hops` meets its contract. Assumes nothing.
+-- `gather::covering_hops` meets its contract. Assumes nothing.
 use Prim.Native.Nat.{ℕ, _≤_, _<_}
 use mathlib.Core.Path.{sym, _∙_}
 use lib.ListN.{getD, getD-replicate}

@@ -1,4 +1,4 @@
--- `nodes::gather::covering_values` meets its contract. The loop's invariant: the hops of the positions before b are found. Assumes nothing.
+-- `gather::covering_values` meets its contract. The loop's invariant: the hops of the positions before b are found. Assumes nothing.
 use Prim.Native.Nat.{_-_, _≤_}
 use mathlib.Core.Path.{refl, ap, _∙_}
 use native.Mathlib.Omega.{arith}

@@ -1,4 +1,4 @@
--- `nodes::gather::first_of` meets its contract. Assumes nothing.
+-- `gather::first_of` meets its contract. Assumes nothing.
 use borrow.Author.Tests.{lt-ltb, le-ltb}
 use Rattle.gather.proofs.first_of.Statement.{statement}
 use Rattle.gather.proofs.first_of.Tie as tie

@@ -1,4 +1,4 @@
--- `nodes::gather::first_past` meets its contract. The loop's invariant: the records from i up to `at` stand before `past`. Assumes nothing.
+-- `gather::first_past` meets its contract. The loop's invariant: the records from i up to `at` stand before `past`. Assumes nothing.
 use Prim.Native.Nat.{ℕ, suc, _+_, _-_, _≤_, _<_}
 use mathlib.Core.Path.{_≡_}
 use mathlib.Core.Logic.{_⊎_, inl, inr}

@@ -1,4 +1,4 @@
--- `nodes::gather::gather_run` meets its contract. The loop's invariant: the records from lo up to i are gathered, and the word says which slots have
+-- `gather::gather_run` meets its contract. The loop's invariant: the records from lo up to i are gathered, and the word says which slots have
 -- one of them. Assumes nothing.
 use Prim.Native.Nat.{ℕ, _-_, _^_, _≤_, _<_}
 use mathlib.Core.Path.{_≡_, sym}
@@ -7,8 +7,8 @@ use lib.Pow.{pow-pos}
 use borrow.Author.Needs.{needs}
 use Rattle.theory.specs.Routes.{Route}
 use Rattle.theory.specs.Shapes.{Within}
-use Rattle.gather.specs.Gathered.{Gathered}
 use Rattle.nodes.specs.Node.{wide, wideAt}
+use Rattle.gather.specs.Gathered.{Gathered}
 use Rattle.gather.proofs.GatherPlaces.{heapOf, heap-is}
 use Rattle.gather.proofs.GatherSlots.{Slots, place-run, slots-start, slots-next, slots-done}
 use Rattle.gather.proofs.GatherSteps.{Passed, passed-start, passed-next, passed-done, node-within, node-heap}

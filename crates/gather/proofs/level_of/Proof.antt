@@ -1,4 +1,4 @@
--- `nodes::gather::level_of` meets its contract. Assumes nothing.
+-- `gather::level_of` meets its contract. Assumes nothing.
 use Prim.Native.Nat.{_+_}
 use native.Mathlib.Omega.{arith}
 use borrow.Author.Needs.{needs}

@@ -1,4 +1,4 @@
--- `nodes::gather::marked` meets its contract. Assumes nothing.
+-- `gather::marked` meets its contract. Assumes nothing.
 use mathlib.Core.Path.{refl, ap, sym, _∙_}
 use mathlib.Core.Bool.{Bool, _||_}
 use native.Mathlib.Omega.{arith}

@@ -1,4 +1,4 @@
--- `nodes::gather::over_at` meets its contract. Assumes nothing.
+-- `gather::over_at` meets its contract. Assumes nothing.
 use borrow.Author.Needs.{needs}
 use borrow.Author.Tests.{eq-eqb, ne-eqb}
 use Rattle.gather.proofs.over_at.Statement.{statement}

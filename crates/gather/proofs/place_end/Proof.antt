@@ -1,4 +1,4 @@
--- `nodes::gather::place_end` meets its contract. Assumes nothing.
+-- `gather::place_end` meets its contract. Assumes nothing.
 use Prim.Native.Nat.{ℕ, _+_, _-_, _*_, _%_, _^_, _≤_, _<_}
 use mathlib.Core.Path.{_≡_}
 use native.Mathlib.Omega.{arith}

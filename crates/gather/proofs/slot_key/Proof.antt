@@ -1,4 +1,4 @@
--- `nodes::gather::slot_key` meets its contract. Assumes nothing.
+-- `gather::slot_key` meets its contract. Assumes nothing.
 use Prim.Native.Nat.{ℕ, _+_, _-_, _*_, _%_, _^_, _≤_, _<_}
 use mathlib.Core.Path.{_≡_, ap}
 use native.Mathlib.Nat.{mod-eq-of-lt}

@@ -1,4 +1,4 @@
--- `nodes::gather::value_at` meets its contract. Assumes nothing.
+-- `gather::value_at` meets its contract. Assumes nothing.
 use borrow.Author.Needs.{needs}
 use borrow.Author.Tests.{lt-ltb, le-ltb}
 use Rattle.gather.proofs.value_at.Statement.{statement}

@@ -1,4 +1,4 @@
--- `nodes::gather::with_slot` meets its contract. Assumes nothing.
+-- `gather::with_slot` meets its contract. Assumes nothing.
 use Prim.Native.Nat.{ℕ, _+_, _-_, _≤_}
 use mathlib.Core.Path.{_≡_, ap, sym, _∙_}
 use mathlib.Core.Bool.{Bool, _||_}

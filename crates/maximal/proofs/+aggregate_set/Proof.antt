@@ -1,4 +1,4 @@
--- `cover::maximal::aggregate_set`, which calls itself on the slots that are walked, meets its contract, by falling bits below the node. The loop's
+-- `maximal::aggregate_set`, which calls itself on the slots that are walked, meets its contract, by falling bits below the node. The loop's
 -- invariant: the node's coverage is read, and of its slots before the next the maximal prefixes are written. Assumes nothing.
 use Prim.Native.Nat.{ℕ, _+_, _-_, _<_}
 use mathlib.Core.Path.{_≡_, refl, sym, _∙_}

@@ -1,4 +1,4 @@
--- `cover::maximal::collect_coverage`, which calls itself on the slots that are walked, meets its contract, by falling bits below the node. The loop's
+-- `maximal::collect_coverage`, which calls itself on the slots that are walked, meets its contract, by falling bits below the node. The loop's
 -- invariant: of the slots from k on the coverage is laid, and the word has the covered ones. Assumes nothing.
 use Prim.Native.Nat.{ℕ, _-_, _<_}
 use mathlib.Core.Path.{_≡_, refl}

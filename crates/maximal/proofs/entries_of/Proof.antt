@@ -1,4 +1,4 @@
--- `cover::maximal::entries_of` meets its contract: what `keep_of` ensures of each bit, with the positions below a covered one. Assumes nothing.
+-- `maximal::entries_of` meets its contract: what `keep_of` ensures of each bit, with the positions below a covered one. Assumes nothing.
 use Prim.Native.Nat.{suc}
 use mathlib.Core.Path.{_∙_}
 use mathlib.Core.Bool.{and-true}

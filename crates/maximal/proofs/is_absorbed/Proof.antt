@@ -1,4 +1,4 @@
--- `cover::maximal::is_absorbed` meets its contract. Assumes nothing.
+-- `maximal::is_absorbed` meets its contract. Assumes nothing.
 use borrow.Author.Needs.{needs}
 use Rattle.maximal.proofs.is_absorbed.Statement.{statement}
 use Rattle.maximal.proofs.is_absorbed.Tie as tie

@@ -5,11 +5,11 @@ use Rattle.text.proofs.Replies.{rewritten-fits}
 use Rattle.replay.proofs.keep_rewritten.Statement.{statement}
 use Rattle.replay.proofs.keep_rewritten.Tie as tie
 
-fill-bytes-requires : tie.Need-fill-bytes-requires
-fill-bytes-requires c κs = search needs
+fill-requires : tie.Need-fill-requires
+fill-requires c κs = search needs
 
-fill-words-requires : tie.Need-fill-words-requires
-fill-words-requires c κs = search needs
+fill-requires-2 : tie.Need-fill-requires-2
+fill-requires-2 c κs = search needs
 
 rewrite-requires : tie.Need-rewrite-requires
 rewrite-requires c κs = search needs
@@ -21,7 +21,7 @@ put-rewritten-requires : tie.Need-put-rewritten-requires
 put-rewritten-requires c κs =
     let fits = rewritten-fits _ _ _ _ _ _ _ _ (c .before .before .before .before .before .before .before .before .rewrite .ensures) in
     let same = c .before .before .before .before .before .before .before .before .rewrite .kept .1 .1 .1 .0 in
-    let filled = c .before .before .before .before .before .before .before .before .before .before .before .before .before .before .before .before .before .fill-bytes .kept .0 in
+    let filled = c .before .before .before .before .before .before .before .before .before .before .before .before .before .before .before .before .before .fill .kept .0 in
     (fits, omega (arith, fits, same, filled, c .before .before .before .before .before .before .before .before .before .before .before .before .before .before .before .before .before .before .before .before .before .before .before .pre .0, c .before .before .room-for .ensures))
 
 keep-work-requires : tie.Need-keep-work-requires
@@ -30,7 +30,7 @@ keep-work-requires c κs = search needs
 written-requires : tie.Need-written-requires
 written-requires c κs =
     let fits = rewritten-fits _ _ _ _ _ _ _ _ (c .before .before .before .before .before .before .before .before .before .before .before .before .before .before .before .before .before .rewrite .ensures) in
-    omega (arith, fits, c .before .before .before .before .before .before .before .before .before .before .before .before .before .before .before .before .before .rewrite .kept .1 .1 .1 .0, c .before .before .before .before .before .before .before .before .before .before .before .before .before .before .before .before .before .before .before .before .before .before .before .before .before .before .fill-bytes .kept .0, c .before .before .before .before .before .before .before .before .before .before .before .before .before .before .before .before .before .before .before .before .before .before .before .before .before .before .before .before .before .before .before .before .pre .0)
+    omega (arith, fits, c .before .before .before .before .before .before .before .before .before .before .before .before .before .before .before .before .before .rewrite .kept .1 .1 .1 .0, c .before .before .before .before .before .before .before .before .before .before .before .before .before .before .before .before .before .before .before .before .before .before .before .before .before .before .fill .kept .0, c .before .before .before .before .before .before .before .before .before .before .before .before .before .before .before .before .before .before .before .before .before .before .before .before .before .before .before .before .before .before .before .before .pre .0)
 
 keep-output-requires : tie.Need-keep-output-requires
 keep-output-requires c κs =
@@ -56,8 +56,8 @@ pub keep-rewritten-spec : {M : Type 1} → statement M
 keep-rewritten-spec =
     tie.close
     (tie.spec
-    fill-bytes-requires
-    fill-words-requires
+    fill-requires
+    fill-requires-2
     rewrite-requires
     room-for-requires
     put-rewritten-requires

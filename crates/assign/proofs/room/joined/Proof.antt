@@ -1,4 +1,4 @@
--- `ortc::room::joined` meets its contract. Assumes nothing.
+-- `assign::room::joined` meets its contract. Assumes nothing.
 use mathlib.Core.Path.{refl}
 use borrow.Author.Needs.{needs}
 use Rattle.assign.proofs.room.joined.Statement.{statement}

@@ -1,4 +1,4 @@
--- `ortc::room::push_sets` meets its contract. The loop's invariant: the words of the positions under p and after are laid, and the writer's mask
+-- `assign::room::push_sets` meets its contract. The loop's invariant: the words of the positions under p and after are laid, and the writer's mask
 -- is theirs. Assumes nothing.
 use Prim.Native.Nat.{_+_, _*_, _-_, _≤_}
 use mathlib.Core.Path.{refl}

@@ -11,8 +11,8 @@ use borrow.Fn.PlainCycle.{Measures, is, falls, and}
 use Rattle.words.specs.Bits.{bit}
 use Rattle.positions.specs.Runs.{hopOf}
 use Rattle.nodes.specs.Node.{run}
-use Rattle.gather.proofs.GatherLaws.{absent, slot-occupied, ends-in, covering-le, child-node}
 use Rattle.nodes.proofs.RoomLaws.{pushed-length}
+use Rattle.gather.proofs.GatherLaws.{absent, slot-occupied, ends-in, covering-le, child-node}
 use Rattle.assign.specs.Answers.{answerIn}
 use Rattle.ortc.proofs.CollectLaws.{Collecting, collecting-start, collecting-within, collecting-seek, collecting-room, collecting-child, collecting-end}
 use Rattle.ortc.proofs.walks.collect_sets.Reads as collect-sets

@@ -1,4 +1,4 @@
--- `ortc::room::NodeReader::pop` meets its contract. Assumes nothing.
+-- `assign::room::NodeReader::pop` meets its contract. Assumes nothing.
 use mathlib.Core.Path.{refl}
 use borrow.Author.Needs.{needs}
 use Rattle.assign.proofs.room.NodeReader.pop.Statement.{statement}

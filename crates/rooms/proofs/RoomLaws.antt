@@ -9,7 +9,7 @@ use borrow.Author.Tests.{eq-eqb, ne-eqb}
 use lib.Dec.{eqb}
 use lib.ListN.{length, getD, drop, replicate, drop-of-length-le}
 use lib.Seq.{drop-cons}
-use Rattle.replaying.specs.Rooms.{allAre}
+use Rattle.rooms.specs.Rooms.{allAre}
 
 module _ (v : ℕ) (l : List ℕ) (i : ℕ) where
   all-split : i < length l → allAre v (drop i l) ≡ (eqb (getD l i 0) v && allAre v (drop (i + 1) l))

@@ -1,2 +1,0 @@
--- The laws of the rooms.
-pub mod RoomLaws

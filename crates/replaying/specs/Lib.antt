@@ -1,2 +1,0 @@
--- What is asked of the rooms.
-pub mod Rooms

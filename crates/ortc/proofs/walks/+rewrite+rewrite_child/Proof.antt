@@ -301,7 +301,7 @@ child-returns-2 t c =
     let e =
     leaf-rewrite (p .table .now) (p .lo) (p .hi) (p .depth) (p .key) (p .covering) (p .fill) (v .result) (p .above) none (c .before .before .before .before .before .before .before .before .before .pre .1 .1 .0 .0)
     (v .ensures .1 (low .0) (low .1 .0)) (low .1 .1) (v .ensures .0) in
-    (λ le. refl, (λ has. absurd (omega arith), rw e (c .before .before .emit .ensures .1)))
+    (λ le. refl, (λ has. absurd (omega arith), rw e (c .before .before .emit .ensures)))
 
 pub +rewrite+rewrite-child-spec : {M : Type 1} → statement M
 +rewrite+rewrite-child-spec =

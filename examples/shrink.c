@@ -1,6 +1,6 @@
 /*
  * Shrinks a table of routes by the C library: shrink MODE TABLE, with a mode 1 to 5 and a file of records (docs/WIRE.md). Prints what
- * tools/shrink prints: a line a record, then the change; or the refusal. Fill (mode 5) has the default 0. The status is 0 for a result,
+ * the program of a mode prints: a line a record, then the change; or the refusal. Fill (mode 5) has the default 0. The status is 0 for a result,
  * 1 for a refused table, 2 where there is nothing to shrink. docs/C.md says how to build it.
  */
 #include <stdio.h>

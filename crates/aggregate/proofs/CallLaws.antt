@@ -1,4 +1,4 @@
--- Laws of the calls: judging by a table's rules and then by more, the rooms' tests, the fill of each mode, the most records of a result, and the
+-- Laws of the calls: the replies that refuse, the rooms' tests, the fill of each mode, the most records of a result, and the
 -- cover query at wide addresses.
 -- Assumes nothing.
 use Prim.Native.Nat.{ℕ, zero, suc, _+_, _-_, _*_, _/_, _^_, _≤_, _<_}
@@ -20,83 +20,50 @@ use Rattle.theory.specs.Routes.{held, All, Aligned, Valid, Table}
 use Rattle.theory.proofs.Chosen.{smallest-chooses}
 use Rattle.theory.proofs.Lengths.{mostOf, result-length}
 use Rattle.theory.proofs.Maximal.{throughout-agree}
-use Rattle.table.specs.Calls.{checkReply}
-use Rattle.table.specs.Facts.{Lawful}
-use Rattle.table.specs.Nodes.{nodes}
-use Rattle.table.specs.Rules.{Rule, rule, gives, refuses, judge}
-use Rattle.table.specs.Wire.{records, routes, tableRules, Bytes, bytesOf}
-use Rattle.table.proofs.Judging.{gives-any}
-use Rattle.table.proofs.Reading.{length-routes}
-use Rattle.table.proofs.Tables.{accepted-table, set-hops}
+use Rattle.table.specs.Checking.{checkReply}
+use Rattle.table.specs.Conditions.{Lawful}
+use Rattle.nodecount.specs.Nodes.{nodes}
+use Rattle.refusals.specs.Rules.{Rule, rule, gives, refuses, judge}
+use Rattle.records.specs.Wire.{records, routes, Bytes, bytesOf}
+use Rattle.table.specs.TableRules.{tableRules}
+use Rattle.refusals.proofs.Judged.{gives-any, kept-next, broken-here, all-next, some-here}
+use Rattle.records.proofs.Reading.{length-routes}
+use Rattle.table.proofs.Tables.{accepted-table, hops-below, set-hops}
 use Rattle.positions.specs.Wide.{widened}
 use Rattle.positions.proofs.Wide.{aligned-widen, held-widen, throughout-widen, all-widen}
-use Rattle.nodes.specs.Node.{wide, spare}
-use Rattle.nodes.proofs.GatherLaws.{root-run, root-node}
+use Rattle.nodes.specs.Node.{wide, spare, Node}
+use Rattle.gather.proofs.GatherLaws.{root-run, root-node}
 use Rattle.calls.specs.Covering.{coverRules, coveredBy, coverReply}
-use Rattle.calls.specs.Rewriting.{modeOf, resultOf, takesSet, rewriteRules, rewriteReply, writtenOf, outputOf, RewritesIn}
+use Rattle.calls.specs.Rewriting.{modeOf, resultOf, takesSet, rewriteRules, replyBy, rewriteReply, writtenOf, outputOf, RewritesIn}
 use Rattle.calls.specs.declared.Rewritten.{Rewritten}
 use Rattle.calls.specs.declared.Rewritten.the-variants.{Records, Refused}
 use Rattle.aggregate.specs.Walks.{whole, Ready, lastReply, Finished}
-
--- ---- Judging by some rules and then by more.
-
-module _ {A : Type 0} (a : A) where
-  -- A rule that is kept is passed.
-  pub kept-next : {b : Bool} (n i : ℕ) (rs : List Rule) → b ≡ true → judge (rule n i b ∷ rs) a ≡ judge rs a
-  unfolding judge
-  kept-next n i rs e = rw e
-
-  -- One that is not refuses.
-  pub broken-here : {b : Bool} (n i : ℕ) (rs : List Rule) → b ≡ false → judge (rule n i b ∷ rs) a ≡ refuses n i
-  unfolding judge
-  broken-here n i rs e = rw e
-
-  module _ {B : Type 0} (b : B) where
-    -- Rules that are all kept are passed.
-    pub all-next : {c : B} (rs more : List Rule) → judge rs b ≡ gives c → judge (rs ++ more) a ≡ judge more a
-    unfolding judge
-    all-next [] more e = refl
-    all-next {c} (r ∷ rs) more e = go (r .kept) refl (all-next {c = c} rs more)
-      where
-        go : (k : Bool) → r .kept ≡ k → (judge rs b ≡ gives c → judge (rs ++ more) a ≡ judge more a) → judge (r ∷ (rs ++ more)) a ≡ judge more a
-        go true p on = rw p (on (rw p at e))
-        go false p on = let z : _≡_ {A = ℕ} 0 1 = cc (rw p at e) in absurd (omega arith)
-
-    -- Rules that refuse do so whatever follows.
-    pub some-here : (n i : ℕ) (rs more : List Rule) → judge rs b ≡ refuses n i → judge (rs ++ more) a ≡ refuses n i
-    unfolding judge
-    some-here n i [] more e = let z : _≡_ {A = ℕ} 0 1 = cc in absurd (omega arith)
-    some-here n i (r ∷ rs) more e = go (r .kept) refl (some-here n i rs more)
-      where
-        go : (k : Bool) → r .kept ≡ k → (judge rs b ≡ refuses n i → judge (rs ++ more) a ≡ refuses n i) → judge (r ∷ (rs ++ more)) a ≡ refuses n i
-        go true p on = rw p (on (rw p at e))
-        go false p on = let f = rw p at e in rw p (cc)
 
 -- ---- The rewrite.
 
 module _ (t : List ℕ) (mode default room words : ℕ) where
   -- Number 1.
   pub not-a-mode : (leb 1 mode && leb mode 5) ≡ false → rewriteReply t mode default room words ≡ refuses 1 0
-  unfolding rewriteReply rewriteRules
+  unfolding replyBy rewriteRules
   not-a-mode e = broken-here _ 1 0 _ e
 
   module _ (is : (leb 1 mode && leb mode 5) ≡ true) where
     -- Number 2.
     pub not-a-hop : (not (eqb mode 5) || leb default 63) ≡ false → rewriteReply t mode default room words ≡ refuses 2 0
-    unfolding rewriteReply rewriteRules
+    unfolding replyBy rewriteRules
     not-a-hop e = kept-next _ 1 0 _ is ∙ broken-here _ 2 0 _ e
 
     module _ (ok : (not (eqb mode 5) || leb default 63) ≡ true) where
       -- Numbers 3 to 8.
       pub not-a-table : {n i : ℕ} → checkReply (takesSet mode) t ≡ refuses n i → rewriteReply t mode default room words ≡ refuses n i
-      unfolding rewriteReply rewriteRules
+      unfolding replyBy rewriteRules
       not-a-table {n} {i} e = kept-next _ 1 0 _ is ∙ kept-next _ 2 0 _ ok ∙ some-here _ (records t) n i (tableRules (takesSet mode) t) _ e
 
       module _ {k : ℕ} (valid : checkReply (takesSet mode) t ≡ gives k) where
         -- Past the table's rules the rooms decide.
         past-table : rewriteReply t mode default room words
             ≡ judge (rule 10 0 (leb (160 * nodes 32 (routes t)) words) ∷ rule 11 0 (leb (8 * length (resultOf t mode default)) room) ∷ []) (resultOf t mode default)
-        unfolding rewriteReply rewriteRules
+        unfolding replyBy rewriteRules
         past-table = kept-next _ 1 0 _ is ∙ kept-next _ 2 0 _ ok ∙ all-next _ (records t) (tableRules (takesSet mode) t) _ valid
 
         -- Number 10.
@@ -176,11 +143,20 @@ module _ (s : Bool) (t : List ℕ) (k : ℕ) (valid : checkReply s t ≡ gives k
   pub checked-lawful : Bytes t → Lawful s (routes t)
   checked-lawful bytes = accepted-table (records t) k s t bytes valid .0
 
+  -- They are at most 1,024.
+  pub checked-few : Bytes t → k ≤ 1024
+  checked-few bytes = omega (arith, checked-count, checked-lawful bytes .few, length-routes t)
+
+  -- Its records are those of the root.
+  pub checked-node : Bytes t → Node t 0 (records t) 0 0
+  checked-node bytes = root-node t (checked-lawful bytes .table) (hops-below s (checked-lawful bytes .hops))
+
 -- The walks can begin.
 pub ready : (mode : ℕ) (t : List ℕ) → Lawful (takesSet mode) (routes t) → Ready t mode
 ready mode t lawful =
     record {
-      node = root-node (takesSet mode) t lawful;
+      few = omega (arith, lawful .few, length-routes t);
+      node = root-node t (lawful .table) (hops-below (takesSet mode) (lawful .hops));
       bare = λ e. rw (root-run t) (all-widen spare (λ r h. h) (set-hops (rw e at (lawful .hops))));
     }
 

@@ -1,6 +1,6 @@
 -- What the walks of the five modes make of a whole table: at wide addresses each is the mode's result, and narrowed it is the result itself.
 -- Assumes nothing.
-use Prim.Native.Nat.{ℕ, _*_, _≤_, _<_}
+use Prim.Native.Nat.{ℕ, _+_, _*_, _≤_, _<_}
 use mathlib.Core.Path.{_≡_, refl, sym, ap, _∙_}
 use mathlib.Core.Bool.{Bool, true, false}
 use mathlib.Core.List.{List, _++_}
@@ -14,8 +14,10 @@ use Rattle.theory.specs.Results.{ortc, result, smallest}
 use Rattle.theory.specs.Routes.{Route, held, Answer, none, via, answer, orDefault, filled, Valid, All, Table}
 use Rattle.theory.proofs.Agree.{ortc-agree}
 use Rattle.theory.proofs.Chosen.{smallest-chooses}
-use Rattle.table.specs.Wire.{routes, bytesOf}
-use Rattle.positions.specs.Runs.{hopOf, orElse}
+use Rattle.theory.proofs.Lengths.{most-of, result-length}
+use Rattle.records.specs.Wire.{records, routes, bytesOf}
+use Rattle.records.proofs.Reading.{length-routes}
+use Rattle.positions.specs.Runs.{noHop, hopOf, orElse}
 use Rattle.positions.specs.Walk.{walk}
 use Rattle.positions.specs.Walks.{maximalOut, maximalNext, consistentSetOut, consistentSetNext, consistentMapOut, consistentMapNext}
 use Rattle.positions.specs.Wide.{narrowed}
@@ -24,10 +26,10 @@ use Rattle.positions.proofs.Wide.{result-narrow, length-narrow}
 use Rattle.nodes.specs.Node.{wide, spare}
 use Rattle.nodes.specs.Output.{wireOf, Wrote}
 use Rattle.nodes.specs.Room.{LaidBy, StoredBy}
-use Rattle.nodes.proofs.GatherLaws.{root-run}
+use Rattle.gather.proofs.GatherLaws.{root-run}
 use Rattle.nodes.proofs.OutputLaws.{wrote-whole, wrote-count}
 use Rattle.nodes.proofs.RoomLaws.{pushed-begins}
-use Rattle.ortc.specs.Answers.{answerIn}
+use Rattle.assign.specs.Answers.{answerIn}
 use Rattle.calls.specs.Rewriting.{modeOf, resultOf}
 use Rattle.aggregate.specs.Walks.{whole, Fills, wideResult}
 
@@ -60,6 +62,19 @@ module _ (t : List ℕ) (mode fill : ℕ) (valid : All (Valid 32) (routes t)) wh
         let e : k * 8 ≡ 8 * k = omega arith in
         wrote-whole wrote (omega arith) .0 ∙ rw (wide-bytes, e)
 
+-- It counts at most one record more than the table has.
+pub written-most : (t : List ℕ) (mode fill : ℕ) → Table 32 (routes t) → {k : ℕ} {o o′ : List ℕ} → Wrote (wideResult t mode fill) 0 k o o′
+    → k ≤ records t + 1
+unfolding resultOf
+written-most t mode fill table wrote =
+    omega (
+      arith,
+      written-count t mode fill (table .valid) wrote,
+      result-length smallest smallest-chooses 32 (modeOf mode fill) table,
+      most-of (modeOf mode fill) (length (routes t)),
+      length-routes t,
+    )
+
 -- ---- The walks from the root.
 
 -- An answer or else none is the answer, and an answer or else a hop is the answer with that default.
@@ -71,11 +86,11 @@ else-via : (d : ℕ) (a : Answer) → orElse a (via d) ≡ orDefault d a
 else-via d none = refl
 else-via d (via h) = refl
 
--- The filling hop is a hop or 64.
-pub fill-le : {mode fill : ℕ} → Fills mode fill → fill ≤ 64
+-- The filling hop is a hop or none.
+pub fill-le : {mode fill : ℕ} → Fills mode fill → fill ≤ noHop
 fill-le {mode} {fill} fills = go (eqb mode 5) refl
   where
-    go : (b : Bool) → eqb mode 5 ≡ b → fill ≤ 64
+    go : (b : Bool) → eqb mode 5 ≡ b → fill ≤ noHop
     go true e = omega (arith, fills .hop (eqb-true mode 5 e))
     go false e = omega (arith, fills .none (eqb-false mode 5 e))
 
@@ -105,7 +120,7 @@ module _ (t : List ℕ) {mode : ℕ} (fill : ℕ) where
     where
       go : (mode ≡ 5) ⊎ (mode < 5) → wideResult t mode fill ≡ ortc smallest wide (answerIn (whole t) none (hopOf fill)) wide 0 none
       go (inl e) =
-          rw (e, lt-ltb fill 64 (fills .hop e))
+          rw (e, lt-ltb fill noHop (fills .hop e))
           (ortc-agree (filled fill (answer wide (whole t))) (answerIn (whole t) none (via fill)) smallest wide wide 0 none
           (λ x i. sym (else-via fill (answer wide (whole t) x))))
       go (inr lt) =

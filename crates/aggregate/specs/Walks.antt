@@ -7,13 +7,13 @@ use lib.Dec.{leb}
 use lib.ListN.{length}
 use Rattle.theory.specs.Routes.{Route, All, none}
 use Rattle.theory.specs.Results.{result, smallest}
-use Rattle.table.specs.Rules.{rule, Reply, judge}
-use Rattle.table.specs.Wire.{records}
-use Rattle.positions.specs.Runs.{hopOf}
+use Rattle.refusals.specs.Rules.{rule, Reply, judge}
+use Rattle.records.specs.Wire.{records}
+use Rattle.positions.specs.Runs.{noHop, hopOf}
 use Rattle.nodes.specs.Node.{wide, run, Node}
 use Rattle.nodes.specs.Room.{Stored, StoredBy}
-use Rattle.cover.specs.Coverage.{coverageWord, uncovered}
-use Rattle.ortc.specs.Answers.{answerIn, setWords}
+use Rattle.maximal.specs.Maximal.{coverageWord, uncovered}
+use Rattle.assign.specs.Answers.{answerIn, setWords}
 use Rattle.calls.specs.Rewriting.{modeOf, takesSet, resultOf, writtenOf, outputOf, rewrittenSays}
 use Rattle.calls.specs.declared.Rewritten.{Rewritten}
 
@@ -21,15 +21,16 @@ use Rattle.calls.specs.declared.Rewritten.{Rewritten}
 abbrev pub whole : List ℕ → List Route
 whole t = run t 0 (records t)
 
--- The table keeps the rules of the mode's tables: its records are those of the root, and a set's hops are 0.
+-- The table keeps the rules of the mode's tables: it has at most 1,024 records, they are those of the root, and a set's hops are 0.
 pub record Ready (t : List ℕ) (mode : ℕ) : Type 0 where
+  pub few : records t ≤ 1024
   pub node : Node t 0 (records t) 0 0
   pub bare : takesSet mode ≡ true → All (λ r. r .hop ≡ 0) (whole t)
 
 -- The hop that fills what has no route: a hop in mode 5, none in the others.
 pub record Fills (mode fill : ℕ) : Type 0 where
-  pub hop : mode ≡ 5 → fill < 64
-  pub none : (mode ≡ 5 → ⊥) → fill ≡ 64
+  pub hop : mode ≡ 5 → fill < noHop
+  pub none : (mode ≡ 5 → ⊥) → fill ≡ noHop
 
 -- From `top` on the room holds what the mode's writing walk reads: the coverage of the nodes below no member in mode 1, the nodes' sets in modes 4
 -- and 5.

@@ -6,9 +6,10 @@ mod walks;
 use calls::Covers;
 use calls::Rewritten;
 use cover::query::covers_in_aggregate;
-use table::answers::Checked;
+use hops::NO_HOP;
+use nodecount::count_nodes;
+use table::Checked;
 use table::check_table;
-use table::count::count_nodes;
 use walks::prepare;
 use walks::write;
 ghost use mathlib.Core.Path.{_≡_};
@@ -18,7 +19,8 @@ ghost use lib.Dec.{eqb, leb};
 ghost use lib.ListN.{length, replicate};
 ghost use Rattle.theory.specs.Results.{startOf};
 ghost use Rattle.theory.specs.Routes.{Table};
-ghost use Rattle.table.specs.Wire.{records, routes};
+ghost use Rattle.records.specs.Wire.{records, routes};
+ghost use Rattle.positions.specs.Runs.{noHop};
 ghost use Rattle.nodes.specs.Node.{spare};
 ghost use Rattle.nodes.specs.Room.{nodesBelow};
 ghost use Rattle.calls.specs.Rewriting.{RewritesIn, Rewrites};
@@ -29,11 +31,7 @@ ghost use Rattle.aggregate.specs.Walks.{whole, Ready, Fills, Finished};
 fn clear(work: &mut [u32])
     ensures { λ _. ⌜ now (work .exit) ≡ replicate (length (now (work .entry))) 0 ⌝ }
 {
-    let mut i: usize = 0;
-    while i < work.len() {
-        work[i] = 0;
-        i += 1;
-    }
+    rooms::words::fill(work, 0);
 }
 
 // Is the mode none of the five?
@@ -53,11 +51,15 @@ fn no_hop(mode: u32, default: u32) -> bool
     if mode == 5 { 63 < default } else { false }
 }
 
-// The hop of what has no route: the default in mode 5, and none, 64, in the others.
+// The hop of what has no route: the default in mode 5, and none in the others.
 fn fill_of(mode: u32, default: u32) -> u8
-    ensures { λ r. ⌜ (mode ≡ 5 → default ≤ 63 → r ≡ default) × ((mode ≡ 5 → ⊥) → r ≡ 64) ⌝ }
+    ensures { λ r. ⌜ (mode ≡ 5 → default ≤ 63 → r ≡ default) × ((mode ≡ 5 → ⊥) → r ≡ noHop) ⌝ }
 {
-    if mode == 5 { (default % 256) as u8 } else { 64 }
+    if mode == 5 {
+        (default % 256) as u8
+    } else {
+        NO_HOP
+    }
 }
 
 // The most records that the mode makes of so many.
@@ -185,7 +187,7 @@ fn covers_in(table: &[u8], address: u32, len: u32, room: usize) -> Covers
                 };
             }
             let n = len as usize;
-            if covers_in_aggregate(table, 0, records, 0, 0, masked(address, n), n) {
+            if covers_in_aggregate(table, 0, records as u16, 0, 0, masked(address, n), n) {
                 Covers::Covered
             } else {
                 Covers::Uncovered

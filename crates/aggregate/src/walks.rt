@@ -2,12 +2,12 @@
 
 use consistent::maps::aggregate_consistent_map;
 use consistent::sets::aggregate_consistent_set;
-use cover::maximal::aggregate_set;
-use cover::maximal::collect_coverage;
+use hops::NO_HOP;
+use maximal::aggregate_set;
+use maximal::collect_coverage;
 use ortc::walks::collect_sets;
-ghost use Prim.Native.Nat.{_+_, _*_, _^_, _≤_};
+ghost use Prim.Native.Nat.{_*_, _≤_};
 ghost use lib.ListN.{length};
-ghost use Rattle.nodes.specs.Node.{wide};
 ghost use Rattle.nodes.specs.Output.{Wrote};
 ghost use Rattle.nodes.specs.Room.{nodesBelow};
 ghost use Rattle.aggregate.specs.Walks.{whole, Ready, Fills, Prepared, wideResult};
@@ -19,14 +19,14 @@ pub fn prepare(table: &[u8], mode: u32, fill: u8, work: &mut [u32]) -> usize
     requires { ⌜ 160 * nodesBelow 7 0 (whole (now table)) ≤ length (now work) ⌝ }
     ensures { λ r. ⌜ Prepared (now (table .entry)) mode fill r (now (work .exit)) ⌝ }
 {
-    let records = table.len() / 8;
+    let records = (table.len() / 8) as u16;
     let size = work.len();
     if mode == 1 {
         let root = collect_coverage(table, 0, records, 0, 0, work, size);
         return root.top;
     }
     if 4 <= mode {
-        let root = collect_sets(table, 0, records, 0, 0, 64, fill, work, size);
+        let root = collect_sets(table, 0, records, 0, 0, NO_HOP, fill, work, size);
         return root.top;
     }
     size
@@ -38,10 +38,9 @@ pub fn write(table: &[u8], mode: u32, fill: u8, work: &[u32], top: usize, out: &
     requires { ⌜ Ready (now table) mode ⌝ }
     requires { ⌜ Fills mode fill ⌝ }
     requires { ⌜ Prepared (now table) mode fill top (now work) ⌝ }
-    ensures { λ r. ⌜ r + 6 ≤ 8 * 2 ^ wide ⌝ }
     ensures { λ r. ⌜ Wrote (wideResult (now (table .entry)) mode fill) 0 r (now (out .entry)) (now (out .exit)) ⌝ }
 {
-    let records = table.len() / 8;
+    let records = (table.len() / 8) as u16;
     if mode == 1 {
         let root = aggregate_set(table, 0, records, 0, 0, false, work, top, out);
         return root.count;
@@ -50,8 +49,20 @@ pub fn write(table: &[u8], mode: u32, fill: u8, work: &[u32], top: usize, out: &
         return aggregate_consistent_set(table, 0, records, 0, 0, out);
     }
     if mode == 3 {
-        return aggregate_consistent_map(table, 0, records, 0, 0, 64, out);
+        return aggregate_consistent_map(table, 0, records, 0, 0, NO_HOP, out);
     }
-    let root = ortc::walks::rewrite(table, 0, records, 0, 0, 64, fill, 64, work, top, out);
+    let root = ortc::walks::rewrite(
+        table,
+        0,
+        records,
+        0,
+        0,
+        NO_HOP,
+        fill,
+        NO_HOP,
+        work,
+        top,
+        out,
+    );
     root.count
 }

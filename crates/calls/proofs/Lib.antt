@@ -1,10 +1,11 @@
--- The laws of the calls. Settled: no second answer satisfies a statement. Refusals, Results, Demand3: the three demands. Marked: document 01's marked
--- cases. Wrong: its wrong rewrites. Judged and Tested say how the rules stand for the conditions.
+-- The laws of the calls. Settled: no second answer satisfies a statement. Refusals, Results, Demand3: the three demands, of the engine over nodes. Engines:
+-- demands 2 and 3 of any engine. Marked: document 01's marked cases. Wrong: its wrong rewrites. Enough: rooms that are always enough. Tested says how the rules stand for the conditions.
 pub mod Settled
-pub mod Judged
 pub mod Tested
 pub mod Refusals
+pub mod Engines
 pub mod Results
+pub mod Enough
 pub mod Demand3
 pub mod Marked
 pub mod Wrong

@@ -13,16 +13,19 @@ use Rattle.theory.proofs.Chosen.{smallest-chooses}
 use Rattle.theory.proofs.Quick.{ortcOf, setsOf}
 use Rattle.theory.proofs.Computed.{set-computed, drop-computed}
 use Rattle.theory.proofs.Cases.{route, Case, cases, Answered, worked}
-use Rattle.table.specs.Rules.{gives, judge}
-use Rattle.table.specs.Wire.{routeAt, routesFrom, routes, bytesOf, recordRules, rulesFrom, tableRules}
-use Rattle.table.specs.Nodes.{nodes, brought, fresh}
+use Rattle.refusals.specs.Rules.{gives, judge}
+use Rattle.records.specs.Wire.{routeAt, routesFrom, routes, bytesOf}
+use Rattle.table.specs.TableRules.{recordRules, rulesFrom, tableRules}
+use Rattle.nodecount.specs.Nodes.{nodes, brought, fresh}
 use Rattle.table.proofs.Accepted.{accepted}
-use Rattle.table.proofs.Written.{records-bytes}
+use Rattle.records.proofs.Written.{records-bytes}
 use Rattle.calls.specs.declared.Rewritten.{Rewritten}
 use Rattle.calls.specs.declared.Rewritten.the-variants.{Records}
-use Rattle.calls.specs.Conditions.{RewriteCondition, None}
+use Rattle.calls.specs.Conditions.{RewriteCondition}
+use Rattle.refusals.specs.Order.{None}
 use Rattle.calls.specs.Rewriting.{modeOf, resultOf, takesSet, Rewrites}
-use Rattle.calls.proofs.Refusals.{accepted-exactly, answerable-exactly, empty-table, empty-nodes}
+use Rattle.table.proofs.Accepted.{accepted-exactly}
+use Rattle.calls.proofs.Refusals.{answerable-exactly, empty-table, empty-nodes}
 use Rattle.calls.proofs.Results.{rewrite-result}
 
 -- A mode's number, and its default (0 where it is not read).
@@ -124,14 +127,15 @@ case-answered c change k e o words r o′ w′ long wide ok =
 
     none : None (RewriteCondition t mode default (length o) words)
     none =
-        answerable-exactly t mode default (length o) words .1
-        (record {
-          known-mode = number-known (c .mode);
-          small-default = λ q. leb→le (defaultOf (c .mode)) 63 (k .0);
-          accepted = accepted (takesSet mode) t 0 (k .1);
-          enough-work = rw (k .2) (omega (arith, leb→le (160 * nodes 32 (c .table)) 16384 (k .3)));
-          enough-output = omega (arith, leb→le (8 * length (c .expected)) 8200 (k .4), size);
-        })
+        answerable-exactly t mode default (length o) words .1 (
+          record {
+            known-mode = number-known (c .mode);
+            small-default = λ q. leb→le (defaultOf (c .mode)) 63 (k .0);
+            accepted = accepted (takesSet mode) t 0 (k .1);
+            enough-output = omega (arith, leb→le (8 * length (c .expected)) 8200 (k .4), size);
+          },
+          rw (k .2) (omega (arith, leb→le (160 * nodes 32 (c .table)) 16384 (k .3))),
+        )
 
 ready : Each Ready cases changes
 unfolding cases changes route judge tableRules rulesFrom recordRules routeAt routesFrom routes bytesOf nodes brought fresh
@@ -169,11 +173,12 @@ empty-answered mode default o words r o′ w′ low high enough ok =
   where
     none : None (RewriteCondition [] mode default (length o) words)
     none =
-        answerable-exactly [] mode default (length o) words .1
-        (record {
-          known-mode = (low, omega arith);
-          small-default = λ e. absurd (omega arith);
-          accepted = accepted-exactly (takesSet mode) [] .1 (empty-table (takesSet mode));
-          enough-work = rw empty-nodes enough;
-          enough-output = rw (empty-result mode default low high) (omega arith);
-        })
+        answerable-exactly [] mode default (length o) words .1 (
+          record {
+            known-mode = (low, omega arith);
+            small-default = λ e. absurd (omega arith);
+            accepted = accepted-exactly (takesSet mode) [] .1 (empty-table (takesSet mode));
+            enough-output = rw (empty-result mode default low high) (omega arith);
+          },
+          rw empty-nodes enough,
+        )

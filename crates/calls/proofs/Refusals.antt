@@ -1,7 +1,7 @@
 -- Demand 1: bad input is refused with the first number of document 01's order whose condition holds, exactly then, and a refusal changes nothing.
 -- Assumes nothing.
 use mathlib.Core.Path.{_≡_, refl, sym, ap, _∙_}
-use mathlib.Core.Bool.{Bool}
+use mathlib.Core.Bool.{Bool, true}
 use mathlib.Core.List.{List, []}
 use mathlib.Core.Logic.{inl, _↔_}
 use Prim.Native.Nat.{ℕ, zero, _*_, _≤_, _<_}
@@ -10,37 +10,24 @@ use native.Mathlib.Omega.{arith}
 use lib.IntN.{ℤ, pos}
 use lib.ListN.{length, replicate}
 use Rattle.theory.specs.Routes.{Route}
-use Rattle.table.specs.Rules.{Rule, Reply, gives, refuses}
-use Rattle.table.specs.Wire.{records, routes, routesFrom, tableRules}
-use Rattle.table.specs.Nodes.{nodes, brought}
-use Rattle.table.specs.Facts.{Accepted, Refused as BadTable}
-use Rattle.table.proofs.Accepted.{not-refused, accepted, refused-exactly}
+use Rattle.refusals.specs.Rules.{Reply, gives, refuses}
+use Rattle.refusals.specs.Order.{rank, Earlier, First, None}
+use Rattle.refusals.proofs.Judged.{earlier-not, gives-exactly, refuses-exactly}
+use Rattle.refusals.proofs.Answered.{refused-exactly}
+use Rattle.records.specs.Wire.{records, routes, routesFrom}
+use Rattle.table.specs.Conditions.{TableCondition, not-whole, too-many, of-record}
+use Rattle.table.proofs.Accepted.{accepted-exactly}
+use Rattle.table.proofs.Tested.{table-numbers}
+use Rattle.nodecount.specs.Nodes.{nodes, brought}
 use Rattle.calls.specs.declared.Rewritten.{Rewritten}
 use Rattle.calls.specs.declared.Rewritten.the-variants.{Records, Refused}
 use Rattle.calls.specs.declared.Covers.{Covers}
 use Rattle.calls.specs.declared.Covers.the-variants.{Refused as NotAnswered}
-use Rattle.calls.specs.Conditions.{TableCondition, not-whole, too-many, of-record, RewriteCondition, no-mode, large-default, of-table, short-work, short-output, CoverCondition, Answerable, Earlier, First, None}
+use Rattle.calls.specs.Conditions.{RewriteCondition, no-mode, large-default, of-table, short-work, short-output, CoverCondition, of-set, long-query, short-room, Answerable, Guarded}
 use Rattle.calls.specs.Covering.{coverRules, coveredBy, coversSays, Queried}
-use Rattle.calls.specs.Rewriting.{resultOf, takesSet, rewriteRules, Written, rewriteReply, writtenOf, outputOf, rewrittenSays, countOf, changeOf, Rewrites}
-use Rattle.calls.proofs.Judged.{earlier-not, gives-exactly, refuses-exactly}
+use Rattle.calls.specs.Rewriting.{resultOf, takesSet, rewriteRules, Written, replyBy, rewriteReply, writtenOf, outputOf, rewrittenSays, countOf, changeOf, Rewrites}
 use Rattle.calls.proofs.Settled.{rewritten-same, covers-same}
-use Rattle.calls.proofs.Tested.{table-tests, table-in-order, rewrite-in-order, rewrite-tests, cover-in-order, cover-tests}
-
--- ---- A table's conditions are what the table crate's facts say.
-module _ (s : Bool) (t : List ℕ) where
-  -- A table is accepted exactly when none of them holds.
-  pub accepted-exactly : Accepted s t ↔ None (TableCondition s t)
-  accepted-exactly = (
-    λ k. gives-exactly (tableRules s t) (table-tests s t) (records t) .0 (not-refused s t (records t) k) .0,
-    λ none. accepted s t (records t) (gives-exactly (tableRules s t) (table-tests s t) (records t) .1 (none, refl)),
-  )
-
-  -- It is refused exactly by the first that holds.
-  pub refused-first : (n i : ℕ) → BadTable s t n i ↔ First (TableCondition s t) n i
-  refused-first n i =
-      let exactly = refuses-exactly (tableRules s t) (table-tests s t) (records t) (table-in-order s t) n i in
-      let fact = refused-exactly s t (records t) in
-      (λ f. exactly .0 (fact .1 f), λ f. fact .0 (exactly .1 f))
+use Rattle.calls.proofs.Tested.{rewrite-ranked, rewrite-tests, cover-ranked, cover-tests}
 
 -- What can be decided holds if its contrary is impossible.
 holds : {P : Type 0} → Dec P → ((P → ⊥) → ⊥) → P
@@ -49,26 +36,34 @@ holds (no p) n = absurd (n p)
 
 -- ---- What it is to have none of a rewrite's conditions.
 module _ (t : List ℕ) (mode default room words : ℕ) where
-  none→answerable : None (RewriteCondition t mode default room words) → Answerable t mode default room words
-  none→answerable none =
-      record {
-        known-mode = (holds (decLe 1 mode) (λ f. none 1 0 (no-mode (λ h. f (h .0)))), holds (decLe mode 5) (λ f. none 1 0 (no-mode (λ h. f (h .1)))));
-        small-default = λ e. holds (decLe default 63) (λ f. none 2 0 (large-default e (omega arith)));
-        accepted = accepted-exactly (takesSet mode) t .1 (λ n i c. none n i (of-table c));
-        enough-work = holds (decLe (160 * nodes 32 (routes t)) words) (λ f. none 10 0 (short-work (omega arith)));
-        enough-output = holds (decLe (8 * length (resultOf t mode default)) room) (λ f. none 11 0 (short-output (omega arith)));
-      }
+  none→answerable : None (RewriteCondition t mode default room words) → Answerable t mode default room × (160 * nodes 32 (routes t) ≤ words)
+  none→answerable none = (
+    record {
+      known-mode = (holds (decLe 1 mode) (λ f. none 1 0 (no-mode (λ h. f (h .0)))), holds (decLe mode 5) (λ f. none 1 0 (no-mode (λ h. f (h .1)))));
+      small-default = λ e. holds (decLe default 63) (λ f. none 2 0 (large-default e (omega arith)));
+      accepted = accepted-exactly (takesSet mode) t .1 (λ n i c. none n i (of-table c));
+      enough-output = holds (decLe (8 * length (resultOf t mode default)) room) (λ f. none 11 0 (short-output (omega arith)));
+    },
+    holds (decLe (160 * nodes 32 (routes t)) words) (λ f. none 10 0 (short-work (omega arith))),
+  )
 
-  answerable→none : Answerable t mode default room words → None (RewriteCondition t mode default room words)
-  answerable→none a n i (no-mode f) = f (a .known-mode)
-  answerable→none a n i (large-default e h) = let d = a .small-default e in omega arith
-  answerable→none a n i (of-table c) = accepted-exactly (takesSet mode) t .0 (a .accepted) n i c
-  answerable→none a n i (short-work h) = omega (arith, a .enough-work)
-  answerable→none a n i (short-output h) = omega (arith, a .enough-output)
+  answerable→none : Answerable t mode default room × (160 * nodes 32 (routes t) ≤ words) → None (RewriteCondition t mode default room words)
+  answerable→none (a, work) n i (no-mode f) = f (a .known-mode)
+  answerable→none (a, work) n i (large-default e h) = let d = a .small-default e in omega arith
+  answerable→none (a, work) n i (of-table c) = accepted-exactly (takesSet mode) t .0 (a .accepted) n i c
+  answerable→none (a, work) n i (short-work h) = omega arith
+  answerable→none (a, work) n i (short-output h) = omega (arith, a .enough-output)
 
-  -- None holds exactly when the rewrite is answerable.
-  pub answerable-exactly : None (RewriteCondition t mode default room words) ↔ Answerable t mode default room words
+  -- None holds exactly when the rewrite is answerable and the room is enough.
+  pub answerable-exactly : None (RewriteCondition t mode default room words) ↔ (Answerable t mode default room × (160 * nodes 32 (routes t) ≤ words))
   answerable-exactly = (none→answerable, answerable→none)
+
+  -- So the rules of the engine over nodes are guarded.
+  pub rewrite-guarded : Guarded (rewriteRules t mode default room words) t mode default room
+  unfolding replyBy
+  rewrite-guarded rs e =
+      none→answerable
+      (gives-exactly (rewriteRules t mode default room words) (rewrite-tests t mode default room words) (resultOf t mode default) .0 e .0) .0
 
 -- ---- What is said of a reply.
 says-refuses : (before : ℕ) (q : Reply (List Route)) {n i : ℕ} → writtenOf before q ≡ refuses n i → q ≡ refuses n i
@@ -90,14 +85,14 @@ module _ (t : List ℕ) (mode default : ℕ) (o : List ℕ) (words : ℕ) where
 
   -- The right reply gives the result exactly when no condition holds, and refuses exactly by the first that holds.
   pub reply-gives : {rs : List Route} → reply ≡ gives rs ↔ (None Refusing × (resultOf t mode default ≡ rs))
-  unfolding rewriteReply
+  unfolding replyBy
   reply-gives = gives-exactly (rewriteRules t mode default (length o) words) (rewrite-tests t mode default (length o) words) (resultOf t mode default)
 
   pub reply-refuses : (n i : ℕ) → reply ≡ refuses n i ↔ First Refusing n i
-  unfolding rewriteReply
+  unfolding replyBy
   reply-refuses =
       refuses-exactly (rewriteRules t mode default (length o) words) (rewrite-tests t mode default (length o) words) (resultOf t mode default)
-      (rewrite-in-order t mode default (length o) words)
+      (rewrite-ranked t mode default (length o) words .order)
 
   module _ (r : Rewritten) (o′ w′ : List ℕ) (ok : Rewrites t mode default o words r o′ w′) where
     -- It is refused with a number and an index exactly when their condition holds and none before it in document 01's order does.
@@ -127,24 +122,39 @@ module _ (t : List ℕ) (mode default : ℕ) (o : List ℕ) (words : ℕ) where
         let f = says-refuses (records t) reply (sym (ok .inner .answer) ∙ ap rewrittenSays e) in
         (ok .inner .output ∙ ap (outputOf o) f, ap countOf e, ap changeOf e, ok .zero)
 
+    -- It gives the numbers 1 to 8, 10 and 11 alone.
+    pub rewrite-numbers : (number index : ℕ) → r ≡ Refused number index → (1 ≤ number) × (number ≤ 11) × (number ≡ 9 → ⊥)
+    rewrite-numbers number index e = go number index (rewrite-refused number index .0 e .0)
+      where
+        go : (n i : ℕ) → RewriteCondition t mode default (length o) words n i → (1 ≤ n) × (n ≤ 11) × (n ≡ 9 → ⊥)
+        go n i (no-mode f) = (omega arith, omega arith, λ z. omega arith)
+        go n i (large-default p q) = (omega arith, omega arith, λ z. omega arith)
+        go n i (of-table c) = let k = table-numbers (takesSet mode) t n i c in (omega (arith, k .0), omega (arith, k .1), λ z. omega (arith, k .1))
+        go n i (short-work h) = (omega arith, omega arith, λ z. omega arith)
+        go n i (short-output h) = (omega arith, omega arith, λ z. omega arith)
+
 -- ---- The cover query.
 module _ (t : List ℕ) (address len words : ℕ) (r : Covers) (w′ : List ℕ) (ok : Queried t address len words r w′) where
-  abbrev query : List Rule
-  query = coverRules t len words
-
   -- It is refused with a number and an index exactly when their condition holds and none before it in document 01's order does.
   pub covers-refused : (number index : ℕ) → r ≡ NotAnswered number index ↔ First (CoverCondition t len words) number index
   covers-refused number index =
-      let exactly = refuses-exactly query (cover-tests t len words) (coveredBy t address len) (cover-in-order t len words) number index in (
-        λ e. exactly .0 (sym (ok .answer) ∙ ap coversSays e),
-        λ f. covers-same r (NotAnswered number index) (ok .answer ∙ exactly .1 f),
-      )
+      refused-exactly coversSays covers-same (coverRules t len words) (cover-tests t len words) (cover-ranked t len words .order) (coveredBy t address len)
+      r (ok .answer) (NotAnswered number index) number index refl
 
   -- It is answered exactly when no condition holds.
   pub covers-answered : (b : Bool) → coversSays r ≡ gives b ↔ (None (CoverCondition t len words) × (coveredBy t address len ≡ b))
   covers-answered b =
-      let exactly = gives-exactly query (cover-tests t len words) (coveredBy t address len) in
+      let exactly = gives-exactly (coverRules t len words) (cover-tests t len words) (coveredBy t address len) in
       (λ e. exactly .0 (sym (ok .answer) ∙ e), λ f. ok .answer ∙ exactly .1 f)
+
+  -- It gives the numbers 3 to 10 alone.
+  pub covers-numbers : (number index : ℕ) → r ≡ NotAnswered number index → (3 ≤ number) × (number ≤ 10)
+  covers-numbers number index e = go number index (covers-refused number index .0 e .0)
+    where
+      go : (n i : ℕ) → CoverCondition t len words n i → (3 ≤ n) × (n ≤ 10)
+      go n i (of-set c) = let k = table-numbers true t n i c in (omega (arith, k .0), omega (arith, k .1))
+      go n i (long-query h) = (omega arith, omega arith)
+      go n i (short-room h) = (omega arith, omega arith)
 
 -- ---- The least room.
 
@@ -160,9 +170,10 @@ unfolding nodes brought routes routesFrom
 empty-nodes = refl
 
 module _ (mode default : ℕ) (o : List ℕ) (words : ℕ) (r : Rewritten) (o′ w′ : List ℕ) (ok : Rewrites [] mode default o words r o′ w′) where
-  -- An empty table in modes 1 to 4 is refused by number 10 exactly when the room is below 160 words.
-  pub empty-room : 1 ≤ mode → mode ≤ 4 → r ≡ Refused 10 0 ↔ words < 160
-  empty-room low high = (λ e. tenth 10 0 (rewrite-refused [] mode default o words r o′ w′ ok 10 0 .0 e .0) refl, λ h. rewrite-refused [] mode default o words r o′ w′ ok 10 0 .1 (short-work (rw empty-nodes h), earlier))
+  -- An empty table in any mode, with a hop for a default where it is read, is refused by number 10 exactly when the room is below 160 words.
+  pub empty-room : (1 ≤ mode) × (mode ≤ 5) → (mode ≡ 5 → default ≤ 63) → r ≡ Refused 10 0 ↔ words < 160
+  unfolding rank
+  empty-room known small = (λ e. tenth 10 0 (rewrite-refused [] mode default o words r o′ w′ ok 10 0 .0 e .0) refl, λ h. rewrite-refused [] mode default o words r o′ w′ ok 10 0 .1 (short-work (rw empty-nodes h), earlier))
     where
       tenth : (n i : ℕ) → RewriteCondition [] mode default (length o) words n i → n ≡ 10 → words < 160
       tenth n i (no-mode f) e = absurd (omega arith)
@@ -172,8 +183,8 @@ module _ (mode default : ℕ) (o : List ℕ) (words : ℕ) (r : Rewritten) (o′
       tenth n i (short-output h) e = absurd (omega arith)
 
       earlier : (m j : ℕ) → Earlier m j 10 0 → RewriteCondition [] mode default (length o) words m j → ⊥
-      earlier m j l (no-mode f) = f (low, omega arith)
-      earlier m j l (large-default p q) = omega arith
+      earlier m j l (no-mode f) = f known
+      earlier m j l (large-default p q) = let d = small p in omega arith
       earlier m j l (of-table c) = empty-table (takesSet mode) m j c
       earlier m j l (short-work h) = earlier-not 10 0 10 0 l l
       earlier m j l (short-output h) = earlier-not 11 0 10 0 l (inl (omega arith))

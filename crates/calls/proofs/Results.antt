@@ -1,37 +1,38 @@
 -- Demand 2: a table that is not refused is answered with the records of the theory's result of its mode, and the cover query by whether every address
 -- is held. Assumes of a table, where it says so, that its elements are bytes.
-use mathlib.Core.Path.{_≡_, refl, sym, ap, _∙_, subst}
+use mathlib.Core.Path.{_≡_, refl, ap, _∙_}
 use mathlib.Core.Bool.{true}
 use mathlib.Core.List.{List, _++_}
 use mathlib.Core.Logic.{_↔_}
-use Prim.Native.Nat.{ℕ, _+_, _-_, _*_, _^_, _<_}
-use native.Mathlib.Omega.{arith}
+use Prim.Native.Nat.{ℕ, _-_, _*_, _^_, _<_}
 use lib.IntN.{ℤ, pos, _-ℤ_}
-use lib.ListN.{length, take, drop, length-append, length-drop}
-use lib.Seq.{take-at}
-use Rattle.theory.specs.Routes.{Route, Table, held}
+use lib.ListN.{length, take, drop}
+use Rattle.theory.specs.Routes.{Table, held}
 use Rattle.theory.specs.Results.{smallest, result, In, startOf}
 use Rattle.theory.specs.Demands.{Keeps}
-use Rattle.theory.proofs.Chosen.{smallest-chooses}
-use Rattle.theory.proofs.Modes.{result-keeps, result-table}
 use Rattle.theory.proofs.Maximal.{throughout-each}
-use Rattle.table.specs.Rules.{Reply, gives, refuses}
-use Rattle.table.specs.Wire.{records, routes, bytesOf, Bytes}
-use Rattle.table.specs.Facts.{Lawful}
-use Rattle.table.proofs.Accepted.{not-refused}
-use Rattle.table.proofs.Tables.{accepted-table}
-use Rattle.table.proofs.Written.{length-bytes, routes-bytes}
+use Rattle.refusals.specs.Rules.{Rule}
+use Rattle.refusals.specs.Order.{None}
+use Rattle.records.specs.Wire.{records, routes, bytesOf, Bytes}
+use Rattle.table.specs.Conditions.{Lawful}
 use Rattle.calls.specs.declared.Rewritten.{Rewritten}
 use Rattle.calls.specs.declared.Rewritten.the-variants.{Records}
 use Rattle.calls.specs.declared.Covers.{Covers}
 use Rattle.calls.specs.declared.Covers.the-variants.{Covered}
-use Rattle.calls.specs.Conditions.{RewriteCondition, CoverCondition, None}
+use Rattle.calls.specs.Conditions.{RewriteCondition, CoverCondition, Guarded}
 use Rattle.calls.specs.Covering.{coveredBy, coversSays, Queried}
-use Rattle.calls.specs.Rewriting.{modeOf, resultOf, takesSet, rewriteReply, writtenOf, outputOf, Rewrites}
-use Rattle.calls.proofs.Refusals.{answerable-exactly, reply-gives, rewrite-accepted, covers-answered}
+use Rattle.calls.specs.Rewriting.{modeOf, resultOf, takesSet, rewriteRules, writtenOf, outputOf, Rewrites}
+use Rattle.calls.proofs.Engines.{by-records, by-length, by-written, by-lawful, by-table, by-reads, by-keeps}
+use Rattle.calls.proofs.Refusals.{rewrite-guarded, reply-gives, rewrite-accepted, covers-answered}
 use Rattle.calls.proofs.Settled.{rewritten-same, covers-same}
 
 module _ (t : List ℕ) (mode default : ℕ) (o : List ℕ) (words : ℕ) where
+  abbrev rules : List Rule
+  rules = rewriteRules t mode default (length o) words
+
+  guarded : Guarded rules t mode default (length o)
+  guarded = rewrite-guarded t mode default (length o) words
+
   module _ (r : Rewritten) (o′ w′ : List ℕ) (ok : Rewrites t mode default o words r o′ w′) where
     -- Where no condition holds the answer is the number of the result's records and the change, and the output has them from its start.
     pub rewrite-result : None (RewriteCondition t mode default (length o) words)
@@ -51,56 +52,34 @@ module _ (t : List ℕ) (mode default : ℕ) (o : List ℕ) (words : ℕ) where
         → None (RewriteCondition t mode default (length o) words) × (count ≡ length (resultOf t mode default))
         × (change ≡ pos (length (resultOf t mode default)) -ℤ pos (records t))
         × (o′ ≡ bytesOf (resultOf t mode default) ++ drop (8 * length (resultOf t mode default)) o)
-    unfolding resultOf
     rewrite-records count change e =
-        let none = rewrite-accepted t mode default o words r o′ w′ ok .0 (count, (change, e)) in
-        let f = rewrite-result none in
-        let same : Records count change ≡ Records (length (resultOf t mode default)) (pos (length (resultOf t mode default)) -ℤ pos (records t)) = sym e ∙ f .0 in
-        (none, cc, cc, f .1)
+        let f = by-records rules t mode default o guarded r o′ (ok .inner) count change e in
+        (rewrite-accepted t mode default o words r o′ w′ ok .0 (count, (change, e)), f .1, f .2, f .3)
 
     -- Answered or refused, the output keeps its length.
     pub rewrite-length : length o′ ≡ length o
-    rewrite-length = ap (λ (l : List ℕ). length l) (ok .inner .output) ∙ kept (rewriteReply t mode default (length o) words) refl
-      where
-        kept : (q : Reply (List Route)) → rewriteReply t mode default (length o) words ≡ q → length (outputOf o q) ≡ length o
-        kept (refuses n i) e = refl
-        kept (gives rs) e =
-            let g = reply-gives t mode default o words .0 e in
-            let fits = answerable-exactly t mode default (length o) words .0 (g .0) .enough-output in
-            let size : length (resultOf t mode default) ≡ length rs = ap (λ (l : List Route). length l) (g .1) in
-            simp (length-append, length-drop, length-bytes) (omega arith)
+    rewrite-length = by-length rules t mode default o guarded r o′ (ok .inner)
 
     -- The records are written from the output's start.
     pub rewrite-written : (count : ℕ) (change : ℤ) → r ≡ Records count change → take (8 * count) o′ ≡ bytesOf (resultOf t mode default)
-    rewrite-written count change e =
-        let f = rewrite-records count change e in
-        let n : 8 * count ≡ 8 * length (resultOf t mode default) = ap (λ (m : ℕ). 8 * m) (f .1) in
-        rw (n, f .3)
-        (take-at (bytesOf (resultOf t mode default)) (drop (8 * length (resultOf t mode default)) o) (8 * length (resultOf t mode default))
-        (length-bytes (resultOf t mode default)))
+    rewrite-written = by-written rules t mode default o guarded r o′ (ok .inner)
 
     module _ (bytes : Bytes t) (count : ℕ) (change : ℤ) (answered : r ≡ Records count change) where
       -- The table of bytes is one of routes, with hops in range.
       pub rewrite-lawful : Lawful (takesSet mode) (routes t)
-      rewrite-lawful =
-          let k = answerable-exactly t mode default (length o) words .0 (rewrite-records count change answered .0) .accepted in
-          accepted-table (records t) (records t) (takesSet mode) t bytes (not-refused (takesSet mode) t (records t) k) .0
+      rewrite-lawful = by-lawful rules t mode default o guarded r o′ (ok .inner) count change answered bytes
 
       -- So is the result.
       pub rewrite-table : Table 32 (resultOf t mode default)
-      unfolding resultOf
-      rewrite-table = result-table smallest smallest-chooses 32 (modeOf mode default) (rewrite-lawful .table)
+      rewrite-table = by-table rules t mode default o guarded r o′ (ok .inner) count change answered bytes
 
       -- What is written reads back as the result.
       pub rewrite-reads : routes (take (8 * count) o′) ≡ result smallest 32 (modeOf mode default) (routes t)
-      unfolding resultOf
-      rewrite-reads = ap routes (rewrite-written count change answered) ∙ routes-bytes (resultOf t mode default) (rewrite-table .valid)
+      rewrite-reads = by-reads rules t mode default o guarded r o′ (ok .inner) count change answered bytes
 
       -- And says of each address what is demanded of its mode: the sets hold it alike, the maps answer it alike, fill gives the unrouted the default.
       pub rewrite-keeps : (x : ℕ) → x < 2 ^ 32 → Keeps 32 (modeOf mode default) (routes t) (routes (take (8 * count) o′)) x
-      rewrite-keeps x lt =
-          subst (λ (s : List Route). Keeps 32 (modeOf mode default) (routes t) s x) (sym rewrite-reads)
-          (result-keeps smallest smallest-chooses 32 (modeOf mode default) (rewrite-lawful .table) x lt)
+      rewrite-keeps = by-keeps rules t mode default o guarded r o′ (ok .inner) count change answered bytes
 
 -- ---- The cover query.
 module _ (t : List ℕ) (address len words : ℕ) (r : Covers) (w′ : List ℕ) (ok : Queried t address len words r w′) where

@@ -5,14 +5,14 @@ use mathlib.Core.List.{List}
 use Prim.Native.Nat.{ℕ}
 use native.Mathlib.Omega.{arith}
 use lib.ListN.{length, replicate}
-use Rattle.table.specs.Rules.{Reply, gives, refuses}
-use Rattle.table.specs.Wire.{records}
+use Rattle.refusals.specs.Rules.{Rule, Reply, gives, refuses}
+use Rattle.records.specs.Wire.{records}
 use Rattle.calls.specs.declared.Rewritten.{Rewritten}
 use Rattle.calls.specs.declared.Rewritten.the-variants.{Records, Refused}
 use Rattle.calls.specs.declared.Covers.{Covers}
 use Rattle.calls.specs.declared.Covers.the-variants.{Covered, Uncovered, Refused as NotAnswered}
 use Rattle.calls.specs.Covering.{coversSays, coverReply, Queried}
-use Rattle.calls.specs.Rewriting.{Written, rewriteReply, writtenOf, outputOf, rewrittenSays, RewritesIn, Rewrites}
+use Rattle.calls.specs.Rewriting.{Written, rewriteRules, rewriteReply, writtenOf, outputOf, rewrittenSays, RewritesBy, Rewrites}
 
 -- Answers of a rewrite that say the same are the same.
 pub rewritten-same : (a b : Rewritten) → rewrittenSays a ≡ rewrittenSays b → a ≡ b
@@ -35,16 +35,16 @@ covers-same (NotAnswered n i) Covered e = let z : _≡_ {A = ℕ} 0 1 = cc in ab
 covers-same (NotAnswered n i) Uncovered e = let z : _≡_ {A = ℕ} 0 1 = cc in absurd (omega arith)
 covers-same (NotAnswered m i) (NotAnswered n j) e = cc
 
--- The statement of a rewrite, but for the room, settles the answer and the output.
-pub rewrite-in-settled : (t : List ℕ) (mode default : ℕ) (o : List ℕ) (words : ℕ) (r r₁ : Rewritten) (o′ o₁ : List ℕ)
-    → RewritesIn t mode default o words r o′ → RewritesIn t mode default o words r₁ o₁ → (r ≡ r₁) × (o′ ≡ o₁)
-rewrite-in-settled t mode default o words r r₁ o′ o₁ a b = (rewritten-same r r₁ (a .answer ∙ sym (b .answer)), a .output ∙ sym (b .output))
+-- The statement of any engine's rewrite settles the answer and the output.
+pub rewrite-by-settled : (rules : List Rule) (t : List ℕ) (mode default : ℕ) (o : List ℕ) (r r₁ : Rewritten) (o′ o₁ : List ℕ)
+    → RewritesBy rules t mode default o r o′ → RewritesBy rules t mode default o r₁ o₁ → (r ≡ r₁) × (o′ ≡ o₁)
+rewrite-by-settled rules t mode default o r r₁ o′ o₁ a b = (rewritten-same r r₁ (a .answer ∙ sym (b .answer)), a .output ∙ sym (b .output))
 
 -- The statement of a rewrite settles the answer, the output and the room.
 pub rewrite-settled : (t : List ℕ) (mode default : ℕ) (o : List ℕ) (words : ℕ) (r r₁ : Rewritten) (o′ o₁ w′ w₁ : List ℕ)
     → Rewrites t mode default o words r o′ w′ → Rewrites t mode default o words r₁ o₁ w₁ → (r ≡ r₁) × (o′ ≡ o₁) × (w′ ≡ w₁)
 rewrite-settled t mode default o words r r₁ o′ o₁ w′ w₁ a b =
-    let s = rewrite-in-settled t mode default o words r r₁ o′ o₁ (a .inner) (b .inner) in
+    let s = rewrite-by-settled (rewriteRules t mode default (length o) words) t mode default o r r₁ o′ o₁ (a .inner) (b .inner) in
     (s .0, s .1, a .zero ∙ sym (b .zero))
 
 -- The statement of the cover query settles the answer and the room.

@@ -1,28 +1,32 @@
 -- The wrong rewrites that document 01 names, each against the statement: refusing everything, one table for all, copying the input, copying the deeper
 -- nodes, an invented change; and an invented total of addresses held. Assumes nothing.
 use mathlib.Core.Path.{_≡_, refl, sym, ap, ap₂, _∙_}
+use mathlib.Core.Bool.{Bool, true, _&&_, and-eq-true-iff}
 use mathlib.Core.List.{List, [], _∷_, _++_}
-use Prim.Native.Nat.{ℕ, _*_, _≤_}
+use Prim.Native.Nat.{ℕ, zero, suc, _*_, _≤_}
 use native.Mathlib.Omega.{arith}
+use lib.Dec.{ltb}
 use lib.IntN.{ℤ, pos, negsuc, _-ℤ_}
 use lib.ListN.{length, getD, take, drop}
 use lib.Seq.{take-at}
+use borrow.Author.Tests.{ltb-true}
 use Rattle.theory.specs.Routes.{Route, Member, head, nil, cons, answer, Alike}
 use Rattle.theory.specs.Results.{smallest, result}
 use Rattle.theory.proofs.Lists.{all-member}
 use Rattle.theory.proofs.Chosen.{smallest-chooses}
 use Rattle.theory.proofs.Preserve.{answers}
 use Rattle.theory.proofs.Cases.{route, cases, worked}
-use Rattle.table.specs.Wire.{records, routeAt, routesFrom, routes, bytesOf}
-use Rattle.table.specs.Calls.{addressSum, heldSays, heldReply}
-use Rattle.table.specs.declared.answers.AddressesHeld.the-variants.{Sum}
-use Rattle.table.proofs.Written.{length-bytes}
-use Rattle.table.proofs.Calls.{held-sum-exactly}
+use Rattle.records.specs.Wire.{records, routeAt, routesFrom, routes, bytesOf, Bytes}
+use Rattle.lookup.specs.Calls.{addressSum, heldSays, heldReply}
+use Rattle.lookup.specs.declared.answers.AddressesHeld.the-variants.{Sum}
+use Rattle.records.proofs.Written.{length-bytes}
+use Rattle.lookup.proofs.Calls.{held-sum-exactly}
 use Rattle.calls.specs.declared.Rewritten.{Rewritten}
 use Rattle.calls.specs.declared.Rewritten.the-variants.{Records, Refused}
 use Rattle.calls.specs.Rewriting.{countOf, Rewrites}
 use Rattle.calls.proofs.Marked.{changes, marked}
 use Rattle.calls.proofs.Results.{rewrite-records}
+use Rattle.calls.proofs.Demand3.{same-bytes-drop}
 
 -- ---- The tables of cases 2, 5, 10 and 11, as bytes.
 
@@ -45,6 +49,16 @@ plain = 10 ∷ 0 ∷ 0 ∷ 0 ∷ 8 ∷ 2 ∷ 0 ∷ 0 ∷ []
 -- 10.0.0.0/9 by hop 1 and 10.128.0.0/9 by hop 2: mode 4 makes 10.0.0.0/8 by hop 1 and the second half of it.
 abbrev apart : List ℕ
 apart = 10 ∷ 0 ∷ 0 ∷ 0 ∷ 9 ∷ 1 ∷ 0 ∷ 0 ∷ 10 ∷ 128 ∷ 0 ∷ 0 ∷ 9 ∷ 2 ∷ 0 ∷ 0 ∷ []
+
+-- Each of them is a list of bytes, which is computed.
+abbrev small : List ℕ → Bool
+small [] = true
+small (b ∷ l) = ltb b 256 && small l
+
+all-bytes : (l : List ℕ) → small l ≡ true → Bytes l
+all-bytes [] e k = omega arith
+all-bytes (b ∷ l) e zero = ltb-true b 256 (and-eq-true-iff (ltb b 256) (small l) .0 e .0)
+all-bytes (b ∷ l) e (suc k) = all-bytes l (and-eq-true-iff (ltb b 256) (small l) .0 e .1) k
 
 -- The routes of the deeper nodes, which are those of length 5 and more, stand in the result as they came.
 abbrev pub CopiesDeep : List Route → List Route → Type 0
@@ -103,15 +117,21 @@ constant-wrong o words long wide r r₁ o′ w′ o₁ w₁ a b e =
     ap (λ (l : List ℕ). getD l 0 0) (sym (case-2 o words long wide r o′ w′ a) ∙ e ∙ case-5 o words long wide r₁ o₁ w₁ b) in
     omega arith
 
--- A copier against demand 3: two tables that answer every address alike and are not the same bytes.
-pub copier-against-alike : Alike 32 (answer 32 (routes shadowed)) (answer 32 (routes plain)) × (shadowed ≡ plain → ⊥)
+-- A copier against demand 3: two tables that answer every address alike have the same bytes written, and these two differ.
+alike : Alike 32 (answer 32 (routes shadowed)) (answer 32 (routes plain))
 unfolding cases route result routes routesFrom routeAt
-copier-against-alike = (
-  λ x lt.
-      sym (answers smallest 32 smallest-chooses (answer 32 (routes shadowed)) x lt)
-      ∙ ap (λ (t : List Route). answer 32 t x) (worked .1 .1 .1 .1 .1 .1 .1 .1 .0),
-  λ e. let z : _≡_ {A = ℕ} 24 8 = ap (λ (l : List ℕ). length l) e in omega arith,
-)
+alike x lt =
+    sym (answers smallest 32 smallest-chooses (answer 32 (routes shadowed)) x lt)
+    ∙ ap (λ (t : List Route). answer 32 t x) (worked .1 .1 .1 .1 .1 .1 .1 .1 .0)
+
+pub copier-against-alike : (o : List ℕ) (words count : ℕ) (change : ℤ) (o′ w′ p : List ℕ) (space number : ℕ) (other : ℤ) (p′ v′ : List ℕ)
+    → Rewrites shadowed 4 0 o words (Records count change) o′ w′ → Rewrites plain 4 0 p space (Records number other) p′ v′
+    → take (8 * count) o′ ≡ shadowed → take (8 * number) p′ ≡ plain → ⊥
+copier-against-alike o words count change o′ w′ p space number other p′ v′ a b copied copied-too =
+    let same =
+    same-bytes-drop shadowed (all-bytes shadowed refl) o words count change o′ w′ plain (all-bytes plain refl) p space number other p′ v′ 0 0 a b .1 alike in
+    let z : _≡_ {A = ℕ} 24 8 = ap (λ (l : List ℕ). length l) (sym copied ∙ same ∙ copied-too) in
+    omega arith
 
 -- An invented change: any but records out minus records in.
 pub change-invented : (t : List ℕ) (mode default : ℕ) (o : List ℕ) (words count : ℕ) (change : ℤ) (o′ w′ : List ℕ)

@@ -7,9 +7,10 @@ use lib.Dec.{leb}
 use lib.ListN.{replicate}
 use Rattle.theory.specs.Routes.{held}
 use Rattle.theory.specs.Results.{startOf, throughout}
-use Rattle.table.specs.Rules.{Rule, rule, Reply, gives, refuses, judge}
-use Rattle.table.specs.Wire.{routes, tableRules}
-use Rattle.table.specs.Nodes.{nodes}
+use Rattle.refusals.specs.Rules.{Rule, rule, Reply, gives, refuses, judge}
+use Rattle.records.specs.Wire.{routes}
+use Rattle.table.specs.TableRules.{tableRules}
+use Rattle.nodecount.specs.Nodes.{nodes}
 use Rattle.calls.specs.declared.Covers.{Covers}
 use Rattle.calls.specs.declared.Covers.the-variants.{Covered, Uncovered, Refused}
 

@@ -8,9 +8,10 @@ use lib.IntN.{ℤ, pos, _-ℤ_}
 use lib.ListN.{length, drop, replicate}
 use Rattle.theory.specs.Routes.{Route}
 use Rattle.theory.specs.Results.{Mode, aggregateSet, aggregateConsistentSet, aggregateConsistentMap, aggregateMapDrop, aggregateMapFill, result, smallest}
-use Rattle.table.specs.Rules.{Rule, rule, Reply, gives, refuses, judge}
-use Rattle.table.specs.Wire.{records, routes, bytesOf, tableRules}
-use Rattle.table.specs.Nodes.{nodes}
+use Rattle.refusals.specs.Rules.{Rule, rule, Reply, gives, refuses, judge}
+use Rattle.records.specs.Wire.{records, routes, bytesOf}
+use Rattle.table.specs.TableRules.{tableRules}
+use Rattle.nodecount.specs.Nodes.{nodes}
 use Rattle.calls.specs.declared.Rewritten.{Rewritten}
 use Rattle.calls.specs.declared.Rewritten.the-variants.{Records, Refused}
 
@@ -44,9 +45,13 @@ pub record Written : Type 0 where
   pub count : ℕ
   pub change : ℤ
 
--- The right reply: the routes of the result, or the refusal of the first rule that is broken.
-unfoldable pub rewriteReply : List ℕ → ℕ → ℕ → ℕ → ℕ → Reply (List Route)
-rewriteReply t mode default room words = judge (rewriteRules t mode default room words) (resultOf t mode default)
+-- The right reply of an engine with these rules: the routes of the result, or the refusal of the first rule that is broken.
+unfoldable pub replyBy : List Rule → List ℕ → ℕ → ℕ → Reply (List Route)
+replyBy rules t mode default = judge rules (resultOf t mode default)
+
+-- That of the engine over nodes.
+abbrev pub rewriteReply : List ℕ → ℕ → ℕ → ℕ → ℕ → Reply (List Route)
+rewriteReply t mode default room words = replyBy (rewriteRules t mode default room words) t mode default
 
 -- What it is to say, of a table with so many records.
 abbrev pub writtenOf : ℕ → Reply (List Route) → Reply Written
@@ -72,11 +77,14 @@ abbrev pub changeOf : Rewritten → ℤ
 changeOf (Records count change) = change
 changeOf (Refused number index) = pos 0
 
--- The statement, but for what becomes of the room: the table t, the output o and a room of so many words were lent, r was answered, and the
--- output is o′ then.
-pub record RewritesIn (t : List ℕ) (mode default : ℕ) (o : List ℕ) (words : ℕ) (r : Rewritten) (o′ : List ℕ) : Type 0 where
-  pub answer : rewrittenSays r ≡ writtenOf (records t) (rewriteReply t mode default (length o) words)
-  pub output : o′ ≡ outputOf o (rewriteReply t mode default (length o) words)
+-- The statement of any engine's rewrite, by its rules: the table t and the output o were lent, r was answered, and the output is o′ then.
+pub record RewritesBy (rules : List Rule) (t : List ℕ) (mode default : ℕ) (o : List ℕ) (r : Rewritten) (o′ : List ℕ) : Type 0 where
+  pub answer : rewrittenSays r ≡ writtenOf (records t) (replyBy rules t mode default)
+  pub output : o′ ≡ outputOf o (replyBy rules t mode default)
+
+-- That of the engine over nodes, which was lent a room of so many words, but for what becomes of the room.
+abbrev pub RewritesIn : List ℕ → ℕ → ℕ → List ℕ → ℕ → Rewritten → List ℕ → Type 0
+RewritesIn t mode default o words r o′ = RewritesBy (rewriteRules t mode default (length o) words) t mode default o r o′
 
 -- The whole statement: and the room is zero throughout.
 pub record Rewrites (t : List ℕ) (mode default : ℕ) (o : List ℕ) (words : ℕ) (r : Rewritten) (o′ work′ : List ℕ) : Type 0 where

@@ -6,17 +6,19 @@ use mathlib.Core.Bool.{Bool}
 use mathlib.Core.List.{List, []}
 use native.Mathlib.Nat.{le-refl}
 use native.Mathlib.Omega.{arith}
-use lib.ListN.{getD}
+use lib.ListN.{length, getD}
 use Rattle.theory.specs.Routes.{Route, Answer}
 use Rattle.positions.specs.Runs.{sizeAt, placeAt}
 use Rattle.positions.specs.Walk.{walk, stateAt, slots}
 use Rattle.positions.specs.Walks.{keptOut, keptNext}
+use Rattle.positions.proofs.Counts.{kept-few}
 use Rattle.positions.proofs.Modes.{kept-walk-inside, kept-walk-nothing}
 use Rattle.positions.proofs.Slots.{slots-agree, walk-slots}
 use Rattle.nodes.specs.Node.{wide, run, slotSize, Node}
-use Rattle.nodes.specs.Gathered.{runAt, Gathered}
 use Rattle.nodes.specs.Output.{entryAt}
-use Rattle.nodes.proofs.GatherLaws.{slot-records, no-child}
+use Rattle.nodes.proofs.RoomBlocks.{run-length}
+use Rattle.gather.proofs.GatherLaws.{node-run, slot-records, no-child}
+use Rattle.gather.specs.Gathered.{runAt, Gathered}
 
 -- The walk of some routes: by the test that leaves entries out and the step of an own hop.
 abbrev pub keptWalk : {S : Type 0} → (ℕ → S → Bool) → (Answer → S → S) → List Route → ℕ → ℕ → S → List Route
@@ -57,3 +59,10 @@ module _ {S : Type 0} (leftOut : ℕ → S → Bool) (step : Answer → S → S)
       rw size (walk-slots (keptOut leftOut wide (run t lo hi)) (keptNext step wide (run t lo hi)) (slotSize depth) key s
       ∙ slots-agree 5 _ (entryAt entries hops depth key) (λ l j lt small. sym (same l j (omega arith) small))
       _ _ (λ c lt. kept-child c lt (keptState leftOut step (run t lo hi) (slotSize depth) key s 5 c)) 32 (le-refl 32))
+
+-- It puts out no more than the node has records.
+pub kept-most : {S : Type 0} (leftOut : ℕ → S → Bool) (step : Answer → S → S) {t : List ℕ} {lo hi depth key : ℕ} → Node t lo hi depth key → (s : S)
+    → length (keptWalk leftOut step (run t lo hi) (wide - depth) key s) ≤ hi - lo
+kept-most leftOut step {t} {lo} {hi} {depth} n s =
+    let size : wide - depth ≡ slotSize depth + 5 = omega (arith, n .deep) in
+    rw size (omega (arith, kept-few leftOut step (node-run n) s, run-length t lo hi))

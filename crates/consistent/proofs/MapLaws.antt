@@ -1,36 +1,36 @@
 -- Mode 3 in a node: the bits that the code finds and the hops that cover the positions are the entries of the walk.
 use Prim.Native.Nat.{ℕ, zero, suc, _+_, _-_, _/_, _^_, _≤_, _<_}
 use mathlib.Core.Path.{_≡_, refl, sym, ap, _∙_}
-use mathlib.Core.Bool.{Bool, true, false, true≢false, cond, not, _&&_, and-false}
+use mathlib.Core.Bool.{Bool, true, false, cond, not, _&&_, and-false}
 use mathlib.Core.List.{List, [], _∷_}
 use native.Mathlib.Nat.{pow-suc, le-refl}
 use native.Mathlib.Decide.{decLt}
 use native.Mathlib.Omega.{arith}
 use lib.Dec.{eqb, ltb}
-use lib.ListN.{getD}
+use lib.ListN.{length, getD}
 use lib.Pow.{pow-pos}
 use borrow.Author.Tests.{lt-ltb, le-ltb, eq-eqb, ne-eqb}
 use Rattle.theory.specs.Routes.{Route, Answer, none, via}
-use Rattle.theory.specs.Shapes.{routed}
-use Rattle.table.specs.Wire.{route, routeAt}
+use Rattle.records.specs.Wire.{route, routeAt}
 use Rattle.words.specs.Bits.{bit, NextBit}
 use Rattle.words.specs.Positions.{position}
 use Rattle.words.proofs.BitLaws.{if-lt, if-eq}
 use Rattle.words.proofs.PositionLaws.{in-word, above}
-use Rattle.positions.specs.Runs.{hopOf, headHop, own, orElse, sizeAt, placeAt, cover, coverOver}
+use Rattle.positions.specs.Runs.{noHop, hopOf, headHop, own, orElse, sizeAt, placeAt, cover, coverOver}
 use Rattle.positions.specs.Walk.{walk, slots}
 use Rattle.positions.specs.Walks.{entryUnless, keptOut, isSame, consistentMapOut, consistentMapNext}
+use Rattle.positions.proofs.Hops.{hop-via}
 use Rattle.positions.proofs.Modes.{consistent-map-state}
 use Rattle.positions.proofs.RunsNode.{above-lt, cover-own}
 use Rattle.positions.proofs.Slots.{slots-agree}
 use Rattle.nodes.specs.Node.{wide, run, slotSize, Node}
-use Rattle.nodes.specs.Gathered.{runAt, Gathered, overAt, coveringAt}
 use Rattle.nodes.specs.Output.{entryAt}
-use Rattle.nodes.proofs.GatherLaws.{position-run, covering-is, covering-le}
-use Rattle.nodes.proofs.GatherRuns.{run-none, run-first}
-use Rattle.nodes.proofs.BusySlots.{next-steps}
-use Rattle.nodes.proofs.MarkedBits.{Marked, passes-up, marked-skip}
-use Rattle.consistent.proofs.KeptSlots.{keptWalk, keptState, kept-no-child, kept-slots}
+use Rattle.gather.specs.Gathered.{runAt, Gathered, overAt, coveringAt}
+use Rattle.gather.proofs.GatherLaws.{position-run, covering-is, covering-le}
+use Rattle.gather.proofs.GatherRuns.{run-none, run-first}
+use Rattle.gather.proofs.BusySlots.{next-steps}
+use Rattle.gather.proofs.MarkedBits.{Marked, passes-up, marked-skip}
+use Rattle.consistent.proofs.KeptSlots.{keptWalk, keptState, kept-no-child, kept-slots, kept-most}
 
 -- ---- The bits.
 
@@ -66,24 +66,10 @@ marked-past first end hops inherited x absent next =
 
 -- ---- What a hop of the code says.
 
--- What says a hop is that hop, below 64.
-hop-via : (x h : ℕ) → hopOf x ≡ via h → (x ≡ h) × (x < 64)
-hop-via x h = if-lt (λ (t : Bool). cond t (via x) none ≡ via h → (x ≡ h) × (x < 64)) x 64 (λ lt e. (same e, lt)) (λ ge e. absurd (differ e))
-  where
-    same : via x ≡ via h → x ≡ h
-    same e = ap (λ a. said a) e
-      where
-        said : Answer → ℕ
-        said none = x
-        said (via i) = i
-
-    differ : none ≡ via h → ⊥
-    differ e = true≢false (sym (ap routed e))
-
 -- A hop is said to be the same exactly when it is.
-hop-same : (h o : ℕ) → h < 64 → isSame h (hopOf o) ≡ eqb h o
+hop-same : (h o : ℕ) → h < noHop → isSame h (hopOf o) ≡ eqb h o
 hop-same h o lt =
-    if-lt (λ (t : Bool). isSame h (cond t (via o) none) ≡ eqb h o) o 64
+    if-lt (λ (t : Bool). isSame h (cond t (via o) none) ≡ eqb h o) o noHop
     (λ a. if-eq (λ (t : Bool). eqb o h ≡ t) h o (λ e. eq-eqb o h (sym e)) (λ ne. ne-eqb o h (λ e. ne (sym e))))
     (λ a. sym (ne-eqb h o (λ e. omega arith)))
 
@@ -123,7 +109,7 @@ map-no-child g hops c lt le = kept-no-child isSame orElse g c lt le (hopOf (getD
 -- What the code finds of a node before it writes: the records of each place, the hops that cover the positions, and which have an entry.
 pub record Found (t : List ℕ) (lo hi depth key inherited : ℕ) (first end hops : List ℕ) (entries : ℕ) : Type 0 where
   pub node : Node t lo hi depth key
-  pub known : inherited ≤ 64
+  pub known : inherited ≤ noHop
   pub present : ℕ
   pub gathered : Gathered t lo hi depth key first end present
   pub covering : (l j : ℕ) → l ≤ 4 → j < 2 ^ l → getD hops (position l j) 0 ≡ coveringAt t first end inherited l j
@@ -149,8 +135,8 @@ module _ {t : List ℕ} {lo hi depth key inherited : ℕ} {first end hops : List
   hops-slot c lt =
       hops-cover 4 (c / 2) (le-refl 4) (omega arith) ∙ sym (consistent-map-state wide (slotSize depth) key (run t lo hi) (hopOf inherited) 5 c)
 
-  -- That of a slot is a hop or 64.
-  pub slot-le : (c : ℕ) → c < 32 → getD hops (15 + c / 2) 0 ≤ 64
+  -- That of a slot is a hop or none.
+  pub slot-le : (c : ℕ) → c < 32 → getD hops (15 + c / 2) 0 ≤ noHop
   slot-le c lt =
       rw (f .covering 4 (c / 2) (le-refl 4) (omega arith))
       (covering-le (f .node) (f .gathered) inherited 4 (c / 2) (f .known) (le-refl 4) (omega arith))
@@ -180,6 +166,10 @@ module _ {t : List ℕ} {lo hi depth key inherited : ℕ} {first end hops : List
       ∙ slots-agree 5 (entryAt entries hops depth key) (entryAt entries hops depth key) (λ l j lt small. refl) _ _
       (λ c lt. ap (keptWalk isSame orElse (runAt t first end (31 + c)) (slotSize depth) (placeAt (slotSize depth) key 5 c)) (sym (hops-slot c lt)))
       32 (le-refl 32)
+
+  -- It has no more entries than the node has records.
+  pub map-most : length (slots (entryAt entries hops depth key) (mapSlot t first end hops depth key) 32) ≤ hi - lo
+  map-most = omega (arith, ap length map-slots, kept-most isSame orElse (f .node) (hopOf inherited))
 
   -- A slot with records has what the walk of its node has.
   pub map-child : (c place : ℕ) → place ≡ placeAt (slotSize depth) key 5 c

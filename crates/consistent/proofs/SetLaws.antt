@@ -4,11 +4,11 @@ use mathlib.Core.Path.{_≡_, refl, sym, ap, _∙_}
 use mathlib.Core.Bool.{Bool, true, false, cond, not, _&&_}
 use mathlib.Core.List.{List, [], _∷_}
 use native.Mathlib.Omega.{arith}
-use lib.ListN.{getD}
+use lib.ListN.{length, getD}
 use Rattle.theory.specs.Routes.{Route, Answer, none, via, All, nil, cons}
 use Rattle.theory.proofs.Parts.{all-part}
 use Rattle.theory.specs.Shapes.{routed}
-use Rattle.table.specs.Wire.{route}
+use Rattle.records.specs.Wire.{route}
 use Rattle.words.specs.Bits.{bit}
 use Rattle.words.specs.Coverage.{UnderMembers, Kept}
 use Rattle.words.specs.Positions.{position}
@@ -19,11 +19,11 @@ use Rattle.positions.specs.Walks.{entryUnless, keptOut, keptNext, isBelow, orRo
 use Rattle.positions.proofs.Modes.{consistent-set-state}
 use Rattle.positions.proofs.Slots.{reached-keeps, walk-nothing}
 use Rattle.nodes.specs.Node.{wide, run, slotSize, Node}
-use Rattle.nodes.specs.Gathered.{runAt, Gathered}
 use Rattle.nodes.specs.Output.{Wrote, entryAt}
-use Rattle.nodes.proofs.GatherLaws.{slot-records}
-use Rattle.nodes.proofs.MemberLaws.{slot-is, top-member}
-use Rattle.consistent.proofs.KeptSlots.{keptWalk, keptState, kept-no-child, kept-slots}
+use Rattle.gather.specs.Gathered.{runAt, Gathered}
+use Rattle.gather.proofs.GatherLaws.{slot-records}
+use Rattle.gather.proofs.MemberLaws.{slot-is, top-member}
+use Rattle.consistent.proofs.KeptSlots.{keptWalk, keptState, kept-no-child, kept-slots, kept-most}
 
 -- The walk of mode 2 over some routes, where s says whether one stands above.
 abbrev pub setWalk : List Route → ℕ → ℕ → Bool → List Route
@@ -116,3 +116,7 @@ module _ {t : List ℕ} {lo hi depth key : ℕ} {first end : List ℕ} {under en
   -- The walk of mode 2 through the node, by its slots.
   pub set-slots : setWalk (run t lo hi) (wide - depth) key false ≡ slots (entryAt entries hops depth key) (setSlot t lo hi depth key first end) 32
   set-slots = kept-slots isBelow orRouted (f .gathered) (f .node) false entries hops set-entry
+
+  -- It has no more entries than the node has records.
+  pub set-most : length (slots (entryAt entries hops depth key) (setSlot t lo hi depth key first end) 32) ≤ hi - lo
+  set-most = omega (arith, ap length set-slots, kept-most isBelow orRouted (f .node) false)

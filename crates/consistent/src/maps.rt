@@ -1,29 +1,29 @@
 // Mode 3: the entries of a map whose hop differs from that of the nearest entry above.
 
+use gather::covering_hops;
+use gather::gather_run;
+use gather::over_at;
+use gather::slot_key;
 use nodes::emit::emit_slot;
 use nodes::emit::head_slots;
 use nodes::emit::past;
-use nodes::gather::covering_hops;
-use nodes::gather::gather_run;
-use nodes::gather::over_at;
-use nodes::gather::slot_key;
 use words::bits::next_bit;
 use words::bits::with_bit;
 ghost use mathlib.Core.Path.{_≡_};
 ghost use mathlib.Core.Bool.{false, not, _&&_, _||_};
-ghost use Prim.Native.Nat.{ℕ, _+_, _-_, _*_, _^_, _≤_, _<_};
+ghost use Prim.Native.Nat.{ℕ, _-_, _≤_, _<_};
 ghost use lib.Dec.{eqb, ltb};
 ghost use lib.ListN.{getD};
 ghost use Rattle.words.specs.Bits.{bit};
-ghost use Rattle.positions.specs.Runs.{hopOf};
+ghost use Rattle.positions.specs.Runs.{noHop, hopOf};
 ghost use Rattle.positions.specs.Walk.{walk};
 ghost use Rattle.positions.specs.Walks.{consistentMapOut, consistentMapNext};
 ghost use Rattle.nodes.specs.Node.{wide, run, Node};
-ghost use Rattle.nodes.specs.Gathered.{overAt};
 ghost use Rattle.nodes.specs.Output.{Wrote};
+ghost use Rattle.gather.specs.Gathered.{overAt};
 
 // The entries, with position b's if it has a record, by `hop`, and another hop covers it from above.
-fn with_entry(entries: u32, b: u32, first: usize, end: usize, hop: u8, over: u8) -> u32
+fn with_entry(entries: u32, b: u32, first: u16, end: u16, hop: u8, over: u8) -> u32
     requires { ⌜ b < 31 ⌝ }
     ensures { λ r. ⌜ ((i : ℕ) → i < 31 → bit r i ≡ ((eqb i b && (ltb first end && not (eqb hop over))) || bit entries i)) ⌝ }
 {
@@ -38,8 +38,8 @@ fn with_entry(entries: u32, b: u32, first: usize, end: usize, hop: u8, over: u8)
 // The positions of a node with a record whose hop is not the one that covers them from above.
 fn entries_of(
     present: u32,
-    first: &[usize; 63],
-    end: &[usize; 63],
+    first: &[u16; 63],
+    end: &[u16; 63],
     hops: &[u8; 31],
     inherited: u8,
 ) -> u32
@@ -65,20 +65,19 @@ fn entries_of(
 // Writes the kept entries of a node and all below it, where `inherited` covers it from above, and says how many they are.
 pub fn aggregate_consistent_map(
     table: &[u8],
-    lo: usize,
-    hi: usize,
+    lo: u16,
+    hi: u16,
     depth: usize,
     key: u64,
     inherited: u8,
     out: &mut [u8],
 ) -> usize
     requires { ⌜ Node (now table) lo hi depth key ⌝ }
-    requires { ⌜ inherited ≤ 64 ⌝ }
-    ensures { λ r. ⌜ r + 6 ≤ 8 * 2 ^ (wide - depth) ⌝ }
+    requires { ⌜ inherited ≤ noHop ⌝ }
     ensures { λ r. ⌜ Wrote (walk (consistentMapOut wide (run (now (table .entry)) lo hi)) (consistentMapNext wide (run (now (table .entry)) lo hi)) (wide - depth) key (hopOf inherited)) 0 r (now (out .entry)) (now (out .exit)) ⌝ }
 {
-    let mut first = [0usize; 63];
-    let mut end = [0usize; 63];
+    let mut first = [0u16; 63];
+    let mut end = [0u16; 63];
     let g = gather_run(table, lo, hi, depth, key, &mut first, &mut end);
     let hops = covering_hops(table, g.present, &first, &end, inherited);
     let entries = entries_of(g.present, &first, &end, &hops, inherited);

@@ -26,12 +26,12 @@ use Rattle.positions.specs.Runs.{inside, sizeAt, placeAt, memberOver}
 use Rattle.positions.proofs.Runs.{Nested, nested-start, throughout-under}
 use Rattle.positions.proofs.RunsNode.{size-slot, above-lt, ownAt, slot-run, level-held, level-covered, halves-covered}
 use Rattle.nodes.specs.Node.{wide, run, slotSize, Node}
-use Rattle.nodes.specs.Gathered.{some, runAt, levelOf, Gathered, Occupied}
-use Rattle.nodes.proofs.GatherLaws.{node-run, slot-records, no-child, member-is, has-record, slot-vacant, slot-occupied, child-node}
-use Rattle.nodes.proofs.GatherPlaces.{in-heap, same-position, level-slot, place-in, place-at}
-use Rattle.nodes.proofs.BusySlots.{next-steps}
-use Rattle.nodes.proofs.MarkedBits.{Marked, passes-up, marked-none, marked-take, marked-skip, marked-all}
-use Rattle.nodes.proofs.MemberLaws.{slot-is}
+use Rattle.gather.specs.Gathered.{runAt, levelOf, Gathered, Occupied}
+use Rattle.gather.proofs.GatherLaws.{node-run, slot-records, no-child, member-is, has-record, slot-vacant, slot-occupied, child-node}
+use Rattle.gather.proofs.GatherPlaces.{in-heap, same-position, level-slot, place-in, place-at}
+use Rattle.gather.proofs.BusySlots.{next-steps}
+use Rattle.gather.proofs.MarkedBits.{Marked, passes-up, marked-none, marked-take, marked-skip, marked-all}
+use Rattle.gather.proofs.MemberLaws.{slot-is}
 use Rattle.cover.specs.Coverage.{coveredIn, recordOver}
 
 -- ---- Positions covered by the routes inside them.

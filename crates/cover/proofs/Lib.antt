@@ -1,4 +1,2 @@
 -- The laws of cover.
 pub mod CoverLaws
-pub mod MaximalLaws
-pub mod MaximalRoom

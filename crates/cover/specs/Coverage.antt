@@ -1,42 +1,21 @@
--- The positions of a node that members cover, and the routes of a node that mode 1 walks.
-use Prim.Native.Nat.{ℕ, zero, suc, _-_, _/_, _^_, _≤_, _<_}
-use mathlib.Core.Path.{_≡_}
-use mathlib.Core.Bool.{Bool, false, not, _&&_, _||_}
-use mathlib.Core.List.{List, [], _∷_}
+-- What covers a position of a node: the routes inside it, or a record at it or above it.
+use Prim.Native.Nat.{ℕ, zero, suc, _/_}
+use mathlib.Core.Bool.{Bool, _||_}
+use mathlib.Core.List.{List}
 use lib.Dec.{ltb}
 use lib.ListN.{getD}
 use Rattle.theory.specs.Routes.{Route, held}
-use Rattle.theory.specs.Results.{throughout, part}
-use Rattle.words.specs.Bits.{bit}
+use Rattle.theory.specs.Results.{throughout}
 use Rattle.words.specs.Positions.{position}
-use Rattle.positions.specs.Runs.{inside, sizeAt, placeAt, memberOver}
+use Rattle.positions.specs.Runs.{inside, sizeAt, placeAt}
 use Rattle.nodes.specs.Node.{wide}
 
 -- Do the routes of t that lie in position j of level l cover every address of it?
 abbrev pub coveredIn : ℕ → ℕ → List Route → ℕ → ℕ → Bool
 coveredIn m a t l j = throughout (held wide (inside wide (sizeAt m l) (placeAt m a l j) t)) (sizeAt m l) (placeAt m a l j)
 
--- cov has the positions of the node (m + 5, a) that the routes t cover, those that lie in them or stand above them.
-pub record IsCoverage (m a : ℕ) (t : List Route) (cov : ℕ) : Type 0 where
-  pub positions : (l j : ℕ) → l ≤ 4 → j < 2 ^ l → bit cov (position l j) ≡ throughout (held wide t) (sizeAt m l) (placeAt m a l j)
-  pub top : bit cov 31 ≡ false
-
--- The own words of a node in the room of mode 1: its coverage.
-abbrev pub coverageWord : ℕ → ℕ → List Route → List ℕ → Type 0
-coverageWord m a t ws = (cov : ℕ) × (ws ≡ cov ∷ []) × IsCoverage m a t cov
-
--- The routes of the node (m + 5, a) in the slots below no member of it: those that mode 1 walks.
-abbrev pub uncovered : ℕ → ℕ → List Route → List Route
-uncovered m a t = part (λ r. not (memberOver wide m a t 5 ((r .addr - a) / 2 ^ m))) t
-
 -- Does a record stand at position j of level l or above it, by the records of each place?
 unfoldable pub recordOver : List ℕ → List ℕ → ℕ → ℕ → Bool
 recordOver first end zero j = ltb (getD first (position zero j) 0) (getD end (position zero j) 0)
 recordOver first end (suc l) j =
     ltb (getD first (position (suc l) j) 0) (getD end (position (suc l) j) 0) || recordOver first end l (j / 2)
-
--- r has the positions of cov that are below no position of cov; none where one above the node is covered.
-pub record Entries (above : Bool) (cov r : ℕ) : Type 0 where
-  pub root : bit r (position 0 0) ≡ (not above && bit cov (position 0 0))
-  pub below : (l j : ℕ) → suc l ≤ 4 → j < 2 ^ suc l
-      → bit r (position (suc l) j) ≡ (not above && (bit cov (position (suc l) j) && not (bit cov (position l (j / 2)))))

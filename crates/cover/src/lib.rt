@@ -1,4 +1,3 @@
-// What the members of a set cover, node by node: the cover query, and mode 1.
+// What the members of a set cover, node by node: the cover query.
 
-pub mod maximal;
 pub mod query;

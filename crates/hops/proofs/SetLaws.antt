@@ -20,6 +20,7 @@ use Rattle.theory.proofs.Chosen.{sorted-union, sorted-common, sorted-unique, sm
 use Rattle.theory.proofs.Preserve.{has-one}
 use Rattle.words.specs.Bits.{bit}
 use Rattle.words.proofs.BitLaws.{bit-zero, bit-and, bit-or, bit-one, same-bits, trailing-lowest, if-lt, if-eq}
+use Rattle.positions.specs.Runs.{noHop, hopOf}
 use Rattle.hops.specs.Sets.{ShowsHops, ShowsSet}
 
 -- ---- one word for a set, one set for a word
@@ -98,6 +99,11 @@ shows-one h l = record {
     or-false : (b : Bool) → b ≡ (b || false)
     or-false true = refl
     or-false false = refl
+
+-- What a hop of the code says is shown by some word.
+pub hop-shown : (h : ℕ) → (x : ℕ) × ShowsSet x (leaf (hopOf h))
+hop-shown h =
+    if-lt (λ t. (x : ℕ) × ShowsSet x (leaf (cond t (via h) none))) h noHop (λ lt. (1 * 2 ^ h % 2 ^ 64, (shows-one h lt, tt))) (λ le. (0, refl))
 
 module _ (x y : ℕ) (s t : List ℕ) (p : ShowsHops x s) (q : ShowsHops y t) where
   -- `x & y` shows the hops of both.

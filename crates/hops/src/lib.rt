@@ -1,15 +1,18 @@
-// Candidate sets as 64-bit words: hop h is bit h; the word 0 is a hole.
+// Hops, and candidate sets of them as 64-bit words: hop h is bit h; the word 0 is a hole.
 
 ghost use mathlib.Core.Path.{_≡_};
 ghost use mathlib.Core.List.{List};
 ghost use Prim.Native.Nat.{ℕ, _≤_, _<_};
 ghost use Rattle.theory.specs.Results.{Cand, leaf};
-ghost use Rattle.positions.specs.Runs.{hopOf, orElse};
+ghost use Rattle.positions.specs.Runs.{noHop, hopOf, orElse};
 ghost use Rattle.hops.specs.Sets.{ShowsHops, ShowsSet};
+
+// No hop: the number above all hops, `noHop` in contracts.
+pub const NO_HOP: u8 = 64;
 
 // The set of one hop.
 pub fn one(h: u8) -> u64
-    requires { ⌜ h < 64 ⌝ }
+    requires { ⌜ h < noHop ⌝ }
     ensures { λ r. ⌜ ShowsSet r (leaf (hopOf h)) ⌝ }
 {
     1 << h
@@ -35,9 +38,9 @@ pub fn combine(left: u64, right: u64) -> u64
 // The hop of a region where all addresses have one answer: the hop that covers it, or the one that fills what has none.
 pub fn leaf_value(covering: u8, fill: u8) -> u8
     ensures { λ r. ⌜ hopOf r ≡ orElse (hopOf covering) (hopOf fill) ⌝ }
-    ensures { λ r. ⌜ (covering ≤ 64 → fill ≤ 64 → r ≤ 64) ⌝ }
+    ensures { λ r. ⌜ (covering ≤ noHop → fill ≤ noHop → r ≤ noHop) ⌝ }
 {
-    if covering < 64 { covering } else { fill }
+    if covering < NO_HOP { covering } else { fill }
 }
 
 // Its candidates.
@@ -45,31 +48,35 @@ pub fn leaf_set(covering: u8, fill: u8) -> u64
     ensures { λ r. ⌜ ShowsSet r (leaf (orElse (hopOf covering) (hopOf fill))) ⌝ }
 {
     let h = leaf_value(covering, fill);
-    if h < 64 { one(h) } else { 0 }
+    if h < NO_HOP { one(h) } else { 0 }
 }
 
 // Is the hop in the set? None is in no set.
 pub fn has(set: u64, h: u8) -> bool
     ensures { λ r. ⌜ ((s : List ℕ) → ShowsHops set s → r ≡ Rattle.theory.specs.Results.allowed (hopOf h) s) ⌝ }
 {
-    if h < 64 { (set >> h) % 2 == 1 } else { false }
+    if h < NO_HOP {
+        (set >> h) % 2 == 1
+    } else {
+        false
+    }
 }
 
 // The smallest hop of a set.
 pub fn smallest(set: u64) -> u8
     requires { ⌜ 0 < set ⌝ }
-    ensures { λ r. ⌜ ((s : List ℕ) → ShowsHops set s → r ≡ Rattle.theory.specs.Results.smallest s) × (r < 64) ⌝ }
+    ensures { λ r. ⌜ ((s : List ℕ) → ShowsHops set s → r ≡ Rattle.theory.specs.Results.smallest s) × (r < noHop) ⌝ }
 {
     (u64::trailing_zeros(set) % 64) as u8
 }
 
-// What a position with this set is assigned, where `above` is assigned above it; 64 for nothing.
+// What a position with this set is assigned, where `above` is assigned above it; NO_HOP for nothing.
 pub fn assign(set: u64, above: u8) -> u8
     ensures { λ r. ⌜ ((S : Cand) → ShowsSet set S → hopOf r ≡ Rattle.theory.specs.Results.assigned Rattle.theory.specs.Results.smallest S (hopOf above)) ⌝ }
-    ensures { λ r. ⌜ (above ≤ 64 → r ≤ 64) ⌝ }
+    ensures { λ r. ⌜ (above ≤ noHop → r ≤ noHop) ⌝ }
 {
     if set == 0 {
-        return 64;
+        return NO_HOP;
     }
     if has(set, above) {
         above

@@ -1,19 +1,10 @@
--- The laws of nodes.
+-- The laws of what a node writes, and of the work room.
 pub mod OutputLaws
 pub mod OutputLevels
 pub mod OutputHeads
-pub mod GatherPlaces
-pub mod GatherRuns
-pub mod GatherSteps
-pub mod GatherSlots
-pub mod GatherCovers
+pub mod OutputWalk
 pub mod RoomLaws
 pub mod RoomBlocks
 pub mod RoomSizes
 pub mod RoomWalk
 pub mod RoomNodes
-pub mod GatherLaws
-pub mod MemberLaws
-pub mod OutputWalk
-pub mod BusySlots
-pub mod MarkedBits

@@ -1,21 +1,21 @@
 -- What is written of a node by parts: nothing, one record, one part after another, and a part lent as the output's tail; the whole at the end;
--- the entries that begin at a slot as a walk has them; and how many records the slots of a node can have. Assumes nothing.
+-- and the entries that begin at a slot as a walk has them. Assumes nothing.
 use Prim.Native.Nat.{ℕ, zero, suc, _+_, _-_, _*_, _/_, _%_, _^_, _≤_, _<_}
 use mathlib.Core.Path.{_≡_, refl, sym, ap, ap₂, _∙_}
 use mathlib.Core.Bool.{Bool, true, false}
 use mathlib.Core.List.{List, [], _∷_, _++_, append-nil}
 use native.Mathlib.Omega.{arith}
-use native.Mathlib.Nat.{add-zero, add-mul, mul-comm, mul-assoc, mul-le-mul-right, div-add-mod'}
+use native.Mathlib.Nat.{add-zero, mul-comm, mul-assoc, div-add-mod'}
 use native.Mathlib.Numerals.{add-one}
 use lib.Dec.{eqb}
 use lib.ListN.{length, take, drop, length-append, length-drop, drop-of-length-le}
-use lib.Pow.{pow-pos, pow-add, pow-mono}
+use lib.Pow.{pow-pos, pow-add}
 use lib.Seq.{take-all}
 use borrow.Author.Tests.{eqb-true}
 use Rattle.theory.specs.Routes.{Route}
-use Rattle.table.specs.Wire.{recordOf, bytesOf, laid}
-use Rattle.table.proofs.Laid.{laid-none, laid-then, laid-tail, bytes-append}
-use Rattle.table.proofs.Written.{length-bytes}
+use Rattle.records.specs.Wire.{recordOf, bytesOf, laid}
+use Rattle.records.proofs.Laid.{laid-none, laid-then, laid-tail, bytes-append}
+use Rattle.records.proofs.Written.{length-bytes}
 use Rattle.positions.specs.Runs.{sizeAt, placeAt}
 use Rattle.positions.specs.Walk.{headsOf, slotsOf, startsAt, heads, slots}
 use Rattle.positions.specs.Wide.{narrow, narrowed}
@@ -137,23 +137,6 @@ slot-within depth key c deep lt h =
 -- so it stands at one.
 pub slot-below : (depth key c : ℕ) → depth ≤ 30 → c < 32 → key + 2 ^ (wide - depth) ≤ 2 ^ wide → placeAt (slotSize depth) key 5 c < 2 ^ wide
 slot-below depth key c deep lt h = omega (arith, slot-within depth key c deep lt h, pow-pos (wide - (depth + 5)))
-
--- ---- How many records the slots of a node can have.
-
--- With c slots of at most K - 1 records each, so with one slot more.
-pub slots-count : (K c n e k : ℕ) → n + c ≤ c * K → (e + k) + 1 ≤ K → (n + (e + k)) + (c + 1) ≤ (c + 1) * K
-slots-count K c n e k all one = let s : (c + 1) * K ≡ c * K + 1 * K = add-mul c 1 K in omega arith
-
--- All 32 slots of a node, each of size m: 32 fewer than 8 for each address.
-pub node-count : (m n : ℕ) → n + 32 ≤ 32 * (8 * 2 ^ m) → n + 32 ≤ 8 * 2 ^ (m + 5)
-node-count m n h = let e : 2 ^ (m + 5) ≡ 2 ^ m * 32 = pow-add 2 m 5 in omega arith
-
--- After any of its slots there are few enough to count.
-pub slots-small : (m c n : ℕ) → m ≤ 30 → c ≤ 32 → n + c ≤ c * (8 * 2 ^ m) → n + c ≤ 2 ^ 38
-slots-small m c n h b all =
-    let one : 2 ^ m ≤ 2 ^ 30 = pow-mono h in
-    let more : c * (8 * 2 ^ m) ≤ 32 * (8 * 2 ^ m) = mul-le-mul-right (8 * 2 ^ m) b in
-    omega arith
 
 -- ---- A node written by its slots.
 

@@ -6,8 +6,8 @@ use mathlib.Core.Logic.{_↔_}
 use native.Mathlib.Omega.{arith}
 use lib.ListN.{length}
 use Rattle.theory.specs.Routes.{Route}
-use Rattle.table.specs.Wire.{routesFrom}
-use Rattle.table.proofs.Reading.{length-from}
+use Rattle.records.specs.Wire.{routesFrom}
+use Rattle.records.proofs.Reading.{length-from}
 use Rattle.positions.specs.Runs.{inside, placeAt}
 use Rattle.positions.proofs.Runs.{Nested, nested-self, inside-nested}
 use Rattle.positions.proofs.RunsNode.{size-slot, place-nested}

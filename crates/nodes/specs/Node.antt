@@ -4,7 +4,8 @@ use mathlib.Core.Path.{_≡_}
 use mathlib.Core.List.{List}
 use Rattle.theory.specs.Routes.{Route, All, Table, Aligned}
 use Rattle.theory.specs.Shapes.{Within}
-use Rattle.table.specs.Wire.{records, routesFrom, routeAt}
+use Rattle.records.specs.Wire.{records, routesFrom, routeAt}
+use Rattle.positions.specs.Runs.{noHop}
 use Rattle.positions.specs.Wide.{widen, widened}
 
 -- The width of a wide address, and how many bits it has more than an address of the wire.
@@ -26,7 +27,7 @@ run t lo hi = widened spare (routesFrom t lo (hi - lo))
 abbrev pub slotSize : ℕ → ℕ
 slotSize depth = 30 - depth
 
--- The records lo..hi are those of a node at a depth of 0, 5, .. 30 and a key: in order, inside it, of lengths up to 32, by hops below 64.
+-- The records lo..hi are those of a node at a depth of 0, 5, .. 30 and a key: in order, inside it, of lengths up to 32, by hops.
 pub record Node (t : List ℕ) (lo hi depth key : ℕ) : Type 0 where
   pub low : lo ≤ hi
   pub high : hi ≤ records t
@@ -38,4 +39,4 @@ pub record Node (t : List ℕ) (lo hi depth key : ℕ) : Type 0 where
   pub table : Table wide (run t lo hi)
   pub within : All (Within wide (wide - depth) key) (run t lo hi)
   pub short : All (λ r. r .len ≤ 32) (run t lo hi)
-  pub hops : All (λ r. r .hop < 64) (run t lo hi)
+  pub hops : All (λ r. r .hop < noHop) (run t lo hi)

@@ -1,6 +1,6 @@
 // Writing the entries of a node's positions, slot by slot, in table order. Where the output has no room nothing is written, but it is counted.
 
-use table::records::write_record;
+use records::write_record;
 use words::bits::has_bit;
 use words::bits::next_bit;
 use words::bits::with_bit;
@@ -8,8 +8,7 @@ ghost use mathlib.Core.Path.{_≡_};
 ghost use Prim.Native.Nat.{ℕ, _+_, _-_, _*_, _%_, _^_, _≤_, _<_};
 ghost use mathlib.Core.List.{[], _∷_};
 ghost use lib.Dec.{eqb, leb};
-ghost use lib.ListN.{length};
-ghost use Rattle.table.specs.Wire.{route};
+ghost use Rattle.records.specs.Wire.{route};
 ghost use Rattle.words.specs.Positions.{position};
 ghost use Rattle.nodes.specs.Node.{wide};
 ghost use Rattle.nodes.specs.Output.{Wrote, slotHead, slotHeads, HeadSlots};
@@ -85,7 +84,6 @@ pub fn emit_slot(
     out: &mut [u8],
 ) -> usize
     requires { ⌜ (c < 32) × ((depth ≤ 30) × (addr < 2 ^ wide)) ⌝ }
-    ensures { λ r. ⌜ r ≤ 5 ⌝ }
     ensures { λ r. ⌜ Wrote (slotHeads entries (now (hops .entry)) depth addr c 5) 0 r (now (out .entry)) (now (out .exit)) ⌝ }
 {
     if entries == 0 {

@@ -1,34 +1,34 @@
 -- The first walk of a node: its sets and its blocks by those of its slots, from the last slot to the first.
-use Prim.Native.Nat.{ℕ, zero, suc, _+_, _-_, _*_, _/_, _^_, _≤_, _<_}
+use Prim.Native.Nat.{ℕ, _+_, _-_, _*_, _/_, _^_, _≤_, _<_}
 use mathlib.Core.Path.{_≡_, refl, sym, ap, subst, _∙_}
-use mathlib.Core.Bool.{Bool, true, false, cond}
-use mathlib.Core.List.{List, [], _∷_}
+use mathlib.Core.List.{List, []}
 use mathlib.Core.Logic.{_⊎_, inl, inr}
-use native.Mathlib.Decide.{decLt}
 use native.Mathlib.Nat.{eq-or-lt-of-le}
 use native.Mathlib.Omega.{arith}
 use lib.ListN.{length, getD, set, length-set}
 use lib.Seq.{getD-set-same, getD-set-other}
 use Rattle.theory.specs.Routes.{Route, Answer}
-use Rattle.theory.specs.Results.{Cand, leaf, sets}
+use Rattle.theory.specs.Results.{sets}
 use Rattle.theory.proofs.Agree.{sets-agree}
 use Rattle.theory.proofs.Uniform.{sets-uniform}
 use Rattle.words.specs.Bits.{LastBit}
 use Rattle.words.specs.Positions.{position}
+use Rattle.nodecount.specs.Walk.{slotNodes}
 use Rattle.positions.specs.Runs.{hopOf, orElse, placeAt}
 use Rattle.hops.specs.Sets.{ShowsSet}
 use Rattle.nodes.specs.Node.{wide, run, slotSize, Node}
-use Rattle.nodes.specs.Gathered.{runAt, Gathered, Occupied, coveringAt}
-use Rattle.nodes.specs.Room.{Pushed, Block, nodesDeep, slotNodes, nodesBelow, Laid, SlotsLaid}
-use Rattle.nodes.proofs.GatherLaws.{slot-records, no-child, slot-vacant}
+use Rattle.nodes.specs.Room.{Pushed, Block, nodesDeep, nodesBelow, Laid, SlotsLaid}
 use Rattle.nodes.proofs.RoomLaws.{pushed-length}
 use Rattle.nodes.proofs.RoomBlocks.{block-deep}
 use Rattle.nodes.proofs.RoomSizes.{Sized, nodes-below-deep, block-length, room-child}
 use Rattle.nodes.proofs.RoomWalk.{laid-start, laid-next, laid-skip, laid-own}
-use Rattle.nodes.proofs.BusySlots.{last-steps}
-use Rattle.writer.specs.Write.{low, high}
-use Rattle.ortc.specs.Answers.{answerIn, ShowsNode, setWords}
-use Rattle.ortc.specs.Packed.{stored, wordsOf, packed}
+use Rattle.gather.specs.Gathered.{runAt, Gathered, Occupied, coveringAt}
+use Rattle.gather.proofs.GatherLaws.{slot-records, no-child, slot-vacant}
+use Rattle.gather.proofs.BusySlots.{last-steps}
+use Rattle.assign.specs.Answers.{answerIn, ShowsNode, setWords}
+use Rattle.assign.specs.Packed.{packed}
+use Rattle.assign.proofs.PackedLaws.{packed-length}
+use Rattle.assign.proofs.LeafLaws.{leafAt}
 use Rattle.ortc.proofs.SlotLaws.{slot-alike, slot-some-routes, slot-block}
 
 -- ---- The words of a node.
@@ -39,67 +39,11 @@ node-set {f} {m} {a} {xs} s =
     let e : placeAt m a 0 0 ≡ a = omega arith in
     rw e at (s .places 0 0 (omega arith) (omega arith))
 
--- ---- How many words a node has.
-
-words-length : (xs : List ℕ) (k : ℕ) → length (wordsOf xs k) ≤ 2 * k
-unfolding wordsOf
-words-length xs zero = omega arith
-words-length xs (suc k) = go (stored xs (30 - k)) (words-length xs k)
-  where
-    go : (s : Bool) → length (wordsOf xs k) ≤ 2 * k
-        → length (cond s (low (getD xs (30 - k) 0) ∷ high (getD xs (30 - k) 0) ∷ wordsOf xs k) (wordsOf xs k)) ≤ 2 * suc k
-    go true h = omega arith
-    go false h = omega arith
-
--- At most 63: a mask, and two for each of 31 positions.
-pub packed-length : (xs : List ℕ) → length (packed xs) ≤ 63
-packed-length xs = omega (arith, words-length xs 31)
-
--- So a block has at most 160 for each of its nodes.
+-- A node has at most 63 words, so a block has at most 160 for each of its nodes.
 pub sets-sized : (f : ℕ → Answer) (k : ℕ) → Sized 160 (Block (setWords f) k) (nodesBelow k)
 sets-sized f k =
     block-length 160 (setWords f)
     (λ m a t u w. subst (λ (v : List ℕ). length v ≤ 160) (sym (w .2)) (omega (arith, packed-length (w .0)))) k
-
--- ---- The sets of the slots that have no record.
-
--- The set of slot i if it has no record, by the hops that cover the node's positions.
-abbrev pub leafAt : List ℕ → ℕ → ℕ → Cand
-leafAt covering fill i = leaf (orElse (hopOf (getD covering (15 + i / 2) 0)) (hopOf fill))
-
--- Those of the slots under the first p positions of the lowest level are in their places.
-pub record Leaves (covering : List ℕ) (fill p : ℕ) (slots : List ℕ) : Type 0 where
-  pub count : length slots ≡ 63
-  pub shown : (i : ℕ) → i < 2 * p → ShowsSet (getD slots (31 + i) 0) (leafAt covering fill i)
-
--- One more position: the two slots under it.
-pub leaves-next : {covering : List ℕ} {fill p : ℕ} {slots : List ℕ} → Leaves covering fill p slots → p < 16
-    → (v : ℕ) → ShowsSet v (leaf (orElse (hopOf (getD covering (15 + p) 0)) (hopOf fill)))
-    → Leaves covering fill (p + 1) (set (set slots (31 + 2 * p) v) (32 + 2 * p) v)
-leaves-next {covering} {fill} {p} {slots} h lt v is =
-    record { count = length-set one (32 + 2 * p) v ∙ sized; shown = λ i le. go i le (decLt i (2 * p)) (decLt i (2 * p + 1)) }
-  where
-    one : List ℕ
-    one = set slots (31 + 2 * p) v
-
-    sized : length one ≡ 63
-    sized = length-set slots (31 + 2 * p) v ∙ h .count
-
-    -- The set is that of both slots under the position.
-    under : (i : ℕ) → i / 2 ≡ p → ShowsSet v (leafAt covering fill i)
-    under i e = rw e is
-
-    go : (i : ℕ) → i < 2 * (p + 1) → Dec (i < 2 * p) → Dec (i < 2 * p + 1)
-        → ShowsSet (getD (set one (32 + 2 * p) v) (31 + i) 0) (leafAt covering fill i)
-    go i le (yes before) d =
-        rw (getD-set-other one (32 + 2 * p) (31 + i) v 0 (λ z. omega arith), getD-set-other slots (31 + 2 * p) (31 + i) v 0 (λ z. omega arith)) (h .shown i before)
-    go i le (no n) (yes left) =
-        let e : i ≡ 2 * p = omega arith in
-        rw (getD-set-other one (32 + 2 * p) (31 + i) v 0 (λ z. omega arith), e, getD-set-same slots (31 + 2 * p) v 0 (omega (arith, h .count))) (under (2 * p) (omega arith))
-    go i le (no n) (no m) =
-        let e : i ≡ 2 * p + 1 = omega arith in
-        let f : 31 + i ≡ 32 + 2 * p = omega arith in
-        rw (f, getD-set-same one (32 + 2 * p) v 0 (omega (arith, sized))) (under i (omega arith))
 
 -- ---- The loop over the slots of a node that have a record, from the last to the first.
 
@@ -208,7 +152,7 @@ module _ {t : List ℕ} {lo hi depth key : ℕ} {first end : List ℕ} {present 
     -- There is room for the node in it,
     pub collecting-room : 160 * nodesBelow (nodesDeep (depth + 5)) slot (runAt t first end (31 + c)) ≤ at
     collecting-room =
-        let room : 160 * (1 + slotNodes (nodesBelow (nodesDeep (depth + 5))) (slotSize depth) key (run t lo hi) (c + 1)) ≤ at = rw e at (h .laid .room) in
+        let room : 160 * (1 + slotNodes wide (nodesBelow (nodesDeep (depth + 5))) (slotSize depth) key (run t lo hi) (c + 1)) ≤ at = rw e at (h .laid .room) in
         rw (here, slot-records g c small)
         (room-child 160 (nodesBelow (nodesDeep (depth + 5))) (slotSize depth) key (run t lo hi) c at room
         (slot-some-routes n g inherited fill c small (over-slot c small) some))

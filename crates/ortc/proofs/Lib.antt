@@ -1,6 +1,4 @@
--- The laws of ortc.
-pub mod PackedLaws
-pub mod AssignLaws
+-- The laws of the two walks.
 pub mod SlotLaws
 pub mod CollectLaws
 pub mod RewriteLaws

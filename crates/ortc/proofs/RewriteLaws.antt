@@ -1,5 +1,5 @@
 -- The second walk of a node: its rewrite by its slots, the rewrite of a slot without routes, and the loop over the slots, a step at a time.
-use Prim.Native.Nat.{ℕ, _+_, _-_, _*_, _/_, _^_, _≤_, _<_}
+use Prim.Native.Nat.{ℕ, _+_, _-_, _/_, _^_, _≤_, _<_}
 use mathlib.Core.Path.{_≡_, refl, sym, ap, _∙_}
 use mathlib.Core.Bool.{Bool, false, cond}
 use mathlib.Core.List.{List, [], _∷_}
@@ -16,23 +16,25 @@ use Rattle.theory.proofs.Quick.{ortc-uniform}
 use Rattle.words.specs.Bits.{bit, NextBit}
 use Rattle.words.specs.Positions.{position}
 use Rattle.words.proofs.BitLaws.{neither}
-use Rattle.positions.specs.Runs.{hopOf, orElse, sizeAt, placeAt}
+use Rattle.positions.specs.Runs.{noHop, hopOf, orElse, sizeAt, placeAt}
 use Rattle.positions.specs.Walk.{walk, stateAt, slots}
 use Rattle.positions.specs.Walks.{ortcOut, ortcNext}
+use Rattle.positions.proofs.Counts.{ortc-few}
 use Rattle.positions.proofs.Modes.{ortc-walk}
 use Rattle.positions.proofs.Slots.{walk-slots, slots-agree}
 use Rattle.nodes.specs.Node.{wide, run, slotSize, Node}
-use Rattle.nodes.specs.Gathered.{runAt, Gathered, Occupied, coveringAt}
 use Rattle.nodes.specs.Output.{Wrote, entryAt, HeadSlots}
 use Rattle.nodes.specs.Room.{Begins, Block, everywhere, nodesDeep, Stored}
-use Rattle.nodes.proofs.GatherLaws.{no-child, slot-vacant, covering-le}
-use Rattle.nodes.proofs.GatherRuns.{run-none}
+use Rattle.gather.proofs.GatherLaws.{node-run, no-child, slot-vacant, covering-le}
+use Rattle.gather.proofs.GatherRuns.{run-none}
 use Rattle.nodes.proofs.OutputWalk.{Walked, walked-none, walked-all, no-heads}
+use Rattle.nodes.proofs.RoomBlocks.{run-length}
 use Rattle.nodes.proofs.RoomWalk.{Ahead, own-stored, ahead-start, ahead-stored, ahead-next, ahead-skip, ahead-end}
-use Rattle.nodes.proofs.BusySlots.{Busy, walked-next, ahead-past}
-use Rattle.ortc.specs.Answers.{answerIn, ShowsNode, setWords, assignedAt, entryOver, LeafSlots}
-use Rattle.ortc.specs.Packed.{packed}
-use Rattle.ortc.proofs.AssignLaws.{state-assigned, AssignedHop, hasEntry, leaf-entry, entries-are}
+use Rattle.gather.specs.Gathered.{runAt, Gathered, Occupied, coveringAt}
+use Rattle.gather.proofs.BusySlots.{Busy, walked-next, ahead-past}
+use Rattle.assign.specs.Answers.{answerIn, ShowsNode, setWords, assignedAt, entryOver, LeafSlots}
+use Rattle.assign.specs.Packed.{packed}
+use Rattle.assign.proofs.AssignLaws.{state-assigned, AssignedHop, hasEntry, leaf-entry, entries-are}
 use Rattle.ortc.proofs.SlotLaws.{slot-alike, slot-block}
 
 -- ---- A node's rewrite, by its slots.
@@ -61,7 +63,7 @@ module _ (f : ℕ → Answer) (m a : ℕ) (g : Answer) where
 -- ---- A region without routes.
 
 -- Its rewrite is one entry at most, by the hop that covers it or else fills.
-pub leaf-rewrite : (t : List ℕ) (lo hi depth key covering fill hop above : ℕ) → hi ≤ lo → depth ≤ 35 → hop ≤ 64 → above ≤ 64
+pub leaf-rewrite : (t : List ℕ) (lo hi depth key covering fill hop above : ℕ) → hi ≤ lo → depth ≤ 35 → hop ≤ noHop → above ≤ noHop
     → hopOf hop ≡ orElse (hopOf covering) (hopOf fill)
     → ortc smallest wide (answerIn (run t lo hi) (hopOf covering) (hopOf fill)) (wide - depth) key (hopOf above) ≡ entryOver key depth hop above
 leaf-rewrite t lo hi depth key covering fill hop above none deep hop-low above-low e =
@@ -71,12 +73,12 @@ leaf-rewrite t lo hi depth key covering fill hop above none deep hop-low above-l
     ∙ rw (← e) (sym (leaf-entry (wide - depth) key depth hop above (omega arith) hop-low above-low)))
 
 -- Some hop says which that is.
-leaf-hop : (covering fill : ℕ) → covering ≤ 64 → fill ≤ 64 → (v : ℕ) × (v ≤ 64) × (hopOf v ≡ orElse (hopOf covering) (hopOf fill))
-leaf-hop covering fill p q = go (decLt covering 64)
+leaf-hop : (covering fill : ℕ) → covering ≤ noHop → fill ≤ noHop → (v : ℕ) × (v ≤ noHop) × (hopOf v ≡ orElse (hopOf covering) (hopOf fill))
+leaf-hop covering fill p q = go (decLt covering noHop)
   where
-    go : Dec (covering < 64) → (v : ℕ) × (v ≤ 64) × (hopOf v ≡ orElse (hopOf covering) (hopOf fill))
-    go (yes lt) = (covering, p, rw (lt-ltb covering 64 lt))
-    go (no ge) = (fill, q, rw (le-ltb covering 64 (omega arith)))
+    go : Dec (covering < noHop) → (v : ℕ) × (v ≤ noHop) × (hopOf v ≡ orElse (hopOf covering) (hopOf fill))
+    go (yes lt) = (covering, p, rw (lt-ltb covering noHop lt))
+    go (no ge) = (fill, q, rw (le-ltb covering noHop (omega arith)))
 
 -- ---- A node in the room.
 
@@ -95,8 +97,8 @@ slotRewrite t first end covering hops depth key fill c =
     (wide - (depth + 5)) (placeAt (slotSize depth) key 5 c) (hopOf (getD hops (15 + c / 2) 0))
 
 -- One without records lists nothing where no entry of its own is marked.
-leaf-none : (t first end covering hops : List ℕ) (depth key fill leaves : ℕ) → LeafSlots covering hops fill leaves → depth ≤ 30 → fill ≤ 64
-    → (c : ℕ) → c < 32 → getD end (31 + c) 0 ≤ getD first (31 + c) 0 → getD covering (15 + c / 2) 0 ≤ 64 → getD hops (15 + c / 2) 0 ≤ 64
+leaf-none : (t first end covering hops : List ℕ) (depth key fill leaves : ℕ) → LeafSlots covering hops fill leaves → depth ≤ 30 → fill ≤ noHop
+    → (c : ℕ) → c < 32 → getD end (31 + c) 0 ≤ getD first (31 + c) 0 → getD covering (15 + c / 2) 0 ≤ noHop → getD hops (15 + c / 2) 0 ≤ noHop
     → bit leaves c ≡ false → slotRewrite t first end covering hops depth key fill c ≡ []
 leaf-none t first end covering hops depth key fill leaves marks deep fill-low c lt none covers-low hops-low clear =
     let v = leaf-hop (getD covering (15 + c / 2) 0) fill covers-low fill-low in
@@ -113,8 +115,8 @@ pub record Opened (t : List ℕ) (lo hi depth key inherited fill above : ℕ) (w
   pub present : ℕ
   pub gathered : Gathered t lo hi depth key first end present
   pub covers : (c : ℕ) → c < 32 → getD covering (15 + c / 2) 0 ≡ coveringAt t first end inherited 4 (c / 2)
-  pub covers-low : (c : ℕ) → c < 32 → getD covering (15 + c / 2) 0 ≤ 64
-  pub hops-low : (c : ℕ) → c < 32 → getD hops (15 + c / 2) 0 ≤ 64
+  pub covers-low : (c : ℕ) → c < 32 → getD covering (15 + c / 2) 0 ≤ noHop
+  pub hops-low : (c : ℕ) → c < 32 → getD hops (15 + c / 2) 0 ≤ noHop
   pub rewritten : ortc smallest wide (answerIn (run t lo hi) (hopOf inherited) (hopOf fill)) (wide - depth) key (hopOf above)
       ≡ slots (entryAt entries hops depth key) (slotRewrite t first end covering hops depth key fill) 32
   pub stored : Stored (setWords (answerIn (run t lo hi) (hopOf inherited) (hopOf fill))) (nodesDeep depth) key (run t lo hi) top work
@@ -132,8 +134,8 @@ pub record Walking (t : List ℕ) (lo hi depth key inherited fill above : ℕ) (
   pub ahead : AheadIn t lo hi depth key inherited fill top work c at
 
 module _ {t : List ℕ} {lo hi depth key : ℕ} {first end : List ℕ} {present : ℕ} (n : Node t lo hi depth key)
-    (g : Gathered t lo hi depth key first end present) (inherited fill above : ℕ) (inherited-low : inherited ≤ 64) (fill-low : fill ≤ 64)
-    (above-low : above ≤ 64) where
+    (g : Gathered t lo hi depth key first end present) (inherited fill above : ℕ) (inherited-low : inherited ≤ noHop) (fill-low : fill ≤ noHop)
+    (above-low : above ≤ noHop) where
   -- By what the passes over the node find.
   pub opened : {work : List ℕ} {top : ℕ} {covering hops : List ℕ} {entries : ℕ} (occupied marked leaves : ℕ)
       → Stored (setWords (answerIn (run t lo hi) (hopOf inherited) (hopOf fill))) (nodesDeep depth) key (run t lo hi) top work
@@ -181,10 +183,10 @@ module _ {t : List ℕ} {lo hi depth key : ℕ} {first end : List ℕ} {present 
       covers : (c : ℕ) → c < 32 → getD covering (15 + c / 2) 0 ≡ coveringAt t first end inherited 4 (c / 2)
       covers c lt = cover 4 (c / 2) (omega arith) (omega arith)
 
-      covers-low : (c : ℕ) → c < 32 → getD covering (15 + c / 2) 0 ≤ 64
+      covers-low : (c : ℕ) → c < 32 → getD covering (15 + c / 2) 0 ≤ noHop
       covers-low c lt = rw (covers c lt) (covering-le n g inherited 4 (c / 2) inherited-low (omega arith) (omega arith))
 
-      hops-low : (c : ℕ) → c < 32 → getD hops (15 + c / 2) 0 ≤ 64
+      hops-low : (c : ℕ) → c < 32 → getD hops (15 + c / 2) 0 ≤ noHop
       hops-low c lt = assigned 4 (c / 2) (omega arith) (omega arith) .0
 
       slot : (c : ℕ) → c < 32
@@ -244,13 +246,22 @@ module _ {t : List ℕ} {lo hi depth key inherited fill above : ℕ} {work : Lis
       → Walking t lo hi depth key inherited fill above work top first end covering hops entries r at n out₀ out
   walking-on b h = record { walked = walked-next (q .quiet) b (h .walked); ahead = ahead-past (q .quiet) b (h .ahead) }
 
-  -- After the last slot the node's rewrite is written, few enough, and its block is read.
+  -- The node's rewrite has at most one entry more than the node has records.
+  pub opened-most : length (slots (entryAt entries hops depth key) (slotRewrite t first end covering hops depth key fill) 32) ≤ (hi - lo) + 1
+  opened-most =
+      let size : wide - depth ≡ slotSize depth + 5 = omega (arith, q .node .deep) in
+      omega (
+        arith,
+        rw size at (ap length (q .rewritten)),
+        ortc-few smallest smallest-chooses (node-run (q .node)) (hopOf inherited) (hopOf fill) (hopOf above),
+        run-length t lo hi,
+      )
+
+  -- After the last slot it is written, and the node's block is read.
   pub walking-end : {c at n : ℕ} {out₀ out : List ℕ}
       → Walking t lo hi depth key inherited fill above work top first end covering hops entries c at n out₀ out → 32 ≤ c
-      → (n + 6 ≤ 8 * 2 ^ (wide - depth))
-      × (((ws : List ℕ) → Block (setWords (answerIn (run t lo hi) (hopOf inherited) (hopOf fill))) (nodesDeep depth) key (run t lo hi) ws → Begins ws top work → at ≡ top + length ws)
-      × Wrote (ortc smallest wide (answerIn (run t lo hi) (hopOf inherited) (hopOf fill)) (wide - depth) key (hopOf above)) 0 n out₀ out)
-  walking-end {c} {at} {n} {out₀} {out} h all =
+      → ((ws : List ℕ) → Block (setWords (answerIn (run t lo hi) (hopOf inherited) (hopOf fill))) (nodesDeep depth) key (run t lo hi) ws → Begins ws top work → at ≡ top + length ws)
+      × Wrote (ortc smallest wide (answerIn (run t lo hi) (hopOf inherited) (hopOf fill)) (wide - depth) key (hopOf above)) 0 n out₀ out
+  walking-end {c} h all =
       let z : c ≡ 32 = omega (arith, h .walked .within) in
-      let done = walked-all (q .node .deep) (h .walked) all in
-      (done .0, (ahead-end (h .ahead) z, rw (q .rewritten) (done .1)))
+      (ahead-end (h .ahead) z, rw (q .rewritten) (walked-all (h .walked) all))

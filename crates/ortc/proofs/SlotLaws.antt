@@ -11,11 +11,11 @@ use Rattle.positions.specs.Runs.{inside, hopOf, orElse, sizeAt, placeAt, cover}
 use Rattle.positions.proofs.Runs.{Nested, nested-self, inside-nested, Run}
 use Rattle.positions.proofs.RunsNode.{place-nested, slot-answer}
 use Rattle.nodes.specs.Node.{wide, run, slotSize, Node}
-use Rattle.nodes.specs.Gathered.{runAt, Gathered, coveringAt}
 use Rattle.nodes.specs.Room.{Block, nodesDeep}
-use Rattle.nodes.proofs.GatherLaws.{node-run, slot-records, covering-is}
 use Rattle.nodes.proofs.RoomBlocks.{BlockAt, run-length, slot-some, deep-step, block-agree}
-use Rattle.ortc.specs.Answers.{answerIn, ShowsNode, setWords}
+use Rattle.gather.specs.Gathered.{runAt, Gathered, coveringAt}
+use Rattle.gather.proofs.GatherLaws.{node-run, slot-records, covering-is}
+use Rattle.assign.specs.Answers.{answerIn, ShowsNode, setWords}
 
 -- ---- A position, by answers that agree on its addresses.
 

@@ -1,18 +1,18 @@
 // The two walks: collect_sets stores the candidate sets of each node, and rewrite assigns hops to them and writes the entries.
 
-use super::assign::assign_nodes;
-use super::assign::emit;
-use super::assign::fold_sets;
-use super::assign::leaf_sets;
-use super::assign::leaf_slots;
-use super::room::push_sets;
+use assign::assign_nodes;
+use assign::emit;
+use assign::fold_sets;
+use assign::leaf_sets;
+use assign::leaf_slots;
+use assign::room::push_sets;
+use gather::covering_hops;
+use gather::gather_run;
+use gather::slot_key;
 use hops::leaf_value;
 use nodes::emit::emit_slot;
 use nodes::emit::head_slots;
 use nodes::emit::past;
-use nodes::gather::covering_hops;
-use nodes::gather::gather_run;
-use nodes::gather::slot_key;
 use words::bits::last_bit;
 use words::bits::next_bit;
 ghost use mathlib.Core.Path.{_≡_};
@@ -20,12 +20,12 @@ ghost use mathlib.Core.List.{List};
 ghost use Prim.Native.Nat.{ℕ, _+_, _-_, _*_, _^_, _≤_, _<_};
 ghost use lib.ListN.{length};
 ghost use Rattle.theory.specs.Results.{sets, ortc};
-ghost use Rattle.positions.specs.Runs.{hopOf};
+ghost use Rattle.positions.specs.Runs.{noHop, hopOf};
 ghost use Rattle.hops.specs.Sets.{ShowsSet};
 ghost use Rattle.nodes.specs.Node.{wide, run, Node};
 ghost use Rattle.nodes.specs.Output.{Wrote};
 ghost use Rattle.nodes.specs.Room.{Block, Begins, nodesDeep, nodesBelow, Laid, Stored};
-ghost use Rattle.ortc.specs.Answers.{answerIn, setWords};
+ghost use Rattle.assign.specs.Answers.{answerIn, setWords};
 
 // What the first walk says of a node: its set, and where its block begins.
 pub struct Collected {
@@ -34,11 +34,11 @@ pub struct Collected {
 }
 
 // The first walk: lays the sets of a node and of all below it into the room, from `top` downward. `inherited` covers the node from above, and
-// `fill` is the hop of what has no route; 64 for none.
+// `fill` is the hop of what has no route; `noHop` for none.
 pub fn collect_sets(
     table: &[u8],
-    lo: usize,
-    hi: usize,
+    lo: u16,
+    hi: u16,
     depth: usize,
     key: u64,
     inherited: u8,
@@ -47,13 +47,13 @@ pub fn collect_sets(
     top: usize,
 ) -> Collected
     requires { ⌜ Node (now table) lo hi depth key ⌝ }
-    requires { ⌜ (inherited ≤ 64) × (fill ≤ 64) ⌝ }
+    requires { ⌜ (inherited ≤ noHop) × (fill ≤ noHop) ⌝ }
     requires { ⌜ (160 * nodesBelow (nodesDeep depth) key (run (now table) lo hi) ≤ top) × (top ≤ length (now work)) ⌝ }
     ensures { λ r. ⌜ ShowsSet (r .set) (sets (answerIn (run (now (table .entry)) lo hi) (hopOf inherited) (hopOf fill)) (wide - depth) key) ⌝ }
     ensures { λ r. ⌜ Laid (setWords (answerIn (run (now (table .entry)) lo hi) (hopOf inherited) (hopOf fill))) (nodesDeep depth) key (run (now (table .entry)) lo hi) top (r .top) (now (work .entry)) (now (work .exit)) ⌝ }
 {
-    let mut first = [0usize; 63];
-    let mut end = [0usize; 63];
+    let mut first = [0u16; 63];
+    let mut end = [0u16; 63];
     let g = gather_run(table, lo, hi, depth, key, &mut first, &mut end);
     let covering = covering_hops(table, g.present, &first, &end, inherited);
     let mut slots = leaf_sets(&covering, fill);
@@ -97,8 +97,8 @@ pub struct Walked {
 // have a record, at which an entry begins or that have one of their own.
 pub fn rewrite(
     table: &[u8],
-    lo: usize,
-    hi: usize,
+    lo: u16,
+    hi: u16,
     depth: usize,
     key: u64,
     inherited: u8,
@@ -109,14 +109,13 @@ pub fn rewrite(
     out: &mut [u8],
 ) -> Walked
     requires { ⌜ Node (now table) lo hi depth key ⌝ }
-    requires { ⌜ (inherited ≤ 64) × ((fill ≤ 64) × (above ≤ 64)) ⌝ }
+    requires { ⌜ (inherited ≤ noHop) × ((fill ≤ noHop) × (above ≤ noHop)) ⌝ }
     requires { ⌜ Stored (setWords (answerIn (run (now table) lo hi) (hopOf inherited) (hopOf fill))) (nodesDeep depth) key (run (now table) lo hi) top (now work) ⌝ }
-    ensures { λ r. ⌜ r .count + 6 ≤ 8 * 2 ^ (wide - depth) ⌝ }
     ensures { λ r. ⌜ ((ws : List ℕ) → Block (setWords (answerIn (run (now (table .entry)) lo hi) (hopOf inherited) (hopOf fill))) (nodesDeep depth) key (run (now (table .entry)) lo hi) ws → Begins ws top (now (work .entry)) → r .top ≡ top + length ws) ⌝ }
     ensures { λ r. ⌜ Wrote (ortc Rattle.theory.specs.Results.smallest wide (answerIn (run (now (table .entry)) lo hi) (hopOf inherited) (hopOf fill)) (wide - depth) key (hopOf above)) 0 (r .count) (now (out .entry)) (now (out .exit)) ⌝ }
 {
-    let mut first = [0usize; 63];
-    let mut end = [0usize; 63];
+    let mut first = [0u16; 63];
+    let mut end = [0u16; 63];
     let g = gather_run(table, lo, hi, depth, key, &mut first, &mut end);
     let covering = covering_hops(table, g.present, &first, &end, inherited);
     let node = assign_nodes(work, top, above);
@@ -154,8 +153,8 @@ pub fn rewrite(
 // A slot of the second walk: its node, where it has records, or else a region where all addresses have one answer.
 fn rewrite_child(
     table: &[u8],
-    lo: usize,
-    hi: usize,
+    lo: u16,
+    hi: u16,
     depth: usize,
     key: u64,
     covering: u8,
@@ -167,9 +166,8 @@ fn rewrite_child(
 ) -> Walked
     requires { ⌜ (lo < hi → Node (now table) lo hi depth key) ⌝ }
     requires { ⌜ (depth ≤ 35) × (key + 2 ^ (wide - depth) ≤ 2 ^ wide) ⌝ }
-    requires { ⌜ (covering ≤ 64) × ((fill ≤ 64) × (above ≤ 64)) ⌝ }
+    requires { ⌜ (covering ≤ noHop) × ((fill ≤ noHop) × (above ≤ noHop)) ⌝ }
     requires { ⌜ (lo < hi → Stored (setWords (answerIn (run (now table) lo hi) (hopOf covering) (hopOf fill))) (nodesDeep depth) key (run (now table) lo hi) top (now work)) ⌝ }
-    ensures { λ r. ⌜ r .count + 6 ≤ 8 * 2 ^ (wide - depth) ⌝ }
     ensures { λ r. ⌜ (hi ≤ lo → r .top ≡ top) ⌝ }
     ensures { λ r. ⌜ (lo < hi → (ws : List ℕ) → Block (setWords (answerIn (run (now (table .entry)) lo hi) (hopOf covering) (hopOf fill))) (nodesDeep depth) key (run (now (table .entry)) lo hi) ws → Begins ws top (now (work .entry)) → r .top ≡ top + length ws) ⌝ }
     ensures { λ r. ⌜ Wrote (ortc Rattle.theory.specs.Results.smallest wide (answerIn (run (now (table .entry)) lo hi) (hopOf covering) (hopOf fill)) (wide - depth) key (hopOf above)) 0 (r .count) (now (out .entry)) (now (out .exit)) ⌝ }

@@ -4,3 +4,5 @@ pub mod Runs
 pub mod RunsNode
 pub mod Slots
 pub mod Modes
+pub mod Hops
+pub mod Counts

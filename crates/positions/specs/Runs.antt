@@ -29,9 +29,13 @@ headHop (r ∷ t) = via (r .hop)
 abbrev pub own : ℕ → ℕ → ℕ → List Route → Answer
 own w n a t = headHop (part (isAt w n a) t)
 
--- What a hop of the code says: below 64 that hop, from 64 on none.
+-- The number by which the code says that there is no hop. Hops are below it.
+abbrev pub noHop : ℕ
+noHop = 64
+
+-- What a hop of the code says: below noHop that hop, else none.
 abbrev pub hopOf : ℕ → Answer
-hopOf h = cond (ltb h 64) (via h) none
+hopOf h = cond (ltb h noHop) (via h) none
 
 -- The first answer, or, where it says nothing, the other.
 abbrev pub orElse : Answer → Answer → Answer

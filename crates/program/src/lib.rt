@@ -1,4 +1,5 @@
-// What document 01's five programs share: a table from standard input, rewritten in a mode, its records and the change printed; or the refusal.
+// What the programs share: a table rewritten in a mode, and its records and the change as text, or the refusal; and document 01's five, which
+// read the table from standard input.
 
 use libc::STDIN_FILENO;
 use libc::STDOUT_FILENO;
@@ -6,17 +7,25 @@ use text::answers::put_rewritten;
 ghost use Prim.Native.Nat.{_≤_};
 ghost use lib.ListN.{length};
 ghost use Rattle.text.specs.Text.{Put};
-ghost use Rattle.program.specs.Printed.{printed};
+ghost use Rattle.program.specs.Printed.{printed, printedIn};
 
-// Lays what the mode's program prints for a table into the buffer, from its start, and says where it ends.
+// Lays what is printed for a table into the buffer, from its start, and says where it ends. The output has 8,200 bytes; the room is lent.
+pub fn answer_in(table: &[u8], mode: u32, default: u32, work: &mut [u32], out: &mut [u8]) -> usize
+    requires { ⌜ 24636 ≤ length (now out) ⌝ }
+    ensures { λ r. ⌜ Put (printedIn mode default 8200 (length (now (work .entry))) (now (table .entry))) 0 r (now (out .entry)) (now (out .exit)) ⌝ }
+{
+    let mut output = [0u8; 8200];
+    let answered = aggregate::rewrite(table, mode, default, &mut output, work);
+    put_rewritten(answered, &output, 2 < mode, 0, out)
+}
+
+// The same in the mode's program of document 01.
 fn answer(table: &[u8], mode: u32, out: &mut [u8]) -> usize
     requires { ⌜ 24636 ≤ length (now out) ⌝ }
     ensures { λ r. ⌜ Put (printed mode (now (table .entry))) 0 r (now (out .entry)) (now (out .exit)) ⌝ }
 {
-    let mut output = [0u8; 8200];
     let mut work = [0u32; 16384];
-    let answered = aggregate::rewrite(table, mode, 0, &mut output, &mut work);
-    put_rewritten(answered, &output, 2 < mode, 0, out)
+    answer_in(table, mode, 0, &mut work, out)
 }
 
 // Reads a table, at most 8,200 bytes of it, and prints the answer in the mode.

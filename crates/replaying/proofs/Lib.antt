@@ -1,2 +1,2 @@
--- The laws of the rooms.
-pub mod RoomLaws
+-- Laws of what replay keeps, and of the rooms that it looks at.
+pub mod KeptLaws

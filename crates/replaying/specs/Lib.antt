@@ -1,2 +1,2 @@
--- What is asked of the rooms.
-pub mod Rooms
+-- What the program replay keeps.
+pub mod Kept

@@ -8,32 +8,27 @@ use Prim.Native.Nat.{ℕ, _≤_}
 use native.Mathlib.Omega.{arith}
 use lib.IntN.{ℤ}
 use lib.ListN.{length}
-use Rattle.table.specs.Calls.{lookupSays, heldSays}
-use Rattle.table.specs.Rules.{Reply, gives, refuses, judge}
-use Rattle.table.specs.Wire.{tableRules}
-use Rattle.table.proofs.Accepted.{not-refused, accepted, refused-exactly}
-use Rattle.calls.specs.Conditions.{RecordCondition, too-long, host-bits, bad-tail, not-after, TableCondition, not-whole, too-many, of-record, RewriteCondition, no-mode, large-default, of-table, short-work, short-output, CoverCondition, of-set, long-query, short-room, First, None}
+use Rattle.lookup.specs.Calls.{lookupSays, heldSays}
+use Rattle.refusals.specs.Rules.{Reply, gives, refuses, judge}
+use Rattle.table.specs.TableRules.{tableRules}
+use Rattle.table.proofs.Accepted.{accepted-exactly, not-refused, accepted, refused-exactly}
+use Rattle.table.proofs.Tested.{table-numbers}
+use Rattle.table.specs.Conditions.{TableCondition}
+use Rattle.calls.specs.Conditions.{RewriteCondition, no-mode, large-default, of-table, short-work, short-output, CoverCondition, of-set, long-query, short-room}
+use Rattle.refusals.specs.Order.{First, None}
 use Rattle.calls.specs.Covering.{coveredBy, coversSays}
 use Rattle.calls.specs.Rewriting.{Written, rewrittenSays}
 use Rattle.calls.specs.declared.Rewritten.{Rewritten}
 use Rattle.calls.specs.declared.Rewritten.the-variants.{Records, Refused}
 use Rattle.calls.specs.declared.Covers.the-variants.{Refused as NotAnswered}
-use Rattle.calls.proofs.Refusals.{accepted-exactly, refused-first, rewrite-refused, rewrite-accepted, covers-refused, covers-answered}
+use Rattle.calls.proofs.Refusals.{rewrite-refused, rewrite-accepted, covers-refused, covers-answered}
 use Rattle.calls.proofs.Settled.{rewritten-same, covers-same}
 use Rattle.suovvamet.specs.Numbers.{numberOf, indexOf}
 use Rattle.suovvamet.specs.Calls.{RewriteInC, CoversInC, LookupInC, HeldInC}
 
 -- ---- No condition has the number 0.
-record-number : {s : Bool} {t : List ℕ} {i n : ℕ} → RecordCondition s t i n → 1 ≤ n
-record-number (too-long f) = omega arith
-record-number (host-bits f) = omega arith
-record-number (bad-tail f) = omega arith
-record-number (not-after f) = omega arith
-
 table-number : {s : Bool} {t : List ℕ} {n i : ℕ} → TableCondition s t n i → 1 ≤ n
-table-number (not-whole f) = omega arith
-table-number (too-many h) = omega arith
-table-number (of-record h c) = record-number c
+table-number {s} {t} {n} {i} c = omega (arith, table-numbers s t n i c .0)
 
 rewrite-number : {t : List ℕ} {mode default room words n i : ℕ} → RewriteCondition t mode default room words n i → 1 ≤ n
 rewrite-number (no-mode f) = omega arith
@@ -131,8 +126,8 @@ module _ {A : Type 0} (t : List ℕ) (v : A) (q : Reply A) (judged : q ≡ judge
 
   refused-table : (n i : ℕ) → q ≡ refuses n i ↔ First (TableCondition false t) n i
   refused-table n i = (
-    λ e. refused-first false t n i .0 (refused-exactly false t v .0 (sym judged ∙ e)),
-    λ f. judged ∙ refused-exactly false t v .1 (refused-first false t n i .1 f),
+    λ e. refused-exactly false t v n i .0 (sym judged ∙ e),
+    λ f. judged ∙ refused-exactly false t v n i .1 f,
   )
 
 -- ---- A lookup.

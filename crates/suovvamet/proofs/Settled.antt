@@ -4,10 +4,10 @@ use mathlib.Core.List.{List}
 use Prim.Native.Nat.{ℕ}
 use lib.IntN.{ℤ}
 use lib.ListN.{length}
-use Rattle.table.specs.Calls.{lookupSays, heldSays}
-use Rattle.table.specs.declared.answers.Lookup.{Lookup}
-use Rattle.table.specs.declared.answers.AddressesHeld.{AddressesHeld}
-use Rattle.table.proofs.Calls.{lookup-unique, held-unique}
+use Rattle.lookup.specs.Calls.{lookupSays, heldSays}
+use Rattle.lookup.specs.declared.answers.Lookup.{Lookup}
+use Rattle.lookup.specs.declared.answers.AddressesHeld.{AddressesHeld}
+use Rattle.lookup.proofs.Calls.{lookup-unique, held-unique}
 use Rattle.calls.specs.Rewriting.{rewrittenSays, countOf, changeOf}
 use Rattle.calls.specs.Covering.{coversSays}
 use Rattle.calls.specs.declared.Rewritten.{Rewritten}

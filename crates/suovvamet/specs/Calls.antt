@@ -4,9 +4,9 @@ use mathlib.Core.Path.{_≡_}
 use mathlib.Core.List.{List}
 use lib.IntN.{ℤ}
 use lib.ListN.{length}
-use Rattle.table.specs.Calls.{lookupSays, lookupReply, heldSays, heldReply}
-use Rattle.table.specs.declared.answers.Lookup.{Lookup}
-use Rattle.table.specs.declared.answers.AddressesHeld.{AddressesHeld}
+use Rattle.lookup.specs.Calls.{lookupSays, lookupReply, heldSays, heldReply}
+use Rattle.lookup.specs.declared.answers.Lookup.{Lookup}
+use Rattle.lookup.specs.declared.answers.AddressesHeld.{AddressesHeld}
 use Rattle.calls.specs.Rewriting.{rewrittenSays, countOf, changeOf, Rewrites}
 use Rattle.calls.specs.Covering.{coversSays, Queried}
 use Rattle.calls.specs.declared.Rewritten.{Rewritten}

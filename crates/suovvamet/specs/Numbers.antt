@@ -1,10 +1,10 @@
 -- The answers of the calls in numbers. The count and the change of a rewrite are `countOf` and `changeOf` of the crate calls.
 use Prim.Native.Nat.{ℕ}
-use Rattle.table.specs.Rules.{Reply, gives, refuses}
-use Rattle.table.specs.declared.answers.Lookup.{Lookup}
-use Rattle.table.specs.declared.answers.Lookup.the-variants.{Route, NoRoute, Refused as NotLooked}
-use Rattle.table.specs.declared.answers.AddressesHeld.{AddressesHeld}
-use Rattle.table.specs.declared.answers.AddressesHeld.the-variants.{Sum, Refused as NotSummed}
+use Rattle.refusals.specs.Rules.{Reply, gives, refuses}
+use Rattle.lookup.specs.declared.answers.Lookup.{Lookup}
+use Rattle.lookup.specs.declared.answers.Lookup.the-variants.{Route, NoRoute, Refused as NotLooked}
+use Rattle.lookup.specs.declared.answers.AddressesHeld.{AddressesHeld}
+use Rattle.lookup.specs.declared.answers.AddressesHeld.the-variants.{Sum, Refused as NotSummed}
 use Rattle.calls.specs.declared.Covers.{Covers}
 use Rattle.calls.specs.declared.Covers.the-variants.{Covered, Uncovered, Refused as NotAnswered}
 

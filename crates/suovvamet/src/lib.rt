@@ -3,37 +3,49 @@
 
 use calls::Covers;
 use calls::Rewritten;
-use table::answers::AddressesHeld;
-use table::answers::Lookup;
+use lookup::answers::AddressesHeld;
+use lookup::answers::Lookup;
 ghost use mathlib.Core.Path.{_≡_};
-ghost use Rattle.table.specs.Calls.{lookupSays, heldSays};
+ghost use Rattle.lookup.specs.Calls.{lookupSays, heldSays};
 ghost use Rattle.calls.specs.Covering.{coversSays};
 ghost use Rattle.calls.specs.Rewriting.{rewrittenSays, countOf, changeOf};
 ghost use Rattle.suovvamet.specs.Numbers.{numberOf, indexOf, coveredOf, foundOf, hopOf, lengthOf, sumOf};
 ghost use Rattle.suovvamet.specs.Calls.{RewriteInC, CoversInC, LookupInC, HeldInC};
 
-// The parts of a rewrite's answer.
-fn rewritten_number(r: Rewritten) -> u32
-    ensures { λ n. ⌜ n ≡ numberOf (rewrittenSays r) ⌝ }
+// A refusal in numbers, both 0 for an answer.
+struct Refusal {
+    number: u32,
+    index: u64,
+}
+
+fn no_refusal() -> Refusal
+    ensures { λ f. ⌜ (f .number ≡ 0) × (f .index ≡ 0) ⌝ }
 {
-    match r {
-        Rewritten::Records {
-            count: _,
-            change: _,
-        } => 0,
-        Rewritten::Refused { number, index: _ } => number as u32,
+    Refusal {
+        number: 0,
+        index: 0,
     }
 }
 
-fn rewritten_index(r: Rewritten) -> u64
-    ensures { λ n. ⌜ n ≡ indexOf (rewrittenSays r) ⌝ }
+fn in_numbers(number: u8, index: usize) -> Refusal
+    ensures { λ f. ⌜ (f .number ≡ number) × (f .index ≡ index) ⌝ }
+{
+    Refusal {
+        number: number as u32,
+        index: index as u64,
+    }
+}
+
+// The parts of a rewrite's answer.
+fn rewritten_refusal(r: Rewritten) -> Refusal
+    ensures { λ f. ⌜ (f .number ≡ numberOf (rewrittenSays r)) × (f .index ≡ indexOf (rewrittenSays r)) ⌝ }
 {
     match r {
         Rewritten::Records {
             count: _,
             change: _,
-        } => 0,
-        Rewritten::Refused { number: _, index } => index as u64,
+        } => no_refusal(),
+        Rewritten::Refused { number, index } => in_numbers(number, index),
     }
 }
 
@@ -78,28 +90,19 @@ pub extern "C" fn suovvamet_rewrite(
     let answer = aggregate::rewrite(table, mode, default, output, work);
     *count = rewritten_count(answer);
     *change = rewritten_change(answer);
-    *index = rewritten_index(answer);
-    rewritten_number(answer)
+    let refused = rewritten_refusal(answer);
+    *index = refused.index;
+    refused.number
 }
 
 // The parts of the cover query's answer.
-fn covers_number(r: Covers) -> u32
-    ensures { λ n. ⌜ n ≡ numberOf (coversSays r) ⌝ }
+fn covers_refusal(r: Covers) -> Refusal
+    ensures { λ f. ⌜ (f .number ≡ numberOf (coversSays r)) × (f .index ≡ indexOf (coversSays r)) ⌝ }
 {
     match r {
-        Covers::Covered => 0,
-        Covers::Uncovered => 0,
-        Covers::Refused { number, index: _ } => number as u32,
-    }
-}
-
-fn covers_index(r: Covers) -> u64
-    ensures { λ n. ⌜ n ≡ indexOf (coversSays r) ⌝ }
-{
-    match r {
-        Covers::Covered => 0,
-        Covers::Uncovered => 0,
-        Covers::Refused { number: _, index } => index as u64,
+        Covers::Covered => no_refusal(),
+        Covers::Uncovered => no_refusal(),
+        Covers::Refused { number, index } => in_numbers(number, index),
     }
 }
 
@@ -130,28 +133,19 @@ pub extern "C" fn suovvamet_covers(
 {
     let answer = aggregate::covers(table, address, length, work);
     *covered = covers_covered(answer);
-    *index = covers_index(answer);
-    covers_number(answer)
+    let refused = covers_refusal(answer);
+    *index = refused.index;
+    refused.number
 }
 
 // The parts of a lookup's answer.
-fn lookup_number(r: Lookup) -> u32
-    ensures { λ n. ⌜ n ≡ numberOf (lookupSays r) ⌝ }
+fn lookup_refusal(r: Lookup) -> Refusal
+    ensures { λ f. ⌜ (f .number ≡ numberOf (lookupSays r)) × (f .index ≡ indexOf (lookupSays r)) ⌝ }
 {
     match r {
-        Lookup::Route { hop: _, length: _ } => 0,
-        Lookup::NoRoute => 0,
-        Lookup::Refused { number, index: _ } => number as u32,
-    }
-}
-
-fn lookup_index(r: Lookup) -> u64
-    ensures { λ n. ⌜ n ≡ indexOf (lookupSays r) ⌝ }
-{
-    match r {
-        Lookup::Route { hop: _, length: _ } => 0,
-        Lookup::NoRoute => 0,
-        Lookup::Refused { number: _, index } => index as u64,
+        Lookup::Route { hop: _, length: _ } => no_refusal(),
+        Lookup::NoRoute => no_refusal(),
+        Lookup::Refused { number, index } => in_numbers(number, index),
     }
 }
 
@@ -206,30 +200,22 @@ pub extern "C" fn suovvamet_lookup(
 ) -> u32
     ensures { λ n. ⌜ LookupInC (now (table .entry)) address n (now (found .exit)) (now (hop .exit)) (now (length .exit)) (now (index .exit)) ⌝ }
 {
-    let answer = table::lookup(table, address);
+    let answer = lookup::lookup(table, address);
     *found = lookup_found(answer);
     *hop = lookup_hop(answer);
     *length = lookup_length(answer);
-    *index = lookup_index(answer);
-    lookup_number(answer)
+    let refused = lookup_refusal(answer);
+    *index = refused.index;
+    refused.number
 }
 
 // The parts of the answer of addresses held.
-fn held_number(r: AddressesHeld) -> u32
-    ensures { λ n. ⌜ n ≡ numberOf (heldSays r) ⌝ }
+fn held_refusal(r: AddressesHeld) -> Refusal
+    ensures { λ f. ⌜ (f .number ≡ numberOf (heldSays r)) × (f .index ≡ indexOf (heldSays r)) ⌝ }
 {
     match r {
-        AddressesHeld::Sum(_) => 0,
-        AddressesHeld::Refused { number, index: _ } => number as u32,
-    }
-}
-
-fn held_index(r: AddressesHeld) -> u64
-    ensures { λ n. ⌜ n ≡ indexOf (heldSays r) ⌝ }
-{
-    match r {
-        AddressesHeld::Sum(_) => 0,
-        AddressesHeld::Refused { number: _, index } => index as u64,
+        AddressesHeld::Sum(_) => no_refusal(),
+        AddressesHeld::Refused { number, index } => in_numbers(number, index),
     }
 }
 
@@ -254,8 +240,9 @@ pub extern "C" fn suovvamet_addresses_held(
 ) -> u32
     ensures { λ n. ⌜ HeldInC (now (table .entry)) n (now (addresses .exit)) (now (index .exit)) ⌝ }
 {
-    let answer = table::addresses_held(table);
+    let answer = lookup::addresses_held(table);
     *addresses = held_sum(answer);
-    *index = held_index(answer);
-    held_number(answer)
+    let refused = held_refusal(answer);
+    *index = refused.index;
+    refused.number
 }

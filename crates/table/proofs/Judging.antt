@@ -8,29 +8,10 @@ use native.Mathlib.Omega.{arith}
 use lib.Dec.{leb}
 use lib.ListN.{length}
 use borrow.Author.Tests.{eq-eqb, ne-eqb, le-leb, lt-leb}
-use Rattle.table.specs.Rules.{Rule, rule, gives, refuses, judge, broken}
-use Rattle.table.specs.Wire.{routeAt, records, hostClear, tailKept, inOrder, recordRules, rulesFrom, tableRules}
-
--- ---- Any list of rules: whether it refuses, and how, does not depend on the value.
--- One value given, any is given.
-pub gives-any : {A B : Type 0} (rs : List Rule) (a c : A) (b : B) → judge rs a ≡ gives c → judge rs b ≡ gives b
-unfolding judge
-gives-any [] a c b e = refl
-gives-any (r ∷ rs) a c b e = go (r .kept) refl (gives-any rs a c b)
-  where
-    go : (k : Bool) → r .kept ≡ k → (judge rs a ≡ gives c → judge rs b ≡ gives b) → judge (r ∷ rs) b ≡ gives b
-    go true p more = rw p (more (rw p at e))
-    go false p more = let z : _≡_ {A = ℕ} 0 1 = cc (rw p at e) in absurd (omega arith)
-
--- One value refused, any is refused alike.
-pub refuses-any : {A B : Type 0} (rs : List Rule) (a : A) (b : B) (n i : ℕ) → judge rs a ≡ refuses n i → judge rs b ≡ refuses n i
-unfolding judge
-refuses-any [] a b n i e = let z : _≡_ {A = ℕ} 0 1 = cc in absurd (omega arith)
-refuses-any (r ∷ rs) a b n i e = go (r .kept) refl (refuses-any rs a b n i)
-  where
-    go : (k : Bool) → r .kept ≡ k → (judge rs a ≡ refuses n i → judge rs b ≡ refuses n i) → judge (r ∷ rs) b ≡ refuses n i
-    go true p more = rw p (more (rw p at e))
-    go false p more = let f = rw p at e in rw p (cc)
+use Rattle.words.specs.Prefix.{hostClear}
+use Rattle.refusals.specs.Rules.{Rule, rule, gives, refuses, judge, broken}
+use Rattle.records.specs.Wire.{routeAt, records}
+use Rattle.table.specs.TableRules.{tailKept, inOrder, recordRules, rulesFrom, tableRules}
 
 -- ---- One record: rules 5 to 8 by the outcome of each.
 abbrev fourRules : ℕ → Bool → Bool → Bool → Bool → List Rule
@@ -62,7 +43,7 @@ module _ {A : Type 0} (a : A) (s : Bool) (t : List ℕ) where
   scan-good i zero h z = absurd (omega arith)
   scan-good i (suc k) h z =
       let e : k ≡ suc k - 1 = omega arith in
-      four-kept i (rulesFrom s t (suc i) k) a (leb (routeAt t i .len) 32) (hostClear (routeAt t i)) (tailKept s t i) (inOrder t i) z
+      four-kept i (rulesFrom s t (suc i) k) a (leb (routeAt t i .len) 32) (hostClear 32 (routeAt t i .addr) (routeAt t i .len)) (tailKept s t i) (inOrder t i) z
       ∙ rw add-one (ap (λ (n : ℕ). judge (rulesFrom s t (suc i) n) a) e)
 
   -- A record that breaks a rule refuses with the first that it breaks.
@@ -70,7 +51,7 @@ module _ {A : Type 0} (a : A) (s : Bool) (t : List ℕ) where
   unfolding rulesFrom recordRules
   scan-bad i zero h n = absurd (omega arith)
   scan-bad i (suc k) h n =
-      four-broken i (rulesFrom s t (suc i) k) a (leb (routeAt t i .len) 32) (hostClear (routeAt t i)) (tailKept s t i) (inOrder t i) n
+      four-broken i (rulesFrom s t (suc i) k) a (leb (routeAt t i .len) 32) (hostClear 32 (routeAt t i .addr) (routeAt t i .len)) (tailKept s t i) (inOrder t i) n
 
   -- No record is left.
   pub scan-end : (i k : ℕ) → k ≡ 0 → judge (rulesFrom s t i k) a ≡ gives a

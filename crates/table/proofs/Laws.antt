@@ -1,15 +1,10 @@
--- Laws that the functions' proofs cite. Assumes nothing.
-use mathlib.Core.Path.{_≡_, refl, ap, _∙_}
+-- A law that the functions' proofs cite. Assumes nothing.
+use mathlib.Core.Path.{_≡_, refl, ap}
 use mathlib.Core.List.{List}
-use Prim.Native.Nat.{ℕ, zero, suc, _-_, _*_, _%_, _^_, _<_}
-use native.Mathlib.Nat.{one-mul, mod-eq-of-lt}
+use Prim.Native.Nat.{ℕ, zero, suc, _-_}
 use native.Mathlib.Omega.{arith}
-use lib.Pow.{pow-lt}
-use Rattle.table.specs.Wire.{routeAt, before, inOrder}
-
--- One shifted by less than 64 places is a power of two.
-pub one-shl : (k : ℕ) → k < 64 → 1 * 2 ^ k % 2 ^ 64 ≡ 2 ^ k
-one-shl k h = ap (λ (n : ℕ). n % 2 ^ 64) (one-mul (2 ^ k)) ∙ mod-eq-of-lt (pow-lt h)
+use Rattle.records.specs.Wire.{routeAt}
+use Rattle.table.specs.TableRules.{before, inOrder}
 
 -- A record that is not the first is in order when the one before it stands before it.
 pub order-next : (t : List ℕ) (i : ℕ) → (i ≡ 0 → ⊥) → before (routeAt t (i - 1)) (routeAt t i) ≡ inOrder t i

@@ -1,17 +1,8 @@
--- The laws of the table on the wire, in the order to read them. The theorems to look for: Accepted.refused-exactly, Tables.accepted-table,
--- table-accepted and bytes-routes, Written.routes-bytes, Laid.laid-then and laid-record, those of Calls, of the three calls, and NodeCount.nodes-pass
--- and nodes-most.
+-- The laws of a table's check, in the order to read them. The theorems to look for: Accepted.accepted-exactly, gives-exactly and refused-exactly,
+-- Tables.accepted-table, table-accepted and bytes-routes, and those of Checking, of the check and of any call that judges a table alone.
 pub mod Laws
 pub mod Judging
+pub mod Tested
 pub mod Accepted
-pub mod Octets
-pub mod Reading
-pub mod Written
 pub mod Tables
-pub mod Laid
-pub mod Longest
-pub mod Calls
-pub mod Examples
-pub mod NodeCount
-pub mod NodePass
-pub mod NodeRuns
+pub mod Checking

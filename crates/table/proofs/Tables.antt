@@ -1,7 +1,7 @@
 -- Accepted bytes are lawful routes written down, and lawful routes written down are accepted. Assumes nothing.
 use Prim.{tt}
 use mathlib.Core.Path.{_≡_, refl, sym, ap, _∙_, subst}
-use mathlib.Core.Bool.{Bool, true}
+use mathlib.Core.Bool.{Bool, true, false}
 use mathlib.Core.List.{List, [], _∷_}
 use mathlib.Core.Logic.{inl, inr}
 use Prim.Native.Nat.{ℕ, zero, suc, _+_, _-_, _*_, _/_, _%_, _^_, _≤_, _<_}
@@ -11,21 +11,17 @@ use lib.ListN.{length}
 use lib.Pow.{split}
 use Rattle.theory.specs.Routes.{Route, Valid, All, nil, cons, Before, Ascending, empty, first}
 use Rattle.theory.proofs.Lists.{all-map}
-use Rattle.table.specs.Facts.{TailKept, OrderKept, Kept, Accepted, Lawful}
-use Rattle.table.specs.Rules.{gives, judge}
-use Rattle.table.specs.Wire.{byteAt, routeAt, routesFrom, records, routes, Bytes, bytesOf, topHop, tableRules}
+use Rattle.theory.proofs.Order.{before-trans}
+use Rattle.table.specs.Conditions.{TailKept, OrderKept, Kept, Accepted, Lawful}
+use Rattle.refusals.specs.Rules.{gives, judge}
+use Rattle.records.specs.Wire.{byteAt, routeAt, routesFrom, records, routes, Bytes, bytesOf}
+use Rattle.table.specs.TableRules.{topHop, tableRules}
 use Rattle.table.proofs.Accepted.{not-refused, accepted}
-use Rattle.table.proofs.Octets.{join-small}
-use Rattle.table.proofs.Reading.{length-from, length-routes}
-use Rattle.table.proofs.Written.{length-bytes, records-bytes, byte-shift, route-shift, route-head, bytes-back}
+use Rattle.records.proofs.Octets.{join-small}
+use Rattle.records.proofs.Reading.{length-from, length-routes}
+use Rattle.records.proofs.Written.{length-bytes, records-bytes, byte-shift, route-shift, route-head, bytes-back}
 
 -- ---- The order.
-pub before-trans : (r s u : Route) → Before r s → Before s u → Before r u
-before-trans r s u (inl a) (inl b) = inl (omega arith)
-before-trans r s u (inl a) (inr b) = inl (omega arith)
-before-trans r s u (inr a) (inl b) = inl (omega arith)
-before-trans r s u (inr a) (inr b) = inr (a .0 ∙ b .0, omega arith)
-
 front : (r s : Route) (rs : List Route) → Before r s → Ascending (s ∷ rs) → Ascending (r ∷ s ∷ rs)
 front r s rs b (first bs a) = first (cons b (all-map (λ u c. before-trans r s u b c) bs)) (first bs a)
 
@@ -94,6 +90,11 @@ module _ {A : Type 0} (a b : A) (s : Bool) (t : List ℕ) (bytes : Bytes t) (ok 
   bytes-routes =
       let k = accepted s t a ok in
       bytes-back t bytes (k .whole) (λ j h. let p = k .each j h .tail-kept in (p .1, p .2))
+
+-- Hops in range are below 64.
+pub hops-below : (s : Bool) {rs : List Route} → All (λ r. r .hop ≤ topHop s) rs → All (λ r. r .hop < 64) rs
+hops-below true h = all-map (λ r l. omega arith) h
+hops-below false h = all-map (λ r l. omega arith) h
 
 -- A set's hops are zero.
 pub set-hops : {rs : List Route} → All (λ r. r .hop ≤ topHop true) rs → All (λ r. r .hop ≡ 0) rs

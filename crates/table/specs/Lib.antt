@@ -1,6 +1,4 @@
--- The definitions of the table on the wire, in the order to read them: how refusals are decided, bytes and routes, what the calls answer.
-pub mod Rules
-pub mod Wire
-pub mod Facts
-pub mod Calls
-pub mod Nodes
+-- The definitions of a table's check, in the order to read them: the rules as tests, what they mean, what the check answers.
+pub mod TableRules
+pub mod Conditions
+pub mod Checking

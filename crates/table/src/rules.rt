@@ -1,15 +1,15 @@
 // The rules 5 to 8 for one record of a table.
 
-use super::prefix::host_clear;
-use super::records::addr_at;
-use super::records::hop_at;
-use super::records::len_at;
+use records::addr_at;
+use records::len_at;
+use words::prefix::host_bits_clear;
 ghost use mathlib.Core.Path.{_≡_};
 ghost use mathlib.Core.Bool.{_||_, _&&_};
 ghost use Prim.Native.Nat.{_<_};
 ghost use lib.Dec.{ltb, eqb};
-ghost use Rattle.table.specs.Rules.{broken};
-ghost use Rattle.table.specs.Wire.{records, topHop, tailKept, inOrder, recordRules};
+ghost use Rattle.refusals.specs.Rules.{broken};
+ghost use Rattle.records.specs.Wire.{records};
+ghost use Rattle.table.specs.TableRules.{topHop, tailKept, inOrder, recordRules};
 
 // The largest hop.
 pub fn top_hop(is_set: bool) -> u8
@@ -71,7 +71,7 @@ pub fn fault(table: &[u8], i: usize, is_set: bool) -> u8
     if 32 < len {
         return 5;
     }
-    if !host_clear(addr_at(table, i), len) {
+    if !host_bits_clear(addr_at(table, i), len) {
         return 6;
     }
     if !tail_kept(table, i, is_set) {

@@ -7,7 +7,7 @@ use native.Mathlib.Numerals.{add-one}
 use native.Mathlib.Omega.{arith}
 use lib.ListN.{length}
 use Rattle.theory.specs.Routes.{Route}
-use Rattle.table.specs.Wire.{records, routeAt, routes, routesFrom}
+use Rattle.records.specs.Wire.{records, routeAt, routes, routesFrom}
 use Rattle.text.specs.Text.{Put, lineOf, linesOf}
 use Rattle.text.proofs.Puts.{put-none}
 

@@ -7,8 +7,8 @@ use native.Mathlib.Omega.{arith}
 use lib.IntN.{ℤ}
 use lib.ListN.{length}
 use Rattle.theory.specs.Routes.{Route}
-use Rattle.table.specs.Rules.{Reply, refuses}
-use Rattle.table.specs.Wire.{records, Bytes}
+use Rattle.refusals.specs.Rules.{Reply, refuses}
+use Rattle.records.specs.Wire.{records, Bytes}
 use Rattle.calls.specs.declared.Rewritten.{Rewritten}
 use Rattle.calls.specs.declared.Rewritten.the-variants.{Records, Refused}
 use Rattle.calls.specs.Rewriting.{countOf, resultOf, rewriteReply, writtenOf, Rewrites}
@@ -19,7 +19,7 @@ use Rattle.text.specs.Answers.{rewrittenText, replyText}
 
 -- A reply that is said as a refusal is that refusal.
 said-refused : (before number index : ℕ) (q : Reply (List Route)) → refuses number index ≡ writtenOf before q → q ≡ refuses number index
-said-refused before number index (Rattle.table.specs.Rules.gives rs) e = cc
+said-refused before number index (Rattle.refusals.specs.Rules.gives rs) e = cc
 said-refused before number index (refuses m i) e = cc
 
 -- Of a rewrite.
@@ -44,6 +44,6 @@ module _ (t : List ℕ) (mode default : ℕ) (o : List ℕ) (words : ℕ) (o′ 
   rewritten-fits (Records count change) ok =
       let f = rewrite-records t mode default o words (Records count change) o′ w′ ok count change refl in
       let size = f .1 in
-      let room = answerable-exactly t mode default (length o) words .0 (f .0) .enough-output in
+      let room = answerable-exactly t mode default (length o) words .0 (f .0) .0 .enough-output in
       omega (arith, rewrite-length t mode default o words (Records count change) o′ w′ ok)
   rewritten-fits (Refused number index) ok = omega arith

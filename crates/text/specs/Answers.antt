@@ -5,12 +5,12 @@ use mathlib.Core.List.{List, [], _∷_, _++_}
 use lib.IntN.{pos, _-ℤ_}
 use lib.ListN.{length, take}
 use Rattle.theory.specs.Routes.{Route}
-use Rattle.table.specs.Rules.{Reply, gives, refuses}
-use Rattle.table.specs.Wire.{routes}
-use Rattle.table.specs.declared.answers.Lookup.{Lookup}
-use Rattle.table.specs.declared.answers.Lookup.the-variants.{Route as Found, NoRoute, Refused as NotLooked}
-use Rattle.table.specs.declared.answers.AddressesHeld.{AddressesHeld}
-use Rattle.table.specs.declared.answers.AddressesHeld.the-variants.{Sum, Refused as NotSummed}
+use Rattle.refusals.specs.Rules.{Reply, gives, refuses}
+use Rattle.records.specs.Wire.{routes}
+use Rattle.lookup.specs.declared.answers.Lookup.{Lookup}
+use Rattle.lookup.specs.declared.answers.Lookup.the-variants.{Route as Found, NoRoute, Refused as NotLooked}
+use Rattle.lookup.specs.declared.answers.AddressesHeld.{AddressesHeld}
+use Rattle.lookup.specs.declared.answers.AddressesHeld.the-variants.{Sum, Refused as NotSummed}
 use Rattle.calls.specs.declared.Rewritten.{Rewritten}
 use Rattle.calls.specs.declared.Rewritten.the-variants.{Records, Refused as NotWritten}
 use Rattle.calls.specs.declared.Covers.{Covers}

@@ -2,15 +2,15 @@
 
 pub mod answers;
 
-use table::records::addr_at;
-use table::records::hop_at;
-use table::records::len_at;
+use records::addr_at;
+use records::hop_at;
+use records::len_at;
 ghost use mathlib.Core.Path.{_≡_};
 ghost use mathlib.Core.List.{[], _∷_, _++_};
 ghost use Prim.Native.Nat.{_+_, _*_, _≤_, _<_};
 ghost use lib.IntN.{natAbs};
 ghost use lib.ListN.{length};
-ghost use Rattle.table.specs.Wire.{records, routeAt, routes};
+ghost use Rattle.records.specs.Wire.{records, routeAt, routes};
 ghost use Rattle.text.specs.Text.{Put, decimal, signed, dotted, hopEnd, lineOf, linesOf, changeLine, refusedLine, foundLine, addressesLine};
 
 // One byte.

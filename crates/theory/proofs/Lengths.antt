@@ -24,8 +24,16 @@ mostOf aggregateConsistentMap n = n
 mostOf aggregateMapDrop n = n
 mostOf (aggregateMapFill d) n = suc n
 
--- Without their hops they are as many.
-length-unhopped : (t : List Route) → length (unhopped t) ≡ length t
+-- In no mode more than one more.
+pub most-of : (mode : Mode) (n : ℕ) → mostOf mode n ≤ n + 1
+most-of aggregateSet n = omega arith
+most-of aggregateConsistentSet n = omega arith
+most-of aggregateConsistentMap n = omega arith
+most-of aggregateMapDrop n = omega arith
+most-of (aggregateMapFill d) n = omega arith
+
+-- Without their hops routes are as many.
+pub length-unhopped : (t : List Route) → length (unhopped t) ≡ length t
 length-unhopped [] = refl
 length-unhopped (r ∷ t) = ap suc (length-unhopped t)
 

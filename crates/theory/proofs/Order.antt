@@ -1,6 +1,6 @@
 -- The rewrite is in table order, its routes are well formed, and its hops are hops of f.
 use Prim.Native.Nat.{ℕ, zero, suc, _+_, _-_, _^_, _≤_, _<_}
-use mathlib.Core.Path.{_≡_}
+use mathlib.Core.Path.{_≡_, _∙_}
 use mathlib.Core.Bool.{Bool, true, false, cond}
 use mathlib.Core.List.{List, [], _∷_, _++_}
 use mathlib.Core.Logic.{_⊎_, inl, inr}
@@ -14,6 +14,13 @@ use Rattle.theory.proofs.Blocks.{pow-pos, aligned-zero, aligned-left, a
 use Rattle.theory.proofs.Hops.{some-chosen, Held, sets-held}
 use Rattle.theory.proofs.Lists.{all-append, all-map}
 use Rattle.theory.proofs.Preserve.{ortc-within}
+
+-- Table order is transitive.
+pub before-trans : (r s u : Route) → Before r s → Before s u → Before r u
+before-trans r s u (inl a) (inl b) = inl (omega arith)
+before-trans r s u (inl a) (inr b) = inl (omega arith)
+before-trans r s u (inr a) (inl b) = inl (omega arith)
+before-trans r s u (inr a) (inr b) = inr (a .0 ∙ b .0, omega arith)
 
 pub valid-within : (w : ℕ) (r : Route) → Valid w r → Within w w 0 r
 valid-within w r v =

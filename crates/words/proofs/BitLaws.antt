@@ -3,11 +3,11 @@ use mathlib.Core.Path.{_≡_, refl, sym, ap, ap₂, _∙_}
 use mathlib.Core.Bool.{Bool, true, false, true≢false, not, _&&_, _||_, and-true, and-false}
 use Prim.Native.Nat.{ℕ, zero, suc, _+_, _-_, _*_, _/_, _%_, _^_, _≤_, _<_, min, max}
 use mathlib.Core.Logic.{_⊎_, inl, inr}
-use native.Mathlib.Nat.{pow-suc, div-lt-iff-lt-mul, le-div-iff-mul-le, div-le-self, eq-zero-or-pos, mod-lt, lt-of-lt-of-le, add-sub-of-le, mul-mod-left, div-eq-of-lt, mul-assoc}
+use native.Mathlib.Nat.{pow-suc, one-mul, mod-eq-of-lt, div-lt-iff-lt-mul, le-div-iff-mul-le, div-le-self, eq-zero-or-pos, mod-lt, lt-of-lt-of-le, add-sub-of-le, mul-mod-left, div-eq-of-lt, mul-assoc}
 use native.Mathlib.Omega.{arith}
 use lib.Dec.{eqb, ltb, leb, lit<}
 use lib.Arith.{digits-mod}
-use lib.Pow.{pow-pos, pow-mono, pow-add, high, shr-shr, shl-shr, field, mod-mod-pow}
+use lib.Pow.{pow-pos, pow-lt, pow-mono, pow-add, high, shr-shr, shl-shr, field, mod-mod-pow}
 use lib.Count.{trailingZeros, leadingZeros, leading-of-zero, leading-top, under}
 use lib.Bits.{bitAnd, bitOr, and-step, or-step, and-shr, or-shr, and-lt}
 use borrow.Author.Tests.{ltb-true, ltb-false, leb-true, leb-false, eqb-true, eqb-false, eq-eqb, ne-eqb}
@@ -35,6 +35,11 @@ if-eq P a b f g = go (eqb a b) refl
     go : (t : Bool) → eqb a b ≡ t → P t
     go true e = f (eqb-true a b e)
     go false e = g (eqb-false a b e)
+
+-- ---- one shifted by less than 64 places is a power of two
+
+pub one-shl : (k : ℕ) → k < 64 → 1 * 2 ^ k % 2 ^ 64 ≡ 2 ^ k
+one-shl k h = ap (λ (n : ℕ). n % 2 ^ 64) (one-mul (2 ^ k)) ∙ mod-eq-of-lt (pow-lt h)
 
 -- ---- digits, 0 or 1, and the Bools that bits are
 

@@ -7,14 +7,13 @@ use native.Mathlib.Omega.{arith}
 use borrow.Author.Needs.{needs}
 use Rattle.theory.specs.Results.{startOf, throughout}
 use Rattle.theory.specs.Routes.{held}
-use Rattle.table.specs.Calls.{checkedSays, checkReply}
-use Rattle.table.specs.Nodes.{nodes}
-use Rattle.table.specs.Rules.{gives}
-use Rattle.table.specs.Wire.{routes, Bytes}
+use Rattle.table.specs.Checking.{checkedSays, checkReply}
+use Rattle.nodecount.specs.Nodes.{nodes}
+use Rattle.refusals.specs.Rules.{gives}
+use Rattle.records.specs.Wire.{routes, Bytes}
 use Rattle.nodes.specs.Node.{wide, spare, run}
-use Rattle.nodes.proofs.GatherLaws.{root-node}
 use Rattle.calls.specs.Covering.{coverReply}
-use Rattle.aggregate.proofs.CallLaws.{checked-count, checked-lawful, query-table, query-long, query-room, query-answered, query-aligned, query-within, covered-wide}
+use Rattle.aggregate.proofs.CallLaws.{checked-count, checked-lawful, checked-few, checked-node, query-table, query-long, query-room, query-answered, query-aligned, query-within, covered-wide}
 use Rattle.aggregate.proofs.covers_in.Statement.{statement}
 use Rattle.aggregate.proofs.covers_in.Tie as tie
 
@@ -38,6 +37,12 @@ returns-2 c =
     let short = c .if2 .taken in
     sym (query-room _ _ _ _ (sym (c .before .before .before .before .before .before .check-table .ensures) ∙ ap checkedSays (c .before .before .before .before .records .given .1)) (c .before .before .if1 .left) (omega (arith, c .before .count-nodes .ensures)))
 
+cast-covers-in-aggregate : tie.Need-cast-covers-in-aggregate
+cast-covers-in-aggregate c =
+    let valid = sym (c .before .before .before .before .before .before .check-table .ensures) ∙ ap checkedSays (c .before .before .before .before .records .given .1) in
+    let few = checked-few true _ _ valid (λ k. omega (arith, c .before .before .before .before .before .before .before .shared-slice-known .given k)) in
+    search needs
+
 masked-requires : tie.Need-masked-requires
 masked-requires c κs = search needs
 
@@ -46,7 +51,7 @@ covers-in-aggregate-requires c κs =
     let args = c .before .before .before .before .before .before .before .before .before .args in
     let valid = sym (c .before .before .before .before .before .before .before .check-table .ensures) ∙ ap checkedSays (c .before .before .before .before .before .records .given .1) in
     let query = c .masked .ensures in (
-      rw (checked-count true _ _ valid) (root-node true _ (checked-lawful true _ _ valid (λ k. omega (arith, c .before .before .before .before .before .before .before .before .shared-slice-known .given k)))),
+      rw (checked-count true _ _ valid) (checked-node true _ _ valid (λ k. omega (arith, c .before .before .before .before .before .before .before .before .shared-slice-known .given k))),
       (
         (omega arith, c .before .before .before .if1 .left),
         (
@@ -88,6 +93,7 @@ covers-in-spec =
     returns
     count-nodes-requires
     returns-2
+    cast-covers-in-aggregate
     masked-requires
     covers-in-aggregate-requires
     returns-3

@@ -7,7 +7,7 @@ use native.Mathlib.Omega.{arith}
 use borrow.Author.Needs.{needs}
 use lib.ListN.{length}
 use Rattle.aggregate.proofs.CallLaws.{change-fits, change-is, result-most, finished-refused, finished-written}
-use Rattle.aggregate.proofs.WalkLaws.{written-count, written-bytes}
+use Rattle.aggregate.proofs.WalkLaws.{written-count, written-most, written-bytes}
 use Rattle.aggregate.proofs.rewrite_checked.Statement.{statement}
 use Rattle.aggregate.proofs.rewrite_checked.Tie as tie
 
@@ -29,27 +29,28 @@ same-length c = search needs
 returns : tie.Need-returns
 returns c =
     let pre = c .before .before .before .before .before .before .before .before .before .before .before .before .before .before .pre in
-    let count = written-count _ _ _ (pre .1 .0 .valid) (c .before .before .write .ensures .1) in
+    let count = written-count _ _ _ (pre .1 .0 .valid) (c .before .before .write .ensures) in
     let short = c .if2 .taken in
     finished-refused _ _ _ _ (omega arith)
 
 write-requires-2 : tie.Need-write-requires-2
 write-requires-2 c κs = search needs
 
+-- The table's records are few, and those that are written at most one more.
+few : (c : tie.After-slice-known4) → (c .before .before .write2 .result < 2 ^ 62) × (c .before .before .before .before .before .before .before .before .before .before .before .before .before .before .args .before < 2 ^ 62)
+few c =
+    let pre = c .before .before .before .before .before .before .before .before .before .before .before .before .before .before .pre in
+    let most = written-most _ _ _ (pre .1 .0) (c .before .before .write2 .ensures) in
+    (omega arith, omega arith)
+
 cast-t28 : tie.Need-cast-t28
-cast-t28 c = search needs
+cast-t28 c = let small = few c in search needs
 
 cast-t29 : tie.Need-cast-t29
 cast-t29 c = search needs
 
 sub-t30 : tie.Need-sub-t30
-sub-t30 c =
-    let s = c .before .before .before .before .before .before .before .before .before .before .before .before .before .before in
-    let pre = s .pre in
-    let few = c .before .before .write2 .ensures .0 in
-    let small : c .before .before .write2 .result < 2 ^ 62 = omega arith in
-    let least : s .args .before < 2 ^ 62 = omega arith in
-    search (change-fits, small, least)
+sub-t30 c = search (change-fits, few c)
 
 same-length-2 : tie.Need-same-length-2
 same-length-2 c = search needs
@@ -61,13 +62,12 @@ returns-2 : tie.Need-returns-2
 returns-2 c =
     let s = c .before .before .before .before .before .before .before .before .before .before .before .before .before .before in
     let pre = s .pre in
-    let few = c .before .before .write2 .ensures .0 in
-    let wrote = c .before .before .write2 .ensures .1 in
+    let wrote = c .before .before .write2 .ensures in
     let count = written-count _ _ _ (pre .1 .0 .valid) wrote in
     let room : c .before .before .write2 .result ≤ length (s .args .output .now) / 8 =
     ⊎-elim
     (λ w.
-    let dry = written-count _ _ _ (pre .1 .0 .valid) (w .3 .ensures .1) in
+    let dry = written-count _ _ _ (pre .1 .0 .valid) (w .3 .ensures) in
     let long = w .5 .left in
     omega arith)
     (λ w.
@@ -76,7 +76,7 @@ returns-2 c =
     omega arith)
     (c .before .before .before .before .before .if1 .came) in
     finished-written _ _ _ _ count room
-    (change-is (c .before .before .write2 .result) (s .args .before) (omega arith) (omega arith) ∙ rw (pre .1 .1 .1 .1 .0))
+    (change-is (c .before .before .write2 .result) (s .args .before) (few c .0) (few c .1) ∙ rw (pre .1 .1 .1 .1 .0))
     (written-bytes _ _ _ (pre .1 .0 .valid) wrote (omega arith))
 
 pub rewrite-checked-spec : {M : Type 1} → statement M

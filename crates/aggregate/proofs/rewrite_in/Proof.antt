@@ -5,9 +5,9 @@ use native.Mathlib.Omega.{arith}
 use borrow.Author.Needs.{needs}
 use borrow.Author.Tests.{not-true, not-false}
 use lib.ListN.{length}
-use Rattle.table.specs.Calls.{checkedSays}
-use Rattle.table.specs.Nodes.{nodes}
-use Rattle.table.specs.Wire.{routes}
+use Rattle.table.specs.Checking.{checkedSays}
+use Rattle.nodecount.specs.Nodes.{nodes}
+use Rattle.records.specs.Wire.{routes}
 use Rattle.nodes.proofs.RoomNodes.{nodes-below}
 use Rattle.calls.specs.Rewriting.{takesSet}
 use Rattle.aggregate.proofs.CallLaws.{mode-range, default-hop, checked-count, checked-lawful, ready, refused-in, finished-in, not-a-mode, not-a-hop, not-a-table, short-room, only-output, same-last}

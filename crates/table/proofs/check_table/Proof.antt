@@ -3,9 +3,10 @@
 use Prim.Native.Nat.{ℕ, _+_, _-_, _≤_}
 use mathlib.Core.Path.{_≡_, sym, ap, _∙_}
 use native.Mathlib.Omega.{arith}
-use Rattle.table.specs.Rules.{refuses, judge}
-use Rattle.table.specs.Wire.{records, rulesFrom}
-use Rattle.table.specs.Calls.{checkReply}
+use Rattle.refusals.specs.Rules.{refuses, judge}
+use Rattle.records.specs.Wire.{records}
+use Rattle.table.specs.TableRules.{rulesFrom}
+use Rattle.table.specs.Checking.{checkReply}
 use Rattle.table.proofs.Judging.{not-whole, too-many, is-scan, scan-bad, scan-good, scan-end}
 use Rattle.table.proofs.check_table.Statement.{statement}
 use Rattle.table.proofs.check_table.Tie as tie

@@ -1,7 +1,7 @@
 -- `text::put_records` meets its contract: after i turns the lines of the first i records are put. Assumes nothing.
 use Prim.Native.Nat.{_+_, _*_, _≤_, _-_}
 use native.Mathlib.Omega.{arith}
-use Rattle.table.specs.Wire.{records, routesFrom}
+use Rattle.records.specs.Wire.{records, routesFrom}
 use Rattle.text.specs.Text.{Put, linesOf}
 use Rattle.text.proofs.Puts.{put-as, put-length, put-then}
 use Rattle.text.proofs.Lines.{lines-none, lines-more, lines-all}

@@ -1,4 +1,4 @@
--- `aggregate::walks::write` meets its contract: each branch returns what its walk counted and wrote from the root, which is the mode's result.
+-- `aggregate::walks::write` meets its contract: each branch returns what its walk wrote from the root, which is the mode's result.
 -- Assumes nothing.
 use native.Mathlib.Omega.{arith}
 use borrow.Author.Needs.{needs}
@@ -6,6 +6,9 @@ use borrow.Author.Tests.{le-leb}
 use Rattle.aggregate.proofs.WalkLaws.{fill-le, set-is, consistent-set-is, consistent-map-is, ortc-is}
 use Rattle.aggregate.proofs.walks.write.Statement.{statement}
 use Rattle.aggregate.proofs.walks.write.Tie as tie
+
+cast-records : tie.Need-cast-records
+cast-records c = search needs
 
 aggregate-set-requires : tie.Need-aggregate-set-requires
 aggregate-set-requires c κs =
@@ -18,8 +21,7 @@ same-length c = search needs
 returns : tie.Need-returns
 returns c =
     let a = c .before .before .before .before .before .before .before .before .args in
-    let e = c .before .before .aggregate-set .ensures in
-    (e .0, rw (set-is (a .table .now) (a .fill) (c .before .before .before .before .if1 .taken)) (e .1 .1))
+    rw (set-is (a .table .now) (a .fill) (c .before .before .before .before .if1 .taken)) (c .before .before .aggregate-set .ensures .1)
 
 aggregate-consistent-set-requires : tie.Need-aggregate-consistent-set-requires
 aggregate-consistent-set-requires c κs =
@@ -33,10 +35,7 @@ returns-2 : tie.Need-returns-2
 returns-2 c =
     let s = c .before .before .before .before .before .before .before .before .before in
     let a = s .args in
-    let e = c .before .before .aggregate-consistent-set .ensures in (
-      e .0,
-      rw (consistent-set-is (a .table .now) (a .fill) (c .before .before .before .before .if2 .taken) (s .pre .1 .0 .node .table)) (e .1),
-    )
+    rw (consistent-set-is (a .table .now) (a .fill) (c .before .before .before .before .if2 .taken) (s .pre .1 .0 .node .table)) (c .before .before .aggregate-consistent-set .ensures)
 
 aggregate-consistent-map-requires : tie.Need-aggregate-consistent-map-requires
 aggregate-consistent-map-requires c κs = search needs
@@ -48,10 +47,7 @@ returns-3 : tie.Need-returns-3
 returns-3 c =
     let s = c .before .before .before .before .before .before .before .before .before .before in
     let a = s .args in
-    let e = c .before .before .aggregate-consistent-map .ensures in (
-      e .0,
-      rw (consistent-map-is (a .table .now) (a .fill) (c .before .before .before .before .if3 .taken) (s .pre .1 .0 .node .table)) (e .1),
-    )
+    rw (consistent-map-is (a .table .now) (a .fill) (c .before .before .before .before .if3 .taken) (s .pre .1 .0 .node .table)) (c .before .before .aggregate-consistent-map .ensures)
 
 rewrite-requires : tie.Need-rewrite-requires
 rewrite-requires c κs =
@@ -66,13 +62,13 @@ returns-4 c =
     let s = c .before .before .before .before .before .before .before .before .before .before in
     let a = s .args in
     let pre = s .pre in
-    let e = c .before .before .rewrite .ensures in
-    (e .0, rw (ortc-is (a .table .now) (a .fill) (omega arith) (pre .0 .1) (pre .1 .1 .0)) (e .1 .1))
+    rw (ortc-is (a .table .now) (a .fill) (omega arith) (pre .0 .1) (pre .1 .1 .0)) (c .before .before .rewrite .ensures .1)
 
 pub write-spec : {M : Type 1} → statement M
 write-spec =
     tie.close
     (tie.spec
+    cast-records
     aggregate-set-requires
     same-length
     returns

@@ -8,11 +8,11 @@ use borrow.Author.Needs.{needs}
 use borrow.Fn.Kinds.{In}
 use borrow.Fn.PlainCycle.{Measures, is, falls, and}
 use Rattle.nodes.specs.Node.{run}
-use Rattle.nodes.proofs.OutputLaws.{slot-below}
-use Rattle.nodes.proofs.OutputWalk.{relaid, Walked, Begun, walked-none, walked-small, begun, walked-alone, child-small, walked-child, walked-all}
-use Rattle.nodes.proofs.GatherLaws.{absent, ends-in, child-node}
-use Rattle.nodes.proofs.BusySlots.{Busy, busy-slots, walked-next}
-use Rattle.consistent.proofs.MapLaws.{mapSlot, map-no-child, Found, slot-le, map-slots, map-child}
+use Rattle.nodes.proofs.OutputLaws.{slot-below, wrote-count}
+use Rattle.nodes.proofs.OutputWalk.{relaid, Walked, Begun, walked-none, begun, begun-few, walked-alone, walked-child, walked-all}
+use Rattle.gather.proofs.GatherLaws.{absent, ends-in, child-node}
+use Rattle.gather.proofs.BusySlots.{Busy, busy-slots, walked-next}
+use Rattle.consistent.proofs.MapLaws.{mapSlot, map-no-child, Found, slot-le, map-slots, map-most, map-child}
 use Rattle.consistent.proofs.maps.aggregate_consistent_map.Reads as reads
 use Rattle.consistent.proofs.maps.aggregate_consistent_map.Kinds as kinds
 use Rattle.consistent.proofs.maps.+aggregate_consistent_map.Lts-aggregate_consistent_map as lts
@@ -20,9 +20,9 @@ use Rattle.consistent.proofs.maps.entries_of.Reads as entries-of-reads
 use Rattle.nodes.proofs.emit.emit_slot.Reads as emit-slot-reads
 use Rattle.nodes.proofs.emit.head_slots.Reads as head-slots-reads
 use Rattle.nodes.proofs.emit.past.Reads as past-reads
-use Rattle.nodes.proofs.gather.covering_hops.Reads as covering-hops-reads
-use Rattle.nodes.proofs.gather.gather_run.Reads as gather-run-reads
-use Rattle.nodes.proofs.gather.slot_key.Reads as slot-key-reads
+use Rattle.gather.proofs.covering_hops.Reads as covering-hops-reads
+use Rattle.gather.proofs.gather_run.Reads as gather-run-reads
+use Rattle.gather.proofs.slot_key.Reads as slot-key-reads
 use Rattle.words.proofs.bits.next_bit.Reads as next-bit-reads
 use Rattle.consistent.proofs.maps.+aggregate_consistent_map.{statement}
 use Rattle.consistent.proofs.maps.+aggregate_consistent_map.Tie.{close}
@@ -119,11 +119,26 @@ emit-slot-requires t c κs =
     let lt = c .before .before .before .before .loop-test .taken in
     (lt, (n .deep, rw (c .before .before .before .slot-key .ensures) (slot-below _ _ _ (n .deep) lt (n .small))))
 
+-- The entries that begin at a slot are written once they come back.
+entered : (t : ℕ) (c : lts.After-slice-known2 (claims t) (at t) reads.Post Inv-loop μ-loop)
+    → let a = c .before .before .before .before .before .before .before .before .before .before .before .before .before .before .before .before .before .before .before .before .before .before .before .before .args in
+    let run = c .before .before .before .before .before .before .before .before .before .before .before .before .before .before .before .before .before .before .before .gather-run .last .1 .1 .1 .1 .1 in
+    let hops = c .before .before .before .before .before .before .before .before .before .before .before .before .before .before .before .before .covering-hops .result in
+    let lp = c .before .before .before .before .before .before .before .before .loop in
+    let heads = c .before .before .emit-slot in
+    Begun (c .before .before .before .before .before .before .before .before .before .before .before .before .entries-of .result) hops (a .depth) (a .key) (mapSlot (a .table .now) (run .0) (run .1 .0) hops (a .depth) (a .key)) (lp .c)
+    (lp .n + heads .result) (a .out .now) (relaid (c .before .before .before .before .before .past .result) (heads .last .1 .1 .1 .1 .1 .0) (lp .out))
+entered t c =
+    let heads = c .before .before .emit-slot in
+    let lt = c .before .before .before .before .before .before .before .loop-test .taken in
+    let key = c .before .before .before .before .before .before .slot-key .ensures in
+    begun (c .before .before .before .before .before .before .before .before .loop .inv .1 .1) lt (c .before .before .before .before .before .past .ensures) key (heads .ensures) (c .before .out .given .1)
+
 add-n : (t : ℕ) → lts.Need-add-n (claims t) (at t) reads.Post Inv-loop μ-loop
 add-n t c =
-    let small = walked-small (c .before .before .before .before .before .before .before .before .loop .inv .1 .1) in
-    let five = c .before .before .emit-slot .ensures .0 in
-    search needs
+    let few = begun-few (entered t c) in
+    let most = map-most (c .before .before .before .before .before .before .before .before .loop .inv .0) in
+    omega (arith, c .before .before .before .before .before .before .before .before .before .before .before .before .before .before .before .before .before .before .before .before .before .before .before .before .good)
 
 add-from : (t : ℕ) → lts.Need-add-from (claims t) (at t) reads.Post Inv-loop μ-loop
 add-from t c = search needs
@@ -179,27 +194,15 @@ aggregate-consistent-map-requires t c κs =
     let bits = c .before .before .before .before .before .before .before .before .before .before .before .before .before .before .before .before .before .before .before .before .before .before .before .before .before .before .before .before .pre .0 in
     (omega (arith, f .node .deep, bits), (rw (c .before .before .before .before .before .before .before .before .before .before .slot-key .ensures) child, slot-le f (lp .c) lt))
 
--- The entries that begin at a slot are written once they come back.
-entered : (t : ℕ) (c : lts.After-slice-known2 (claims t) (at t) reads.Post Inv-loop μ-loop)
-    → let a = c .before .before .before .before .before .before .before .before .before .before .before .before .before .before .before .before .before .before .before .before .before .before .before .before .args in
-    let run = c .before .before .before .before .before .before .before .before .before .before .before .before .before .before .before .before .before .before .before .gather-run .last .1 .1 .1 .1 .1 in
-    let hops = c .before .before .before .before .before .before .before .before .before .before .before .before .before .before .before .before .covering-hops .result in
-    let lp = c .before .before .before .before .before .before .before .before .loop in
-    let heads = c .before .before .emit-slot in
-    Begun (c .before .before .before .before .before .before .before .before .before .before .before .before .entries-of .result) hops (a .depth) (a .key) (mapSlot (a .table .now) (run .0) (run .1 .0) hops (a .depth) (a .key)) (lp .c)
-    (lp .n + heads .result) (a .out .now) (relaid (c .before .before .before .before .before .past .result) (heads .last .1 .1 .1 .1 .1 .0) (lp .out))
-entered t c =
-    let heads = c .before .before .emit-slot in
-    let lt = c .before .before .before .before .before .before .before .loop-test .taken in
-    let key = c .before .before .before .before .before .before .slot-key .ensures in
-    begun (c .before .before .before .before .before .before .before .before .loop .inv .1 .1) lt (c .before .before .before .before .before .past .ensures) key (heads .ensures .0) (heads .ensures .1) (c .before .out .given .1)
-
 add-n-2 : (t : ℕ) → lts.Need-add-n-2 (claims t) (at t) reads.Post Inv-loop μ-loop
 add-n-2 t c =
-    let call = c .before .before .aggregate-consistent-map in
-    let deep = c .before .before .before .before .before .before .before .before .before .before .before .before .before .before .before .loop .inv .0 .node .deep in
-    let small = child-small deep (entered t (c .before .before .before .before .before .before .before)) (call .result) (call .ensures .0) in
-    omega arith
+    let lp = c .before .before .before .before .before .before .before .before .before .before .before .before .before .before .before .loop in
+    let f = lp .inv .0 in
+    let key = c .before .before .before .before .before .before .before .before .before .before .before .before .before .slot-key .ensures in
+    let own = wrote-count (rw (map-child f (lp .c) _ key) at (c .before .before .aggregate-consistent-map .ensures)) in
+    let few = begun-few (entered t (c .before .before .before .before .before .before .before)) in
+    let most = map-most f in
+    omega (arith, c .before .before .before .before .before .before .before .before .before .before .before .before .before .before .before .before .before .before .before .before .before .before .before .before .before .before .before .before .before .before .before .good)
 
 loop-less : (t : ℕ) → lts.Need-loop-less (claims t) (at t) reads.Post Inv-loop μ-loop
 loop-less t c =
@@ -212,8 +215,8 @@ loop-again t c =
     let f = lp .inv .0 in
     let call = c .before .before .aggregate-consistent-map in
     let key = c .before .before .before .before .before .before .before .before .before .before .before .before .before .slot-key .ensures in
-    let own = rw (map-child f (lp .c) _ key) at (call .ensures .1) in
-    let slot = walked-child (f .node .deep) (entered t (c .before .before .before .before .before .before .before)) (call .result) (call .ensures .0) (c .before .before .before .before .past2 .ensures) own
+    let own = rw (map-child f (lp .c) _ key) at (call .ensures) in
+    let slot = walked-child (entered t (c .before .before .before .before .before .before .before)) (c .before .before .before .before .past2 .ensures) own
     (c .before .out2 .given .1) in
     (f, (lp .inv .1 .0, walked-next (lp .inv .1 .0) (c .before .before .before .before .before .before .next-bit2 .ensures) slot))
 
@@ -235,8 +238,7 @@ same-length t c = c .before .loop .inv .1 .1 .sized
 returns : (t : ℕ) → lts.Need-returns (claims t) (at t) reads.Post Inv-loop μ-loop
 returns t c =
     let f = c .before .loop .inv .0 in
-    let all = walked-all (f .node .deep) (c .before .loop .inv .1 .1) (c .loop-test .left) in
-    (all .0, rw (map-slots f) (all .1))
+    rw (map-slots f) (walked-all (c .before .loop .inv .1 .1) (c .loop-test .left))
 
 pub +aggregate-consistent-map-spec : {M : Type 1} → statement M
 +aggregate-consistent-map-spec =

@@ -4,7 +4,7 @@ use mathlib.Core.Path.{refl}
 use native.Mathlib.Omega.{arith}
 use lib.Dec.{ltb}
 use borrow.Author.Tests.{lt-ltb, le-ltb}
-use Rattle.nodes.proofs.MarkedBits.{Marked, passes-up, marked-none, marked-take, marked-all}
+use Rattle.gather.proofs.MarkedBits.{Marked, passes-up, marked-none, marked-take, marked-all}
 use Rattle.consistent.proofs.MapLaws.{entryBit, marked-past}
 use Rattle.consistent.proofs.maps.entries_of.Statement.{statement}
 use Rattle.consistent.proofs.maps.entries_of.Tie as tie

@@ -9,19 +9,19 @@ use borrow.Author.Tests.{not-true, not-false}
 use borrow.Fn.Kinds.{In}
 use borrow.Fn.PlainCycle.{Measures, is, falls, and}
 use Rattle.nodes.specs.Node.{run}
-use Rattle.nodes.proofs.OutputLaws.{slot-below}
-use Rattle.nodes.proofs.OutputWalk.{relaid, Walked, Begun, walked-none, walked-small, begun, walked-alone, child-small, walked-child, walked-all}
-use Rattle.nodes.proofs.GatherLaws.{child-node}
-use Rattle.nodes.proofs.BusySlots.{Busy, busy-slots, walked-next}
-use Rattle.consistent.proofs.SetLaws.{setSlot, slot-without, Found, slot-zero, slot-below-member, slot-open, set-slots}
+use Rattle.nodes.proofs.OutputLaws.{slot-below, wrote-count}
+use Rattle.nodes.proofs.OutputWalk.{relaid, Walked, Begun, walked-none, begun, begun-few, walked-alone, walked-child, walked-all}
+use Rattle.gather.proofs.GatherLaws.{child-node}
+use Rattle.gather.proofs.BusySlots.{Busy, busy-slots, walked-next}
+use Rattle.consistent.proofs.SetLaws.{setSlot, slot-without, Found, slot-zero, slot-below-member, slot-open, set-slots, set-most}
 use Rattle.consistent.proofs.sets.aggregate_consistent_set.Reads as reads
 use Rattle.consistent.proofs.sets.aggregate_consistent_set.Kinds as kinds
 use Rattle.consistent.proofs.sets.+aggregate_consistent_set.Lts-aggregate_consistent_set as lts
 use Rattle.nodes.proofs.emit.emit_slot.Reads as emit-slot-reads
 use Rattle.nodes.proofs.emit.head_slots.Reads as head-slots-reads
 use Rattle.nodes.proofs.emit.past.Reads as past-reads
-use Rattle.nodes.proofs.gather.gather_run.Reads as gather-run-reads
-use Rattle.nodes.proofs.gather.slot_key.Reads as slot-key-reads
+use Rattle.gather.proofs.gather_run.Reads as gather-run-reads
+use Rattle.gather.proofs.slot_key.Reads as slot-key-reads
 use Rattle.words.proofs.bits.has_bit.Reads as has-bit-reads
 use Rattle.words.proofs.bits.next_bit.Reads as next-bit-reads
 use Rattle.words.proofs.coverage.keep_of.Reads as keep-of-reads
@@ -124,11 +124,26 @@ emit-slot-requires t c κs =
     let lt = c .before .before .before .before .loop-test .taken in
     (lt, (n .deep, rw (c .before .before .before .slot-key .ensures) (slot-below _ _ _ (n .deep) lt (n .small))))
 
+-- The entries that begin at a slot are written once they come back.
+entered : (t : ℕ) (c : lts.After-slice-known2 (claims t) (at t) reads.Post Inv-loop μ-loop)
+    → let a = c .before .before .before .before .before .before .before .before .before .before .before .before .before .before .before .before .before .before .before .args in
+    let run = c .before .before .before .before .before .before .before .before .before .before .before .before .before .before .gather-run .last .1 .1 .1 .1 .1 in
+    let lp = c .before .before .before .before .before .before .before .before .loop in
+    let heads = c .before .before .emit-slot in
+    Begun (c .before .before .before .before .before .before .before .before .before .before .before .before .keep-of .result) (replicate 31 0) (a .depth) (a .key)
+    (setSlot (a .table .now) (a .lo) (a .hi) (a .depth) (a .key) (run .0) (run .1 .0)) (lp .c) (lp .n + heads .result) (a .out .now)
+    (relaid (c .before .before .before .before .before .past .result) (heads .last .1 .1 .1 .1 .1 .0) (lp .out))
+entered t c =
+    let heads = c .before .before .emit-slot in
+    let lt = c .before .before .before .before .before .before .before .loop-test .taken in
+    let key = c .before .before .before .before .before .before .slot-key .ensures in
+    begun (c .before .before .before .before .before .before .before .before .loop .inv .1 .1) lt (c .before .before .before .before .before .past .ensures) key (heads .ensures) (c .before .out .given .1)
+
 add-n : (t : ℕ) → lts.Need-add-n (claims t) (at t) reads.Post Inv-loop μ-loop
 add-n t c =
-    let small = walked-small (c .before .before .before .before .before .before .before .before .loop .inv .1 .1) in
-    let five = c .before .before .emit-slot .ensures .0 in
-    search needs
+    let few = begun-few (entered t c) in
+    let most = set-most (c .before .before .before .before .before .before .before .before .loop .inv .0) in
+    omega (arith, c .before .before .before .before .before .before .before .before .before .before .before .before .before .before .before .before .before .before .before .good)
 
 add-from : (t : ℕ) → lts.Need-add-from (claims t) (at t) reads.Post Inv-loop μ-loop
 add-from t c = search needs
@@ -184,27 +199,16 @@ aggregate-consistent-set-requires t c κs =
     let bits = c .before .before .before .before .before .before .before .before .before .before .before .before .before .before .before .before .before .before .before .before .before .before .before .before .before .pre .0 in
     (omega (arith, f .node .deep, bits), (rw (c .before .before .before .before .before .before .before .before .before .before .before .before .slot-key .ensures) child, slot-zero f (lp .c) lt))
 
--- The entries that begin at a slot are written once they come back.
-entered : (t : ℕ) (c : lts.After-slice-known2 (claims t) (at t) reads.Post Inv-loop μ-loop)
-    → let a = c .before .before .before .before .before .before .before .before .before .before .before .before .before .before .before .before .before .before .before .args in
-    let run = c .before .before .before .before .before .before .before .before .before .before .before .before .before .before .gather-run .last .1 .1 .1 .1 .1 in
-    let lp = c .before .before .before .before .before .before .before .before .loop in
-    let heads = c .before .before .emit-slot in
-    Begun (c .before .before .before .before .before .before .before .before .before .before .before .before .keep-of .result) (replicate 31 0) (a .depth) (a .key)
-    (setSlot (a .table .now) (a .lo) (a .hi) (a .depth) (a .key) (run .0) (run .1 .0)) (lp .c) (lp .n + heads .result) (a .out .now)
-    (relaid (c .before .before .before .before .before .past .result) (heads .last .1 .1 .1 .1 .1 .0) (lp .out))
-entered t c =
-    let heads = c .before .before .emit-slot in
-    let lt = c .before .before .before .before .before .before .before .loop-test .taken in
-    let key = c .before .before .before .before .before .before .slot-key .ensures in
-    begun (c .before .before .before .before .before .before .before .before .loop .inv .1 .1) lt (c .before .before .before .before .before .past .ensures) key (heads .ensures .0) (heads .ensures .1) (c .before .out .given .1)
-
 add-n-2 : (t : ℕ) → lts.Need-add-n-2 (claims t) (at t) reads.Post Inv-loop μ-loop
 add-n-2 t c =
-    let call = c .before .before .aggregate-consistent-set in
-    let deep = c .before .before .before .before .before .before .before .before .before .before .before .before .before .before .before .before .before .loop .inv .0 .node .deep in
-    let small = child-small deep (entered t (c .before .before .before .before .before .before .before .before .before)) (call .result) (call .ensures .0) in
-    omega arith
+    let lp = c .before .before .before .before .before .before .before .before .before .before .before .before .before .before .before .before .before .loop in
+    let f = lp .inv .0 in
+    let free = sym (c .before .before .before .before .before .before .before .before .has-bit .ensures) ∙ not-true _ (c .before .before .before .before .before .if2 .taken) in
+    let lt = c .before .before .before .before .before .before .before .before .before .before .before .before .before .before .before .before .loop-test .taken in
+    let own = wrote-count (slot-open f (lp .c) lt free _ (c .before .before .before .before .before .before .before .before .before .before .before .before .before .before .before .slot-key .ensures) (c .before .before .aggregate-consistent-set .ensures)) in
+    let few = begun-few (entered t (c .before .before .before .before .before .before .before .before .before)) in
+    let most = set-most f in
+    omega (arith, c .before .before .before .before .before .before .before .before .before .before .before .before .before .before .before .before .before .before .before .before .before .before .before .before .before .before .before .before .good)
 
 loop-less : (t : ℕ) → lts.Need-loop-less (claims t) (at t) reads.Post Inv-loop μ-loop
 loop-less t c =
@@ -218,8 +222,8 @@ loop-again t c =
     let free = sym (c .before .before .before .before .before .before .before .before .has-bit .ensures) ∙ not-true _ (c .before .before .before .before .before .if2 .taken) in
     let call = c .before .before .aggregate-consistent-set in
     let lt = c .before .before .before .before .before .before .before .before .before .before .before .before .before .before .before .before .loop-test .taken in
-    let own = slot-open f (lp .c) lt free _ (c .before .before .before .before .before .before .before .before .before .before .before .before .before .before .before .slot-key .ensures) (call .ensures .1) in
-    let slot = walked-child (f .node .deep) (entered t (c .before .before .before .before .before .before .before .before .before)) (call .result) (call .ensures .0) (c .before .before .before .before .past2 .ensures) own
+    let own = slot-open f (lp .c) lt free _ (c .before .before .before .before .before .before .before .before .before .before .before .before .before .before .before .slot-key .ensures) (call .ensures) in
+    let slot = walked-child (entered t (c .before .before .before .before .before .before .before .before .before)) (c .before .before .before .before .past2 .ensures) own
     (c .before .out2 .given .1) in
     (f, (lp .inv .1 .0, walked-next (lp .inv .1 .0) (c .before .before .before .before .before .before .before .next-bit2 .ensures) slot))
 
@@ -252,8 +256,7 @@ same-length t c = c .before .loop .inv .1 .1 .sized
 returns : (t : ℕ) → lts.Need-returns (claims t) (at t) reads.Post Inv-loop μ-loop
 returns t c =
     let f = c .before .loop .inv .0 in
-    let all = walked-all (f .node .deep) (c .before .loop .inv .1 .1) (c .loop-test .left) in
-    (all .0, rw (set-slots f) (all .1))
+    rw (set-slots f) (walked-all (c .before .loop .inv .1 .1) (c .loop-test .left))
 
 pub +aggregate-consistent-set-spec : {M : Type 1} → statement M
 +aggregate-consistent-set-spec =

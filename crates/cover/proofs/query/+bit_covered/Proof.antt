@@ -14,8 +14,8 @@ use Rattle.cover.proofs.query.+bit_covered.Lts-bit_covered as lts
 use Rattle.cover.proofs.query.child_cover_mask_for_bit.Reads as child-cover-mask-for-bit-reads
 use Rattle.cover.proofs.query.open_slots.Reads as open-slots-reads
 use Rattle.cover.proofs.query.with_slot.Reads as with-slot-reads
-use Rattle.nodes.proofs.gather.gather_run.Reads as gather-run-reads
-use Rattle.nodes.proofs.gather.slot_key.Reads as slot-key-reads
+use Rattle.gather.proofs.gather_run.Reads as gather-run-reads
+use Rattle.gather.proofs.slot_key.Reads as slot-key-reads
 use Rattle.words.proofs.bits.has_bit.Reads as has-bit-reads
 use Rattle.words.proofs.bits.next_bit.Reads as next-bit-reads
 use Rattle.words.proofs.coverage.fold_coverage.Reads as fold-coverage-reads

@@ -8,7 +8,7 @@ use lib.ListN.{getD-replicate}
 use Rattle.theory.specs.Results.{throughout}
 use Rattle.theory.specs.Routes.{Route, held}
 use Rattle.nodes.specs.Node.{wide}
-use Rattle.nodes.proofs.GatherRuns.{run-none}
+use Rattle.gather.proofs.GatherRuns.{run-none}
 use Rattle.cover.proofs.CoverLaws.{none-covered, Sought, place-lt, record-covers, position-answer, place-slot, slot-node, slot-lies, slot-answer}
 use borrow.Fn.Kinds.{In}
 use borrow.Fn.PlainCycle.{Measures, is, falls, and}
@@ -17,10 +17,10 @@ use Rattle.cover.proofs.query.covers_in_aggregate.Kinds as covers-in-ag
 use Rattle.cover.proofs.query.+covers_in_aggregate.Lts-covers_in_aggregate as covers-in-aggregate-lts
 use Rattle.cover.proofs.query.bit_covered.Reads as bit-covered-reads
 use Rattle.cover.proofs.query.record_over.Reads as record-over-reads
-use Rattle.nodes.proofs.gather.gather_run.Reads as gather-run-reads
-use Rattle.nodes.proofs.gather.heap_index.Reads as heap-index-reads
-use Rattle.nodes.proofs.gather.level_of.Reads as level-of-reads
-use Rattle.nodes.proofs.gather.slot_key.Reads as slot-key-reads
+use Rattle.gather.proofs.gather_run.Reads as gather-run-reads
+use Rattle.gather.proofs.heap_index.Reads as heap-index-reads
+use Rattle.gather.proofs.level_of.Reads as level-of-reads
+use Rattle.gather.proofs.slot_key.Reads as slot-key-reads
 use Rattle.cover.proofs.query.+covers_in_aggregate.{statement}
 use Rattle.cover.proofs.query.+covers_in_aggregate.Tie.{close}
 

@@ -18,7 +18,7 @@ abbrev μ-loop : tie.MeasureT-loop
 μ-loop entries hops c addr depth out₀ n₀ l₀ out n l = 5 - l
 
 returns : tie.Need-returns Inv-loop μ-loop
-returns c = (omega arith, heads-none _ _ _ _ _ (c .if1 .taken) 5 _)
+returns c = heads-none _ _ _ _ _ (c .if1 .taken) 5 _
 
 first-level-requires : tie.Need-first-level-requires Inv-loop μ-loop
 first-level-requires c κs = c .before .before .pre .0
@@ -50,7 +50,7 @@ same-length c = c .before .loop .inv .1 .1 .0
 returns-2 : tie.Need-returns-2 Inv-loop μ-loop
 returns-2 c =
     let five : c .before .loop .l ≡ 5 = omega arith in
-    (omega arith, rw five at (c .before .loop .inv .1 .1 .1))
+    rw five at (c .before .loop .inv .1 .1 .1)
 
 pub emit-slot-spec : {M : Type 1} → statement M
 emit-slot-spec =

@@ -11,19 +11,19 @@ use borrow.Fn.PlainCycle.{Measures, is, falls, and}
 use Rattle.words.specs.Bits.{bit}
 use Rattle.positions.specs.Runs.{hopOf}
 use Rattle.nodes.specs.Node.{run}
-use Rattle.nodes.proofs.GatherLaws.{absent, slot-occupied, ends-in, covering-le, child-node}
 use Rattle.nodes.proofs.RoomLaws.{pushed-length}
-use Rattle.ortc.specs.Answers.{answerIn}
+use Rattle.gather.proofs.GatherLaws.{absent, slot-occupied, ends-in, covering-le, child-node}
+use Rattle.assign.specs.Answers.{answerIn}
 use Rattle.ortc.proofs.CollectLaws.{Collecting, collecting-start, collecting-within, collecting-seek, collecting-room, collecting-child, collecting-end}
 use Rattle.ortc.proofs.walks.collect_sets.Reads as collect-sets
 use Rattle.ortc.proofs.walks.collect_sets.Kinds as kinds
 use Rattle.ortc.proofs.walks.+collect_sets.Lts-collect_sets as lts
-use Rattle.nodes.proofs.gather.covering_hops.Reads as covering-hops-reads
-use Rattle.nodes.proofs.gather.gather_run.Reads as gather-run-reads
-use Rattle.nodes.proofs.gather.slot_key.Reads as slot-key-reads
-use Rattle.ortc.proofs.assign.fold_sets.Reads as fold-sets-reads
-use Rattle.ortc.proofs.assign.leaf_sets.Reads as leaf-sets-reads
-use Rattle.ortc.proofs.room.push_sets.Reads as push-sets-reads
+use Rattle.gather.proofs.covering_hops.Reads as covering-hops-reads
+use Rattle.gather.proofs.gather_run.Reads as gather-run-reads
+use Rattle.gather.proofs.slot_key.Reads as slot-key-reads
+use Rattle.assign.proofs.fold_sets.Reads as fold-sets-reads
+use Rattle.assign.proofs.leaf_sets.Reads as leaf-sets-reads
+use Rattle.assign.proofs.room.push_sets.Reads as push-sets-reads
 use Rattle.words.proofs.bits.last_bit.Reads as last-bit-reads
 use Rattle.ortc.proofs.walks.+collect_sets.{statement}
 use Rattle.ortc.proofs.walks.+collect_sets.Tie.{close}

@@ -9,10 +9,10 @@ use borrow.Author.Needs.{needs}
 use borrow.Fn.Kinds.{In}
 use borrow.Fn.PlainCycle.{Measures, is, falls, and}
 use Rattle.nodes.specs.Node.{wide}
-use Rattle.nodes.proofs.GatherLaws.{ends-in, absent, child-node}
-use Rattle.nodes.proofs.OutputLaws.{slot-below, slot-within}
-use Rattle.nodes.proofs.OutputWalk.{walked-small, begun, child-small, walked-child}
-use Rattle.ortc.proofs.RewriteLaws.{sets-stored, Opened, Walking, opened, walking-start, walking-on, child-stored, ahead-child, walking-end, leaf-rewrite}
+use Rattle.gather.proofs.GatherLaws.{ends-in, absent, child-node}
+use Rattle.nodes.proofs.OutputLaws.{slot-below, slot-within, wrote-count}
+use Rattle.nodes.proofs.OutputWalk.{relaid, Begun, begun, begun-few, walked-child}
+use Rattle.ortc.proofs.RewriteLaws.{sets-stored, slotRewrite, Opened, opened-most, Walking, opened, walking-start, walking-on, child-stored, ahead-child, walking-end, leaf-rewrite}
 use Rattle.ortc.proofs.walks.rewrite.Reads as rewrite
 use Rattle.ortc.proofs.walks.rewrite.Kinds as rewrite-kinds
 use Rattle.ortc.proofs.walks.+rewrite+rewrite_child.Lts-rewrite as rewrite-lts
@@ -23,13 +23,13 @@ use Rattle.hops.proofs.leaf_value.Reads as leaf-value-reads
 use Rattle.nodes.proofs.emit.emit_slot.Reads as emit-slot-reads
 use Rattle.nodes.proofs.emit.head_slots.Reads as head-slots-reads
 use Rattle.nodes.proofs.emit.past.Reads as past-reads
-use Rattle.nodes.proofs.gather.covering_hops.Reads as covering-hops-reads
-use Rattle.nodes.proofs.gather.gather_run.Reads as gather-run-reads
-use Rattle.nodes.proofs.gather.slot_key.Reads as slot-key-reads
+use Rattle.gather.proofs.covering_hops.Reads as covering-hops-reads
+use Rattle.gather.proofs.gather_run.Reads as gather-run-reads
+use Rattle.gather.proofs.slot_key.Reads as slot-key-reads
 use Rattle.words.proofs.bits.next_bit.Reads as next-bit-reads
-use Rattle.ortc.proofs.assign.assign_nodes.Reads as assign-nodes-reads
-use Rattle.ortc.proofs.assign.emit.Reads as emit-reads
-use Rattle.ortc.proofs.assign.leaf_slots.Reads as leaf-slots-reads
+use Rattle.assign.proofs.assign_nodes.Reads as assign-nodes-reads
+use Rattle.assign.proofs.emit.Reads as emit-reads
+use Rattle.assign.proofs.leaf_slots.Reads as leaf-slots-reads
 use Rattle.ortc.proofs.walks.+rewrite+rewrite_child.{statement}
 use Rattle.ortc.proofs.walks.+rewrite+rewrite_child.Tie.{close}
 
@@ -147,11 +147,24 @@ rewrite-emit-slot-requires t c κs =
     let lt = c .before .before .before .before .loop-test .taken in
     (lt, (n .deep, rw (c .before .before .before .slot-key .ensures) (slot-below _ _ _ (n .deep) lt (n .small))))
 
+-- The entries that begin at a slot are written once they come back.
+started : (t : ℕ) (c : rewrite-lts.After-slice-known2 (rewrite-claims t) (rewrite-at t) rewrite.Post Inv-loop μ-loop)
+    → let a = c .before .before .before .before .before .before .before .before .before .before .before .before .before .before .before .before .before .before .before .before .before .before .before .before .before .before .args in
+    let found = c .before .before .before .before .before .before .before .before .before .before .before .before .before .before .before .before .before .before .before .before .gather-run .last .1 .1 .1 .1 .1 in
+    let covering = c .before .before .before .before .before .before .before .before .before .before .before .before .before .before .before .before .before .covering-hops .result in
+    let node = c .before .before .before .before .before .before .before .before .before .before .before .before .before .before .before .before .assign-nodes .result in
+    let l = c .before .before .before .before .before .before .before .before .loop in
+    Begun (node .entries) (node .hops) (a .depth) (a .key) (slotRewrite (a .table .now) (found .0) (found .1 .0) covering (node .hops) (a .depth) (a .key) (a .fill)) (l .c)
+    (l .n + c .before .before .emit-slot .result) (a .out .now) (relaid (c .before .before .before .before .before .past .result) (c .before .before .emit-slot .last .1 .1 .1 .1 .1 .0) (l .out))
+started t c =
+    begun (c .before .before .before .before .before .before .before .before .loop .inv .1 .walked) (c .before .before .before .before .before .before .before .loop-test .taken) (c .before .before .before .before .before .past .ensures) (c .before .before .before .before .before .before .slot-key .ensures)
+    (c .before .before .emit-slot .ensures) (c .before .out .given .1)
+
 rewrite-add-n : (t : ℕ) → rewrite-lts.Need-add-n (rewrite-claims t) (rewrite-at t) rewrite.Post Inv-loop μ-loop
 rewrite-add-n t c =
-    let small = walked-small (c .before .before .before .before .before .before .before .before .loop .inv .1 .walked) in
-    let few = c .before .before .emit-slot .ensures .0 in
-    search needs
+    let few = begun-few (started t c) in
+    let most = opened-most (c .before .before .before .before .before .before .before .before .loop .inv .0) in
+    omega (arith, c .before .before .before .before .before .before .before .before .before .before .before .before .before .before .before .before .before .before .before .before .before .before .before .before .before .before .good)
 
 rewrite-past-requires-2 : (t : ℕ) → rewrite-lts.Need-past-requires-2 (rewrite-claims t) (rewrite-at t) rewrite.Post Inv-loop μ-loop
 rewrite-past-requires-2 t c κs = search needs
@@ -219,13 +232,10 @@ rewrite-rewrite-child-requires t c κs =
 
 rewrite-add-n-2 : (t : ℕ) → rewrite-lts.Need-add-n-2 (rewrite-claims t) (rewrite-at t) rewrite.Post Inv-loop μ-loop
 rewrite-add-n-2 t c =
-    let l = c .before .before .before .before .before .before .before .before .before .before .before .before .before .before .loop in
-    let heads = c .before .before .before .before .before .before .before .before .emit-slot in
-    let slot = c .before .before .before .rewrite-child in
-    let b =
-    begun (l .inv .1 .walked) (c .before .before .before .before .before .before .before .before .before .before .before .before .before .loop-test .taken) (c .before .before .before .before .before .before .before .before .before .before .before .past .ensures) (c .before .before .before .before .before .before .before .before .before .before .before .before .slot-key .ensures) (heads .ensures .0) (heads .ensures .1) (c .before .before .before .before .before .before .before .out .given .1) in
-    let small = child-small (l .inv .0 .node .deep) b (slot .result .count) (slot .ensures .0) in
-    search needs
+    let few = begun-few (started t (c .before .before .before .before .before .before)) in
+    let own = wrote-count (rw (c .before .before .before .before .before .before .before .before .before .before .before .before .slot-key .ensures) at (c .before .before .before .rewrite-child .ensures .1 .1)) in
+    let most = opened-most (c .before .before .before .before .before .before .before .before .before .before .before .before .before .before .loop .inv .0) in
+    omega (arith, c .before .before .before .before .before .before .before .before .before .before .before .before .before .before .before .before .before .before .before .before .before .before .before .before .before .before .before .before .before .before .before .before .good)
 
 rewrite-add-next-bit : (t : ℕ) → rewrite-lts.Need-add-next-bit (rewrite-claims t) (rewrite-at t) rewrite.Post Inv-loop μ-loop
 rewrite-add-next-bit t c = search needs
@@ -242,16 +252,12 @@ rewrite-loop-again t c =
     let lt = c .before .before .before .before .before .before .before .before .before .before .before .before .before .before .loop-test .taken in
     let o = l .inv .0 in
     let key = c .before .before .before .before .before .before .before .before .before .before .before .before .before .slot-key .ensures in
-    let heads = c .before .before .before .before .before .before .before .before .before .emit-slot in
-    let slot = c .before .before .before .before .rewrite-child in
-    let does = slot .ensures in
-    let b =
-    begun (l .inv .1 .walked) lt (c .before .before .before .before .before .before .before .before .before .before .before .before .past .ensures) key (heads .ensures .0) (heads .ensures .1) (c .before .before .before .before .before .before .before .before .out .given .1) in (
+    let does = c .before .before .before .before .rewrite-child .ensures in (
       o,
       walking-on o (c .next-bit2 .ensures)
           (record {
-            walked = walked-child (o .node .deep) b (slot .result .count) (does .0) (c .before .before .before .before .before .before .past2 .ensures) (rw key at (does .1 .1 .1)) (c .before .before .before .out2 .given .1);
-            ahead = ahead-child o (l .c) lt (l .inv .1 .ahead) (does .1 .0) (rw key at (does .1 .1 .0));
+            walked = walked-child (started t (c .before .before .before .before .before .before .before)) (c .before .before .before .before .before .before .past2 .ensures) (rw key at (does .1 .1)) (c .before .before .before .out2 .given .1);
+            ahead = ahead-child o (l .c) lt (l .inv .1 .ahead) (does .0) (rw key at (does .1 .0));
           }),
     )
 
@@ -273,7 +279,7 @@ child-same-length t c = search needs
 child-returns : (t : ℕ) → child-lts.Need-returns (child-claims t) (child-at t) child.Post
 child-returns t c =
     let r = c .before .before .rewrite .ensures in
-    (r .0, (λ le. absurd (omega (arith, c .before .before .before .before .if1 .taken)), (λ has. r .1 .0, r .1 .1)))
+    (λ le. absurd (omega (arith, c .before .before .before .before .if1 .taken)), (λ has. r .0, r .1))
 
 child-leaf-value-requires : (t : ℕ) → child-lts.Need-leaf-value-requires (child-claims t) (child-at t) child.Post
 child-leaf-value-requires t c κs = search needs
@@ -295,7 +301,7 @@ child-returns-2 t c =
     let e =
     leaf-rewrite (p .table .now) (p .lo) (p .hi) (p .depth) (p .key) (p .covering) (p .fill) (v .result) (p .above) none (c .before .before .before .before .before .before .before .before .before .pre .1 .1 .0 .0)
     (v .ensures .1 (low .0) (low .1 .0)) (low .1 .1) (v .ensures .0) in
-    (omega (arith, c .before .before .emit .ensures .0, pow-pos (wide - p .depth)), (λ le. refl, (λ has. absurd (omega arith), rw e (c .before .before .emit .ensures .1))))
+    (λ le. refl, (λ has. absurd (omega arith), rw e (c .before .before .emit .ensures)))
 
 pub +rewrite+rewrite-child-spec : {M : Type 1} → statement M
 +rewrite+rewrite-child-spec =

@@ -4,8 +4,10 @@ use mathlib.Core.Path.{_≡_, sym, _∙_}
 use lib.Dec.{leb}
 use borrow.Author.Needs.{needs}
 use borrow.Author.Tests.{le-leb, lt-leb, not-true, not-false}
-use Rattle.table.specs.Rules.{broken}
-use Rattle.table.specs.Wire.{routeAt, hostClear, recordRules}
+use Rattle.words.specs.Prefix.{hostClear}
+use Rattle.refusals.specs.Rules.{broken}
+use Rattle.records.specs.Wire.{routeAt}
+use Rattle.table.specs.TableRules.{recordRules}
 use Rattle.table.proofs.rules.fault.Statement.{statement}
 use Rattle.table.proofs.rules.fault.Tie as tie
 
@@ -23,22 +25,22 @@ short c = le-leb _ _ (rw (c .before .len-at .ensures) at (c .if1 .left))
 addr-at-requires : tie.Need-addr-at-requires
 addr-at-requires c κs = search needs
 
-host-clear-requires : tie.Need-host-clear-requires
-host-clear-requires c κs = search needs
+host-bits-clear-requires : tie.Need-host-bits-clear-requires
+host-bits-clear-requires c κs = search needs
 
 returns-2 : tie.Need-returns-2
 unfolding broken recordRules
 returns-2 c =
     simp (
       short (c .before .before .before),
-      sym (rw (c .before .before .addr-at .ensures, c .before .before .before .before .len-at .ensures) at (c .before .host-clear .ensures))
+      sym (rw (c .before .before .addr-at .ensures, c .before .before .before .before .len-at .ensures) at (c .before .host-bits-clear .ensures))
           ∙ not-true _ (c .if2 .taken),
     )
 
 clear : (c : tie.Else2)
-    → hostClear (routeAt (c .before .before .before .before .before .before .args .table .now) (c .before .before .before .before .before .before .args .i)) ≡ true
+    → hostClear 32 (routeAt (c .before .before .before .before .before .before .args .table .now) (c .before .before .before .before .before .before .args .i) .addr) (routeAt (c .before .before .before .before .before .before .args .table .now) (c .before .before .before .before .before .before .args .i) .len) ≡ true
 clear c =
-    sym (rw (c .before .before .addr-at .ensures, c .before .before .before .before .len-at .ensures) at (c .before .host-clear .ensures))
+    sym (rw (c .before .before .addr-at .ensures, c .before .before .before .before .len-at .ensures) at (c .before .host-bits-clear .ensures))
     ∙ not-false _ (c .if2 .left)
 
 tail-kept-requires : tie.Need-tail-kept-requires
@@ -83,7 +85,7 @@ fault-spec =
     len-at-requires
     returns
     addr-at-requires
-    host-clear-requires
+    host-bits-clear-requires
     returns-2
     tail-kept-requires
     returns-3

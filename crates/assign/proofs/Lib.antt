@@ -1,0 +1,4 @@
+-- The laws of assign.
+pub mod PackedLaws
+pub mod AssignLaws
+pub mod LeafLaws

@@ -1,0 +1,236 @@
+-- Demands 2 and 3 of any engine: what its statement gives wherever its rules are guarded, so that an answer with records means an accepted table, a known
+-- mode, a hop for a default and an output that is long enough. Assumes of a table, where it says so, that its elements are bytes.
+use mathlib.Core.Path.{_≡_, refl, sym, ap, ap₂, _∙_, subst}
+use mathlib.Core.Bool.{Bool, true, false}
+use mathlib.Core.List.{List, _++_}
+use mathlib.Core.Logic.{inl, inr, _↔_, Iff·trans}
+use Prim.Native.Nat.{ℕ, zero, suc, _+_, _-_, _*_, _^_, _≤_, _<_}
+use native.Mathlib.Omega.{arith}
+use lib.IntN.{ℤ, pos, _-ℤ_, +ℤ-invr}
+use lib.ListN.{length, take, drop, length-append, length-drop}
+use lib.Seq.{take-at}
+use Rattle.theory.specs.Routes.{Route, All, Table, held, answer, filled, Alike}
+use Rattle.theory.specs.Results.{smallest, result}
+use Rattle.theory.specs.Demands.{Keeps, HopIn, HopFrom}
+use Rattle.theory.proofs.Lists.{all-map, all-member}
+use Rattle.theory.proofs.Chosen.{smallest-chooses}
+use Rattle.theory.proofs.Modes.{result-keeps, result-table, result-hops, result-again, drop-alike, fill-alike, set-alike}
+use Rattle.refusals.specs.Rules.{Rule, Reply, gives, refuses, judge}
+use Rattle.refusals.proofs.Judged.{gives-any}
+use Rattle.records.specs.Wire.{records, routes, bytesOf, Bytes}
+use Rattle.records.proofs.Written.{length-bytes, records-bytes, routes-bytes, bytes-small}
+use Rattle.table.specs.TableRules.{topHop}
+use Rattle.table.specs.Conditions.{Accepted, Lawful}
+use Rattle.table.proofs.Accepted.{not-refused, accepted}
+use Rattle.table.proofs.Tables.{accepted-table, table-accepted}
+use Rattle.calls.specs.declared.Rewritten.{Rewritten}
+use Rattle.calls.specs.declared.Rewritten.the-variants.{Records, Refused}
+use Rattle.calls.specs.Conditions.{Answerable, Guarded}
+use Rattle.calls.specs.Rewriting.{modeOf, resultOf, takesSet, Written, replyBy, writtenOf, outputOf, rewrittenSays, RewritesBy}
+use Rattle.calls.proofs.Settled.{rewritten-same}
+
+-- A reply that is said with records gives the result.
+reply-result : (rules : List Rule) (t : List ℕ) (mode default before : ℕ) {w : Written} → writtenOf before (replyBy rules t mode default) ≡ gives w
+    → replyBy rules t mode default ≡ gives (resultOf t mode default)
+unfolding replyBy
+reply-result rules t mode default before e = go (judge rules (resultOf t mode default)) refl e
+  where
+    go : (q : Reply (List Route)) → judge rules (resultOf t mode default) ≡ q → {w : Written} → writtenOf before q ≡ gives w
+        → judge rules (resultOf t mode default) ≡ gives (resultOf t mode default)
+    go (gives rs) p e = gives-any rules (resultOf t mode default) rs (resultOf t mode default) p
+    go (refuses n i) p e = let z : _≡_ {A = ℕ} 0 1 = cc in absurd (omega arith)
+
+-- ---- The hops that a mode may write are in range for it.
+hop-of : (s : Bool) {t : List Route} → All (λ r. r .hop ≤ topHop s) t → {h : ℕ} → HopIn t h → h ≤ topHop s
+hop-of s hops (r, (m, e)) = let k = all-member hops m in subst (λ (n : ℕ). n ≤ topHop s) e k
+
+hop-kept : (mode default : ℕ) → (1 ≤ mode) × (mode ≤ 5) → (mode ≡ 5 → default ≤ 63) → {t : List Route} → All (λ r. r .hop ≤ topHop (takesSet mode)) t
+    → (h : ℕ) → HopFrom (modeOf mode default) t h → h ≤ topHop (takesSet mode)
+hop-kept zero d m f hops h from = absurd (omega arith)
+hop-kept (suc zero) d m f hops h from = omega arith
+hop-kept (suc (suc zero)) d m f hops h from = hop-of (takesSet 2) hops from
+hop-kept (suc (suc (suc zero))) d m f hops h from = hop-of (takesSet 3) hops from
+hop-kept (suc (suc (suc (suc zero)))) d m f hops h from = hop-of (takesSet 4) hops from
+hop-kept (suc (suc (suc (suc (suc zero))))) d m f hops h (inl e) = let k = f refl in omega arith
+hop-kept (suc (suc (suc (suc (suc zero))))) d m f hops h (inr from) = hop-of (takesSet 5) hops from
+hop-kept (suc (suc (suc (suc (suc (suc n)))))) d m f hops h from = absurd (omega arith)
+
+-- ---- A table t, rewritten by an engine.
+module _ (rules : List Rule) (t : List ℕ) (mode default : ℕ) (o : List ℕ) (guarded : Guarded rules t mode default (length o)) (r : Rewritten) (o′ : List ℕ)
+    (ok : RewritesBy rules t mode default o r o′) where
+  -- ---- Demand 2.
+  -- An answer with records is the number of the result's records and the change, and the output has them from its start.
+  pub by-records : (count : ℕ) (change : ℤ) → r ≡ Records count change
+      → Answerable t mode default (length o) × (count ≡ length (resultOf t mode default))
+      × (change ≡ pos (length (resultOf t mode default)) -ℤ pos (records t))
+      × (o′ ≡ bytesOf (resultOf t mode default) ++ drop (8 * length (resultOf t mode default)) o)
+  by-records count change e =
+      let f = reply-result rules t mode default (records t) (sym (ok .answer) ∙ ap rewrittenSays e) in
+      let said : r ≡ Records (length (resultOf t mode default)) (pos (length (resultOf t mode default)) -ℤ pos (records t)) =
+      rewritten-same r (Records _ _) (ok .answer ∙ ap (writtenOf (records t)) f) in
+      let same : Records count change ≡ Records (length (resultOf t mode default)) (pos (length (resultOf t mode default)) -ℤ pos (records t)) = sym e ∙ said in
+      (guarded (resultOf t mode default) f, cc, cc, ok .output ∙ ap (outputOf o) f)
+
+  -- Answered or refused, the output keeps its length.
+  pub by-length : length o′ ≡ length o
+  by-length = go r refl
+    where
+      go : (q : Rewritten) → r ≡ q → length o′ ≡ length o
+      go (Records count change) e =
+          let f = by-records count change e in
+          let fits = f .0 .enough-output in
+          ap (λ (l : List ℕ). length l) (f .3) ∙ simp (length-append, length-drop, length-bytes) (omega arith)
+      go (Refused n i) e = ap (λ (l : List ℕ). length l) (ok .output) ∙ kept (replyBy rules t mode default) (sym (ok .answer) ∙ ap rewrittenSays e)
+        where
+          kept : (q : Reply (List Route)) → writtenOf (records t) q ≡ refuses n i → length (outputOf o q) ≡ length o
+          kept (refuses m j) h = refl
+          kept (gives rs) h = let z : _≡_ {A = ℕ} 0 1 = cc in absurd (omega arith)
+
+  module _ (count : ℕ) (change : ℤ) (answered : r ≡ Records count change) where
+    pub by-answerable : Answerable t mode default (length o)
+    by-answerable = by-records count change answered .0
+
+    pub by-counted : count ≡ length (resultOf t mode default)
+    by-counted = by-records count change answered .1
+
+    -- The records are written from the output's start.
+    pub by-written : take (8 * count) o′ ≡ bytesOf (resultOf t mode default)
+    by-written =
+        let f = by-records count change answered in
+        let n : 8 * count ≡ 8 * length (resultOf t mode default) = ap (λ (m : ℕ). 8 * m) (f .1) in
+        rw (n, f .3)
+        (take-at (bytesOf (resultOf t mode default)) (drop (8 * length (resultOf t mode default)) o) (8 * length (resultOf t mode default))
+        (length-bytes (resultOf t mode default)))
+
+    module _ (bytes : Bytes t) where
+      -- The table of bytes is one of routes, with hops in range.
+      pub by-lawful : Lawful (takesSet mode) (routes t)
+      by-lawful =
+          accepted-table (records t) (records t) (takesSet mode) t bytes (not-refused (takesSet mode) t (records t) (by-answerable .accepted)) .0
+
+      -- So is the result.
+      pub by-table : Table 32 (resultOf t mode default)
+      unfolding resultOf
+      by-table = result-table smallest smallest-chooses 32 (modeOf mode default) (by-lawful .table)
+
+      -- What is written reads back as the result.
+      pub by-reads : routes (take (8 * count) o′) ≡ result smallest 32 (modeOf mode default) (routes t)
+      unfolding resultOf
+      by-reads = ap routes by-written ∙ routes-bytes (resultOf t mode default) (by-table .valid)
+
+      -- And says of each address what is demanded of its mode: the sets hold it alike, the maps answer it alike, fill gives the unrouted the default.
+      pub by-keeps : (x : ℕ) → x < 2 ^ 32 → Keeps 32 (modeOf mode default) (routes t) (routes (take (8 * count) o′)) x
+      by-keeps x lt =
+          subst (λ (s : List Route). Keeps 32 (modeOf mode default) (routes t) s x) (sym by-reads)
+          (result-keeps smallest smallest-chooses 32 (modeOf mode default) (by-lawful .table) x lt)
+
+      by-hops : All (λ q. q .hop ≤ topHop (takesSet mode)) (resultOf t mode default)
+      unfolding resultOf
+      by-hops =
+          all-map
+          (λ q. hop-kept mode default (by-answerable .known-mode) (by-answerable .small-default) (by-lawful .hops) (q .hop))
+          (result-hops smallest smallest-chooses 32 (modeOf mode default) (routes t))
+
+      -- The written records are bytes.
+      pub by-output-bytes : Bytes (take (8 * count) o′)
+      by-output-bytes =
+          rw by-written
+          (bytes-small (resultOf t mode default) (by-table .valid)
+          (all-map (λ q h. below (takesSet mode) h) by-hops))
+        where
+          below : (s : Bool) {h : ℕ} → h ≤ topHop s → h < 256
+          below true k = omega arith
+          below false k = omega arith
+
+      -- They are an accepted table again where they are at most 1,024.
+      pub by-output-accepted : count ≤ 1024 → Accepted (takesSet mode) (take (8 * count) o′)
+      by-output-accepted few =
+          rw by-written
+          (accepted (takesSet mode) (bytesOf (resultOf t mode default)) count
+          (table-accepted count (takesSet mode) (resultOf t mode default)
+          (record {
+            table = by-table;
+            hops = by-hops;
+            few = let e = by-counted in omega arith;
+          })))
+
+      -- ---- Demand 3: rewriting again.
+      -- Their result in the same mode is they themselves.
+      by-again : resultOf (take (8 * count) o′) mode default ≡ resultOf t mode default
+      unfolding resultOf
+      by-again =
+          ap (λ (l : List ℕ). resultOf l mode default) by-written
+          ∙ ap (result smallest 32 (modeOf mode default)) (routes-bytes (resultOf t mode default) (by-table .valid))
+          ∙ result-again smallest smallest-chooses 32 (modeOf mode default) (by-lawful .table)
+
+      -- They are answerable again where they are at most 1,024 and the output is long enough for them.
+      pub again-answerable : count ≤ 1024 → (room : ℕ) → 8 * count ≤ room → Answerable (take (8 * count) o′) mode default room
+      again-answerable few room fits =
+          record {
+            known-mode = by-answerable .known-mode;
+            small-default = by-answerable .small-default;
+            accepted = by-output-accepted few;
+            enough-output = let e = by-counted in rw by-again (omega arith);
+          }
+
+-- Rewritten again in their mode, by the same engine or another and without refusal, the records of an output are given back with change 0: as many records,
+-- and the same bytes from the output's start.
+pub again-by : (rules : List Rule) (t : List ℕ) (mode default : ℕ) (o : List ℕ) → Guarded rules t mode default (length o) → (count : ℕ) (change : ℤ) (o′ : List ℕ)
+    → RewritesBy rules t mode default o (Records count change) o′ → Bytes t
+    → (more : List Rule) (p : List ℕ) → Guarded more (take (8 * count) o′) mode default (length p) → (q : Rewritten) (p′ : List ℕ)
+    → RewritesBy more (take (8 * count) o′) mode default p q p′
+    → (number : ℕ) (other : ℤ) → q ≡ Records number other → (q ≡ Records count (pos 0)) × (take (8 * count) p′ ≡ take (8 * count) o′)
+again-by rules t mode default o guarded count change o′ ok bytes more p guards q p′ b number other e =
+    let f = by-records more (take (8 * count) o′) mode default p guards q p′ b number other e in
+    let counted : count ≡ length (resultOf t mode default) = by-counted rules t mode default o guarded (Records count change) o′ ok count change refl in
+    let written : take (8 * count) o′ ≡ bytesOf (resultOf t mode default) =
+    by-written rules t mode default o guarded (Records count change) o′ ok count change refl in
+    let again : resultOf (take (8 * count) o′) mode default ≡ resultOf t mode default =
+    by-again rules t mode default o guarded (Records count change) o′ ok count change refl bytes in
+    let size : length (resultOf (take (8 * count) o′) mode default) ≡ length (resultOf t mode default) = ap (λ (l : List Route). length l) again in
+    let before : records (take (8 * count) o′) ≡ length (resultOf t mode default) =
+    ap (λ (l : List ℕ). records l) written ∙ records-bytes (resultOf t mode default) in
+    let en : number ≡ count = f .1 ∙ size ∙ sym counted in
+    let ec : other ≡ pos 0 =
+    f .2 ∙ ap₂ (λ (a b : ℕ). pos a -ℤ pos b) size before ∙ +ℤ-invr (pos (length (resultOf t mode default))) in (
+      e ∙ ap₂ Records en ec,
+      ap (λ (n : ℕ). take (8 * n) p′) (sym en)
+          ∙ by-written more (take (8 * count) o′) mode default p guards q p′ b number other e ∙ ap bytesOf again ∙ sym written,
+    )
+
+-- ---- Demand 3: two tables t and s, each rewritten by an engine, the same or another, without refusal.
+module _ (rules : List Rule) (t : List ℕ) (bytes : Bytes t) (o : List ℕ) (count : ℕ) (change : ℤ) (o′ : List ℕ)
+    (more : List Rule) (s : List ℕ) (small : Bytes s) (p : List ℕ) (number : ℕ) (other : ℤ) (p′ : List ℕ) where
+  -- The same bytes are written exactly when the results are the same.
+  same-results-by : (mode d e : ℕ) → Guarded rules t mode d (length o) → RewritesBy rules t mode d o (Records count change) o′
+      → Guarded more s mode e (length p) → RewritesBy more s mode e p (Records number other) p′
+      → take (8 * count) o′ ≡ take (8 * number) p′ ↔ resultOf t mode d ≡ resultOf s mode e
+  same-results-by mode d e g a h b =
+      let f = by-written rules t mode d o g (Records count change) o′ a count change refl in
+      let k = by-written more s mode e p h (Records number other) p′ b number other refl in
+      let u = by-table rules t mode d o g (Records count change) o′ a count change refl bytes .valid in
+      let v = by-table more s mode e p h (Records number other) p′ b number other refl small .valid in (
+        λ q. sym (routes-bytes (resultOf t mode d) u) ∙ ap routes (sym f ∙ q ∙ k) ∙ routes-bytes (resultOf s mode e) v,
+        λ q. f ∙ ap bytesOf q ∙ sym k,
+      )
+
+  -- Mode 4: exactly when they send all addresses the same way, no route included.
+  pub drop-by : (d e : ℕ) → Guarded rules t 4 d (length o) → RewritesBy rules t 4 d o (Records count change) o′
+      → Guarded more s 4 e (length p) → RewritesBy more s 4 e p (Records number other) p′
+      → take (8 * count) o′ ≡ take (8 * number) p′ ↔ Alike 32 (answer 32 (routes t)) (answer 32 (routes s))
+  unfolding resultOf
+  drop-by d e g a h b = Iff·trans (same-results-by 4 d e g a h b) (drop-alike smallest smallest-chooses 32 (routes t) (routes s))
+
+  -- Mode 5, at one default: exactly when they do once unrouted addresses have the default.
+  pub fill-by : (d : ℕ) → Guarded rules t 5 d (length o) → RewritesBy rules t 5 d o (Records count change) o′
+      → Guarded more s 5 d (length p) → RewritesBy more s 5 d p (Records number other) p′
+      → take (8 * count) o′ ≡ take (8 * number) p′ ↔ Alike 32 (filled d (answer 32 (routes t))) (filled d (answer 32 (routes s)))
+  unfolding resultOf
+  fill-by d g a h b = Iff·trans (same-results-by 5 d d g a h b) (fill-alike smallest smallest-chooses 32 d (routes t) (routes s))
+
+  -- Mode 1: exactly when they hold the same addresses.
+  pub set-by : (d e : ℕ) → Guarded rules t 1 d (length o) → RewritesBy rules t 1 d o (Records count change) o′
+      → Guarded more s 1 e (length p) → RewritesBy more s 1 e p (Records number other) p′
+      → take (8 * count) o′ ≡ take (8 * number) p′ ↔ ((x : ℕ) → x < 2 ^ 32 → held 32 (routes t) x ≡ held 32 (routes s) x)
+  unfolding resultOf
+  set-by d e g a h b = Iff·trans (same-results-by 1 d e g a h b) (set-alike smallest smallest-chooses 32 (routes t) (routes s))

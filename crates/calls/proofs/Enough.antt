@@ -1,0 +1,38 @@
+-- Rooms that are always long enough: 8,200 bytes of output and 824,480 words of work room. Assumes of the table that its elements are bytes.
+use mathlib.Core.Path.{_≡_}
+use mathlib.Core.List.{List}
+use Prim.Native.Nat.{ℕ, _*_, _≤_}
+use native.Mathlib.Omega.{arith}
+use lib.ListN.{length}
+use Rattle.theory.specs.Results.{smallest}
+use Rattle.theory.proofs.Chosen.{smallest-chooses}
+use Rattle.theory.proofs.Lengths.{most-of, result-length}
+use Rattle.records.specs.Wire.{Bytes, records, routes}
+use Rattle.table.specs.Conditions.{Accepted}
+use Rattle.table.proofs.Accepted.{not-refused}
+use Rattle.nodecount.specs.Nodes.{nodes}
+use Rattle.nodecount.proofs.NodeCount.{nodes-most}
+use Rattle.table.proofs.Tables.{accepted-table}
+use Rattle.calls.specs.Conditions.{Answerable}
+use Rattle.calls.specs.Rewriting.{modeOf, resultOf, takesSet}
+
+-- With such rooms an accepted table is answered in every mode, mode 5 given a hop: none is refused for room.
+pub rooms-enough : (t : List ℕ) (mode default room words : ℕ) → Bytes t → (1 ≤ mode) × (mode ≤ 5) → (mode ≡ 5 → default ≤ 63) → Accepted (takesSet mode) t
+    → 8200 ≤ room → 824480 ≤ words → Answerable t mode default room × (160 * nodes 32 (routes t) ≤ words)
+unfolding resultOf
+rooms-enough t mode default room words bytes known small accepted output work =
+    let lawful = accepted-table (records t) (records t) (takesSet mode) t bytes (not-refused (takesSet mode) t (records t) accepted) .0 in (
+      record {
+        known-mode = known;
+        small-default = small;
+        accepted = accepted;
+        enough-output =
+            omega (
+              arith,
+              lawful .few,
+              most-of (modeOf mode default) (length (routes t)),
+              result-length smallest smallest-chooses 32 (modeOf mode default) (lawful .table),
+            );
+      },
+      omega (arith, nodes-most (lawful .table) (lawful .few)),
+    )

@@ -1,0 +1,2 @@
+-- What the contracts of gather say.
+pub mod Gathered

@@ -1,0 +1,225 @@
+// One pass over a node's run: which records stand at each of its positions, and which lie in each of its slots; and by these the hop that covers
+// each position.
+
+use records::addr_at;
+use records::hop_at;
+use records::len_at;
+use words::bits::with_bit;
+ghost use mathlib.Core.Path.{_≡_};
+ghost use Prim.Native.Nat.{ℕ, _+_, _-_, _*_, _/_, _^_, _≤_, _<_};
+ghost use lib.Dec.{eqb};
+ghost use mathlib.Core.Bool.{false, _||_};
+ghost use lib.ListN.{length, getD};
+ghost use Rattle.records.specs.Wire.{records};
+ghost use Rattle.words.specs.Bits.{bit};
+ghost use Rattle.words.specs.Positions.{position};
+ghost use Rattle.positions.specs.Runs.{sizeAt, placeAt};
+ghost use Rattle.nodes.specs.Node.{wide, slotSize, wideAt, Node};
+ghost use Rattle.gather.specs.Gathered.{levelOf, Gathered, Occupied, firstOf, valueOf, overAt, coveringAt};
+
+// The wide address of record i.
+pub fn wide_at(table: &[u8], i: usize) -> u64
+    requires { ⌜ i < records (now table) ⌝ }
+    ensures { λ r. ⌜ (r ≡ wideAt (now (table .entry)) i .addr) × (r < 2 ^ wide) ⌝ }
+{
+    (addr_at(table, i) as u64) * 8
+}
+
+// The length of record i.
+pub fn size_at(table: &[u8], i: usize) -> usize
+    requires { ⌜ i < records (now table) ⌝ }
+    ensures { λ r. ⌜ (r ≡ wideAt (now (table .entry)) i .len) × (r < 256) ⌝ }
+{
+    len_at(table, i) as usize
+}
+
+// The level of a length in a node at this depth: 0 to 4 for its positions, 5 for its slots.
+pub fn level_of(len: usize, depth: usize) -> usize
+    requires { ⌜ (depth ≤ 30) × (depth ≤ len) ⌝ }
+    ensures { λ r. ⌜ (r ≡ levelOf len depth) × (r ≤ 5) ⌝ }
+{
+    if len < depth + 5 { len - depth } else { 5 }
+}
+
+// The place, in the heap of a node, of the address at a level.
+pub fn heap_index(addr: u64, level: usize, depth: usize, key: u64) -> usize
+    requires { ⌜ (depth ≤ 30) × (level ≤ 5) ⌝ }
+    requires { ⌜ (key ≤ addr) × (addr < key + 2 ^ (wide - depth)) ⌝ }
+    ensures { λ r. ⌜ r ≡ position level ((addr - key) / 2 ^ sizeAt (slotSize depth) level) ⌝ }
+    ensures { λ r. ⌜ (addr - key) / 2 ^ sizeAt (slotSize depth) level < 2 ^ level ⌝ }
+{
+    let below = 35 - depth - level;
+    (1 << level) - 1 + (((addr - key) >> below) as usize)
+}
+
+// Where the records of a place begin, once record i is one of them.
+pub fn first_of(first: u16, end: u16, i: u16) -> u16
+    ensures { λ r. ⌜ r ≡ firstOf first end i ⌝ }
+{
+    if first < end { first } else { i }
+}
+
+// The positions with a record, once place b has one; the places from 31 on are slots.
+pub fn marked(present: u32, b: usize) -> u32
+    requires { ⌜ b < 63 ⌝ }
+    ensures { λ r. ⌜ ((i : ℕ) → i < 31 → bit r i ≡ (eqb i b || bit present i)) ⌝ }
+    ensures { λ r. ⌜ bit r 31 ≡ bit present 31 ⌝ }
+{
+    if b < 31 {
+        with_bit(present, b as u32)
+    } else {
+        present
+    }
+}
+
+// The slots with a record, once place b has one; the places from 31 on are slots.
+pub fn with_slot(occupied: u32, b: usize) -> u32
+    requires { ⌜ b < 63 ⌝ }
+    ensures { λ r. ⌜ ((c : ℕ) → c < 32 → bit r c ≡ (eqb (31 + c) b || bit occupied c)) ⌝ }
+{
+    if b < 31 {
+        occupied
+    } else {
+        with_bit(occupied, (b - 31) as u32)
+    }
+}
+
+// The first of the records i..hi that stands at the wide address `past` or after it; hi where none does. The addresses are compared as they
+// stand in the records, which is quicker.
+pub fn first_past(table: &[u8], i: usize, hi: usize, past: u64) -> usize
+    requires { ⌜ (i ≤ hi) × (hi ≤ records (now table)) ⌝ }
+    requires { ⌜ past ≤ 2 ^ 36 ⌝ }
+    ensures { λ r. ⌜ (i ≤ r) × (r ≤ hi) ⌝ }
+    ensures { λ r. ⌜ ((k : ℕ) → i ≤ k → k < r → wideAt (now (table .entry)) k .addr < past) ⌝ }
+    ensures { λ r. ⌜ (r < hi → past ≤ wideAt (now (table .entry)) r .addr) ⌝ }
+{
+    let limit = (past + 7) / 8;
+    let mut at = i;
+    while at < hi {
+        if limit <= addr_at(table, at) as u64 {
+            return at;
+        }
+        at += 1;
+    }
+    at
+}
+
+// Where the records of place b end, record i being its first: a slot has all that stand before its end, a position that one.
+pub fn place_end(table: &[u8], i: usize, hi: usize, b: usize, depth: usize, key: u64) -> usize
+    requires { ⌜ (i < hi) × (hi ≤ records (now table)) ⌝ }
+    requires { ⌜ (b < 63) × ((depth ≤ 30) × (key + 2 ^ (wide - depth) ≤ 2 ^ wide)) ⌝ }
+    ensures { λ r. ⌜ (i < r) × (r ≤ hi) ⌝ }
+    ensures { λ r. ⌜ ((k : ℕ) → i < k → k < r → (31 ≤ b) × (wideAt (now (table .entry)) k .addr < placeAt (slotSize depth) key 5 (b - 31) + 2 ^ slotSize depth)) ⌝ }
+    ensures { λ r. ⌜ (r < hi → 31 ≤ b → placeAt (slotSize depth) key 5 (b - 31) + 2 ^ slotSize depth ≤ wideAt (now (table .entry)) r .addr) ⌝ }
+{
+    if b < 31 {
+        i + 1
+    } else {
+        first_past(
+            table,
+            i + 1,
+            hi,
+            slot_key(key, depth, b - 31) + (1 << (30 - depth)),
+        )
+    }
+}
+
+// What one pass finds: the positions with a record, and the slots with one, as the bits of two words.
+pub struct Gathering {
+    pub present: u32,
+    pub occupied: u32,
+}
+
+// Gathers a node's run: for each place of its heap the records first[b]..end[b]; the positions that have one, and the slots that have one.
+// The records of a slot follow each other, so the place is found once for all of them.
+pub fn gather_run(
+    table: &[u8],
+    lo: u16,
+    hi: u16,
+    depth: usize,
+    key: u64,
+    first: &mut [u16; 63],
+    end: &mut [u16; 63],
+) -> Gathering
+    requires { ⌜ Node (now table) lo hi depth key ⌝ }
+    requires { ⌜ (length (now first) ≡ 63) × (length (now end) ≡ 63) ⌝ }
+    requires { ⌜ ((b : ℕ) → b < 63 → (getD (now first) b 0 ≡ 0) × (getD (now end) b 0 ≡ 0)) ⌝ }
+    ensures { λ r. ⌜ Gathered (now (table .entry)) lo hi depth key (now (first .exit)) (now (end .exit)) (r .present) ⌝ }
+    ensures { λ r. ⌜ Occupied (now (table .entry)) lo hi depth key (r .occupied) ⌝ }
+{
+    let mut present: u32 = 0;
+    let mut occupied: u32 = 0;
+    let upto = hi as usize;
+    let mut i = lo as usize;
+    while i < upto {
+        let level = level_of(size_at(table, i), depth);
+        let b = heap_index(wide_at(table, i), level, depth, key);
+        let stop = place_end(table, i, upto, b, depth, key);
+        first[b] = first_of(first[b], end[b], i as u16);
+        end[b] = stop as u16;
+        present = marked(present, b);
+        occupied = with_slot(occupied, b);
+        i = stop;
+    }
+    Gathering { present, occupied }
+}
+
+// The hop that covers position b from above.
+pub fn over_at(hops: &[u8; 31], b: usize, above: u8) -> u8
+    requires { ⌜ b < 31 ⌝ }
+    ensures { λ r. ⌜ r ≡ overAt (now (hops .entry)) b above ⌝ }
+{
+    if b == 0 { above } else { hops[(b - 1) / 2] }
+}
+
+// The hop of the first of the records first..end, or the one above where there is none.
+pub fn value_at(table: &[u8], first: u16, end: u16, over: u8) -> u8
+    requires { ⌜ end ≤ records (now table) ⌝ }
+    ensures { λ r. ⌜ r ≡ valueOf (now (table .entry)) first end over ⌝ }
+{
+    if first < end {
+        hop_at(table, first as usize)
+    } else {
+        over
+    }
+}
+
+// The hop that covers each position of a node, its own record included; `noHop` for none.
+pub fn covering_values(table: &[u8], first: &[u16; 63], end: &[u16; 63], inherited: u8) -> [u8; 31]
+    requires { ⌜ ((b : ℕ) → b < 63 → getD (now end) b 0 ≤ records (now table)) ⌝ }
+    ensures { λ r. ⌜ ((l j : ℕ) → l ≤ 4 → j < 2 ^ l → getD r (position l j) 0 ≡ coveringAt (now (table .entry)) (now (first .entry)) (now (end .entry)) inherited l j) ⌝ }
+{
+    let mut hops = [inherited; 31];
+    let mut b: usize = 0;
+    while b < 31 {
+        hops[b] = value_at(table, first[b], end[b], over_at(&hops, b, inherited));
+        b += 1;
+    }
+    hops
+}
+
+// The hop that covers each position of a node, its own record included; `noHop` for none. Where no position has a record it is the inherited one.
+pub fn covering_hops(
+    table: &[u8],
+    present: u32,
+    first: &[u16; 63],
+    end: &[u16; 63],
+    inherited: u8,
+) -> [u8; 31]
+    requires { ⌜ ((b : ℕ) → b < 63 → getD (now end) b 0 ≤ records (now table)) ⌝ }
+    requires { ⌜ ((b : ℕ) → b < 31 → bit present b ≡ false → getD (now end) b 0 ≤ getD (now first) b 0) ⌝ }
+    ensures { λ r. ⌜ ((l j : ℕ) → l ≤ 4 → j < 2 ^ l → getD r (position l j) 0 ≡ coveringAt (now (table .entry)) (now (first .entry)) (now (end .entry)) inherited l j) ⌝ }
+{
+    if present == 0 {
+        return [inherited; 31];
+    }
+    covering_values(table, first, end, inherited)
+}
+
+// The wide address of slot c.
+pub fn slot_key(key: u64, depth: usize, c: usize) -> u64
+    requires { ⌜ (depth ≤ 30) × ((c < 32) × (key + 2 ^ (wide - depth) ≤ 2 ^ wide)) ⌝ }
+    ensures { λ r. ⌜ r ≡ placeAt (slotSize depth) key 5 c ⌝ }
+{
+    key + ((c as u64) << (30 - depth))
+}

@@ -1,0 +1,59 @@
+-- Worked tables, from bytes to replies. Assumes nothing.
+use mathlib.Core.Path.{_≡_, refl}
+use mathlib.Core.Bool.{true, false}
+use mathlib.Core.List.{List, [], _∷_}
+use Prim.Native.Nat.{ℕ, _+_, _*_}
+use Rattle.theory.specs.Routes.{miss, hit}
+use Rattle.table.specs.Checking.{checkReply}
+use Rattle.lookup.specs.Calls.{lookupReply, addressSum, heldReply}
+use Rattle.refusals.specs.Rules.{gives, refuses, judge}
+use Rattle.records.specs.Wire.{routeAt, routesFrom, routes}
+use Rattle.table.specs.TableRules.{recordRules, rulesFrom, tableRules}
+
+-- 10.0.0.0/8 by hop 1, and 10.1.0.0/16 inside it by hop 2.
+abbrev nested : List ℕ
+nested = 10 ∷ 0 ∷ 0 ∷ 0 ∷ 8 ∷ 1 ∷ 0 ∷ 0 ∷ 10 ∷ 1 ∷ 0 ∷ 0 ∷ 16 ∷ 2 ∷ 0 ∷ 0 ∷ []
+
+-- An address as its octets are written.
+abbrev ip : ℕ → ℕ → ℕ → ℕ → ℕ
+ip a b c d = ((a * 256 + b) * 256 + c) * 256 + d
+
+-- Each record counts: 2 ^ 24 and 2 ^ 16.
+pub nested-held : heldReply nested ≡ gives 16842752
+unfolding judge tableRules rulesFrom recordRules routeAt routesFrom routes addressSum
+nested-held = refl
+
+-- Inside both the longer match wins.
+pub nested-inside : lookupReply nested (ip 10 1 2 3) ≡ gives (hit 16 2)
+unfolding judge tableRules rulesFrom recordRules routeAt routesFrom routes
+nested-inside = refl
+
+-- The shorter serves the rest.
+pub nested-rest : lookupReply nested (ip 10 2 2 3) ≡ gives (hit 8 1)
+unfolding judge tableRules rulesFrom recordRules routeAt routesFrom routes
+nested-rest = refl
+
+-- Outside both there is no route.
+pub nested-outside : lookupReply nested (ip 11 1 2 3) ≡ gives miss
+unfolding judge tableRules rulesFrom recordRules routeAt routesFrom routes
+nested-outside = refl
+
+-- As a set it is refused by its first hop.
+pub nested-set : checkReply true nested ≡ refuses 7 0
+unfolding judge tableRules rulesFrom recordRules routeAt
+nested-set = refl
+
+-- The octets of 10.0.0.0/8 reversed have host bits.
+pub reversed-octets : checkReply false (0 ∷ 0 ∷ 0 ∷ 10 ∷ 8 ∷ 1 ∷ 0 ∷ 0 ∷ []) ≡ refuses 6 0
+unfolding judge tableRules rulesFrom recordRules routeAt
+reversed-octets = refl
+
+-- The first bad record is named, with its lowest number: record 1 has a bad hop and stands before record 0, record 2 is too long.
+pub first-and-lowest : checkReply false (10 ∷ 0 ∷ 0 ∷ 0 ∷ 8 ∷ 1 ∷ 0 ∷ 0 ∷ 9 ∷ 0 ∷ 0 ∷ 0 ∷ 8 ∷ 64 ∷ 0 ∷ 0 ∷ 11 ∷ 0 ∷ 0 ∷ 0 ∷ 33 ∷ 0 ∷ 0 ∷ 0 ∷ []) ≡ refuses 7 1
+unfolding judge tableRules rulesFrom recordRules routeAt
+first-and-lowest = refl
+
+-- A record twice is not in strict order.
+pub twice : checkReply true (0 ∷ 0 ∷ 0 ∷ 0 ∷ 0 ∷ 0 ∷ 0 ∷ 0 ∷ 0 ∷ 0 ∷ 0 ∷ 0 ∷ 0 ∷ 0 ∷ 0 ∷ 0 ∷ []) ≡ refuses 8 1
+unfolding judge tableRules rulesFrom recordRules routeAt
+twice = refl

@@ -1,0 +1,53 @@
+-- Lookup and addresses held: what each case of an answer says in document 01's terms, and which reply is right.
+use Prim.Native.Nat.{ℕ, _+_, _-_, _^_, _≤_, _<_}
+use mathlib.Core.Bool.{false}
+use mathlib.Core.List.{List, [], _∷_}
+use Rattle.theory.specs.Routes.{Route, Match, miss, hit, lookup}
+use Rattle.lookup.specs.declared.answers.Lookup.{Lookup}
+use Rattle.lookup.specs.declared.answers.Lookup.the-variants.{Route as Found, NoRoute, Refused as NotLooked}
+use Rattle.lookup.specs.declared.answers.AddressesHeld.{AddressesHeld}
+use Rattle.lookup.specs.declared.answers.AddressesHeld.the-variants.{Sum, Refused as NotSummed}
+use Rattle.lookup.specs.declared.matching.Found.{Found as Best}
+use Rattle.lookup.specs.declared.matching.Found.the-variants.{Nothing, Match as One}
+use Rattle.refusals.specs.Rules.{Reply, gives, refuses, judge}
+use Rattle.records.specs.Wire.{routeAt, records, routes}
+use Rattle.table.specs.TableRules.{tableRules}
+
+-- ---- Lookup.
+
+-- It gives the longest match as length and hop, or that there is none, or a refusal.
+abbrev pub lookupSays : Lookup → Reply Match
+lookupSays (Found hop len) = gives (hit len hop)
+lookupSays NoRoute = gives miss
+lookupSays (NotLooked number index) = refuses number index
+
+-- The right reply for a map's table and an address.
+abbrev pub lookupReply : List ℕ → ℕ → Reply Match
+lookupReply t x = judge (tableRules false t) (lookup 32 (routes t) x)
+
+-- ---- Addresses held.
+
+-- The sum over the routes of the number of addresses of each, in width w.
+unfoldable pub addressSum : ℕ → List Route → ℕ
+addressSum w [] = 0
+addressSum w (r ∷ rs) = 2 ^ (w - r .len) + addressSum w rs
+
+-- It gives the sum, or a refusal.
+abbrev pub heldSays : AddressesHeld → Reply ℕ
+heldSays (Sum n) = gives n
+heldSays (NotSummed number index) = refuses number index
+
+-- The right reply for a map's table.
+abbrev pub heldReply : List ℕ → Reply ℕ
+heldReply t = judge (tableRules false t) (addressSum 32 (routes t))
+
+-- ---- What the inner functions ask and say.
+
+-- The match that a search has found so far.
+abbrev pub matchOf : Best → Match
+matchOf Nothing = miss
+matchOf (One hop len) = hit len hop
+
+-- Each record's length is in range.
+abbrev pub Short : List ℕ → Type 0
+Short t = (i : ℕ) → i < records t → routeAt t i .len ≤ 32

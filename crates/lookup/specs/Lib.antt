@@ -1,0 +1,2 @@
+-- What lookup and addresses held answer.
+pub mod Calls

@@ -1,0 +1,2 @@
+-- What the contracts of maximal say.
+pub mod Maximal

@@ -1,0 +1,44 @@
+-- Laws of a table's routes, read record by record. Assumes nothing.
+use mathlib.Core.Path.{_≡_, refl, ap, ap₂, _∙_}
+use mathlib.Core.List.{List, [], _∷_}
+use Prim.Native.Nat.{ℕ, zero, suc, _-_, _≤_, _<_}
+use native.Mathlib.Omega.{arith}
+use lib.ListN.{length}
+use Rattle.theory.specs.Routes.{Route}
+use Rattle.records.specs.Wire.{routeAt, routesFrom, records, routes}
+
+-- The routes from record i on.
+abbrev pub rest : List ℕ → ℕ → List Route
+rest t i = routesFrom t i (records t - i)
+
+-- Behind the last record there are none.
+pub rest-end : (t : List ℕ) (i : ℕ) → i ≡ records t → rest t i ≡ []
+unfolding routesFrom
+rest-end t i e =
+    let z : records t - i ≡ 0 = omega arith in
+    rw z
+
+-- From record 0 on they are the table's.
+pub rest-all : (t : List ℕ) (i : ℕ) → i ≡ 0 → rest t i ≡ routes t
+unfolding routes
+rest-all t i e = ap₂ (routesFrom t) e (omega arith)
+
+-- One record more in front.
+pub rest-step : (t : List ℕ) (i : ℕ) → 0 < i → i ≤ records t → rest t (i - 1) ≡ routeAt t (i - 1) ∷ rest t i
+unfolding routesFrom
+rest-step t i p h =
+    let e : records t - (i - 1) ≡ suc (records t - i) = omega arith in
+    let f : suc (i - 1) ≡ i = omega arith in
+    ap (routesFrom t (i - 1)) e ∙ ap (λ (j : ℕ). routeAt t (i - 1) ∷ routesFrom t j (records t - i)) f
+
+-- ---- How many they are.
+-- There are as many as asked for.
+pub length-from : (t : List ℕ) (i k : ℕ) → length (routesFrom t i k) ≡ k
+unfolding routesFrom
+length-from t i zero = refl
+length-from t i (suc k) = ap suc (length-from t (suc i) k)
+
+-- There is a route for each whole record.
+pub length-routes : (t : List ℕ) → length (routes t) ≡ records t
+unfolding routes
+length-routes t = length-from t 0 (records t)

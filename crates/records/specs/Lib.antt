@@ -1,0 +1,2 @@
+-- The table on the wire.
+pub mod Wire

@@ -1,0 +1,7 @@
+-- The laws of refusing. The theorems to look for: Judged.gives-exactly and refuses-exactly; Ranked.ranked-append and singles, which show the order of
+-- a call's rules; Answered.unique, given-exactly and refused-exactly, which every call's statement has.
+pub mod Shown
+pub mod Judged
+pub mod Ranked
+pub mod Answered
+pub mod Examples

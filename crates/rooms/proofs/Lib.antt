@@ -1,0 +1,2 @@
+-- The laws of rooms of one value.
+pub mod RoomLaws

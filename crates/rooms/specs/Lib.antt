@@ -1,0 +1,2 @@
+-- A room of one value.
+pub mod Rooms

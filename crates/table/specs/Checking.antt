@@ -1,0 +1,18 @@
+-- The check of a table: what each case of its answer says, and which reply is right.
+use Prim.Native.Nat.{ℕ}
+use mathlib.Core.Bool.{Bool}
+use mathlib.Core.List.{List}
+use Rattle.refusals.specs.Rules.{Reply, gives, refuses, judge}
+use Rattle.records.specs.Wire.{records}
+use Rattle.table.specs.declared.Checked.{Checked}
+use Rattle.table.specs.declared.Checked.the-variants.{Valid, Refused}
+use Rattle.table.specs.TableRules.{tableRules}
+
+-- It gives the number of records, or a refusal.
+abbrev pub checkedSays : Checked → Reply ℕ
+checkedSays (Valid n) = gives n
+checkedSays (Refused number index) = refuses number index
+
+-- The right reply for a table of a set or of a map.
+abbrev pub checkReply : Bool → List ℕ → Reply ℕ
+checkReply isSet t = judge (tableRules isSet t) (records t)

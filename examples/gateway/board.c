@@ -59,12 +59,12 @@ static void put_out(uintptr_t file, const void *from, size_t bytes)
 void board_write(const void *from, size_t bytes) { put_out(output, from, bytes); }
 void board_say(const void *from, size_t bytes) { put_out(error, from, bytes); }
 
-size_t board_stack_below(const void *address)
+size_t board_stack_used(void)
 {
     const volatile uint32_t *at = stack_low;
     while (at < stack_top && *at == PAINT)
         at++;
-    return (size_t)((uintptr_t)address - (uintptr_t)at);
+    return (uintptr_t)stack_top - (uintptr_t)at;
 }
 
 /* ---- The start. */

@@ -15,7 +15,7 @@ size_t board_read(void *to, size_t bytes);
 void board_write(const void *from, size_t bytes);
 void board_say(const void *from, size_t bytes);
 
-/* How many bytes of the stack below this address have been used since the start: the stack is painted before main is called. */
-size_t board_stack_below(const void *address);
+/* How many bytes of stack have been used since the start: the stack is painted before main is called. */
+size_t board_stack_used(void);
 
 #endif

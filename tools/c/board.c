@@ -22,4 +22,4 @@ size_t platform_read(uint8_t *to, size_t bytes)
 
 void platform_write(const char *text, size_t bytes) { board_write(text, bytes); }
 void platform_say(const char *text, size_t bytes) { board_say(text, bytes); }
-size_t platform_stack_below(const void *address) { return board_stack_below(address); }
+size_t platform_stack_used(void) { return board_stack_used(); }

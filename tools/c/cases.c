@@ -248,14 +248,13 @@ static const char *run(void)
 
 int main(void)
 {
-    char here = 0; /* about where main stands on the stack */
     const char *line = run();
     if (line != NULL) {
         print(line);
         print("\n");
     }
     flush();
-    size_t depth = platform_stack_below(&here);
+    size_t depth = platform_stack_used();
     if (depth > 0) {
         print("stack ");
         print_number(depth);

@@ -6,9 +6,4 @@
 size_t platform_read(uint8_t *to, size_t bytes) { return fread(to, 1, bytes, stdin); }
 void platform_write(const char *text, size_t bytes) { fwrite(text, 1, bytes, stdout); }
 void platform_say(const char *text, size_t bytes) { fwrite(text, 1, bytes, stderr); }
-
-size_t platform_stack_below(const void *address)
-{
-    (void)address;
-    return 0;
-}
+size_t platform_stack_used(void) { return 0; }

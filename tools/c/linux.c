@@ -93,10 +93,10 @@ static void put_out(int to, const char *text, size_t bytes)
 void platform_write(const char *text, size_t bytes) { put_out(1, text, bytes); }
 void platform_say(const char *text, size_t bytes) { put_out(2, text, bytes); }
 
-size_t platform_stack_below(const void *address)
+size_t platform_stack_used(void)
 {
-    const volatile uint8_t *at = stack;
-    while (at < stack + STACK && *at == PAINT)
-        at++;
-    return (size_t)((const uint8_t *)address - (const uint8_t *)at);
+    size_t unused = 0;
+    while (unused < STACK && ((volatile uint8_t *)stack)[unused] == PAINT)
+        unused++;
+    return STACK - unused;
 }

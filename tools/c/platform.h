@@ -15,7 +15,7 @@ size_t platform_read(uint8_t *to, size_t bytes);
 void platform_write(const char *text, size_t bytes);
 void platform_say(const char *text, size_t bytes);
 
-/* How many bytes of the stack below this address have been used since the program began; 0 where the place cannot tell. */
-size_t platform_stack_below(const void *address);
+/* How many bytes of stack the program has used so far; 0 where the place cannot tell. */
+size_t platform_stack_used(void);
 
 #endif

@@ -1,7 +1,7 @@
 /*
  * Suovvamet for C: a table of IPv4 routes made shorter without changing where any routed address is sent.
  *
- * What is said here of the four functions of the library is proved of them for every input (crates/suovvamet; docs/C.md has the theorems' names
+ * What is said here of the five functions of the library is proved of them for every input (crates/suovvamet; docs/C.md has the theorems' names
  * and how to build and link). They take no memory of their own but stack, keep nothing between calls and never fail to return. The header is
  * the same for every processor (docs/CORES.md).
  *
@@ -25,7 +25,8 @@
  *   - every number that is set through a pointer is set in every case, and a refusal sets all but *index to 0;
  *   - a table is only read; a work room is 0 throughout afterwards, answered or refused; nothing past a length is read or written.
  *
- * A call clears the whole room that it is lent, so it costs by that room too: lend what the table needs, not all that there is.
+ * A call clears the whole room that it is lent, so it costs by that room too: lend what the table needs, which suovvamet_work_words tells, and
+ * not all that there is.
  */
 #ifndef SUOVVAMET_H
 #define SUOVVAMET_H
@@ -97,6 +98,12 @@ uint32_t suovvamet_lookup(const uint8_t *table, uint64_t table_length, uint32_t 
 
 /* The sum over the records of a map of 2^(32 - length), in *addresses. Refusals 3 to 8. */
 uint32_t suovvamet_addresses_held(const uint8_t *table, uint64_t table_length, uint64_t *addresses, uint64_t *index);
+
+/*
+ * The words of work room that a rewrite of the table or a cover query needs, in *words: with as many no call refuses by number 10, with one less
+ * each does. The table is read as a set where is_set is not 0, else as a map. Refusals 3 to 8.
+ */
+uint32_t suovvamet_work_words(const uint8_t *table, uint64_t table_length, uint32_t is_set, uint64_t *words, uint64_t *index);
 
 /* A refusal in words, for a person to read. It is C, no function of the library, and proved by nothing. */
 static inline const char *suovvamet_refusal_text(uint32_t refusal)

@@ -1,0 +1,35 @@
+-- What the statement settles: no second answer satisfies it, and each case of an answer stands for exactly these facts. Assumes nothing.
+use mathlib.Core.Path.{_≡_, refl}
+use mathlib.Core.Bool.{Bool}
+use mathlib.Core.List.{List}
+use mathlib.Core.Logic.{_↔_}
+use Prim.Native.Nat.{ℕ, _*_}
+use native.Mathlib.Omega.{arith}
+use Rattle.table.specs.Facts.{Accepted, Refused as BadTable}
+use Rattle.table.specs.Nodes.{nodes}
+use Rattle.table.specs.Wire.{routes}
+use Rattle.table.proofs.Calls.{unique, gives-exactly, refuses-exactly}
+use Rattle.workroom.specs.declared.WorkWords.{WorkWords}
+use Rattle.workroom.specs.declared.WorkWords.the-variants.{Words, Refused}
+use Rattle.workroom.specs.Needed.{wordsSays, wordsReply}
+
+-- Answers that say the same are the same.
+words-same : (a b : WorkWords) → wordsSays a ≡ wordsSays b → a ≡ b
+words-same (Words m) (Words n) e = cc
+words-same (Words m) (Refused n i) e = let z : _≡_ {A = ℕ} 0 1 = cc in absurd (omega arith)
+words-same (Refused n i) (Words m) e = let z : _≡_ {A = ℕ} 0 1 = cc in absurd (omega arith)
+words-same (Refused m i) (Refused n j) e = cc
+
+module _ (s : Bool) (t : List ℕ) where
+  -- No second answer satisfies the statement.
+  pub words-unique : (a b : WorkWords) → wordsSays a ≡ wordsReply s t → wordsSays b ≡ wordsReply s t → a ≡ b
+  words-unique = unique wordsSays words-same s t (160 * nodes 32 (routes t))
+
+  module _ (r : WorkWords) (e : wordsSays r ≡ wordsReply s t) where
+    -- It answers a number exactly for an accepted table, and the number is the one below which document 01's number 10 is due.
+    pub words-exactly : (n : ℕ) → r ≡ Words n ↔ (Accepted s t × (160 * nodes 32 (routes t) ≡ n))
+    words-exactly n = gives-exactly wordsSays words-same s t (160 * nodes 32 (routes t)) r e (Words n) n refl
+
+    -- It answers a refusal exactly when its number and index are the first in the order.
+    pub words-refused-exactly : (n i : ℕ) → r ≡ Refused n i ↔ BadTable s t n i
+    words-refused-exactly n i = refuses-exactly wordsSays words-same s t (160 * nodes 32 (routes t)) r e (Refused n i) n i refl

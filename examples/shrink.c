@@ -41,9 +41,12 @@ int main(int argc, char **argv)
     }
     fclose(file);
 
-    uint64_t count, index;
+    int is_set = mode == SUOVVAMET_SET || mode == SUOVVAMET_CONSISTENT_SET;
+    uint64_t words, count, index;
     int64_t change;
-    uint32_t refusal = suovvamet_rewrite(table, length, mode, 0, output, sizeof output, work, SUOVVAMET_MOST_WORK, &count, &change, &index);
+    uint32_t refusal = suovvamet_work_words(table, length, is_set, &words, &index); /* never more than SUOVVAMET_MOST_WORK */
+    if (refusal == SUOVVAMET_ANSWERED)
+        refusal = suovvamet_rewrite(table, length, mode, 0, output, sizeof output, work, words, &count, &change, &index);
     if (refusal != SUOVVAMET_ANSWERED) {
         printf("refused %u at %llu\n", (unsigned)refusal, (unsigned long long)index);
         fprintf(stderr, "shrink: %s\n", suovvamet_refusal_text(refusal));
@@ -52,7 +55,7 @@ int main(int argc, char **argv)
     for (uint64_t i = 0; i < count; i++) {
         const uint8_t *record = output + 8 * i;
         printf("%d.%d.%d.%d/%d", record[0], record[1], record[2], record[3], record[4]);
-        if (mode != SUOVVAMET_SET && mode != SUOVVAMET_CONSISTENT_SET)
+        if (!is_set)
             printf(" %d", record[5]);
         printf("\n");
     }

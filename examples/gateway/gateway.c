@@ -61,10 +61,15 @@ static void say_number(uint32_t number)
 int main(void)
 {
     uint32_t length = receive_table();
-    uint64_t count, index;
+    uint64_t words, count, index;
     int64_t change;
-    uint32_t words = 160 * NODES;
-    uint32_t refusal = suovvamet_rewrite(table, length, MODE, DEFAULT_HOP, output, sizeof output, work, words, &count, &change, &index);
+    /* A rewrite clears all that it is lent, so it is lent what the table needs, where there is as much. */
+    uint32_t refusal = suovvamet_work_words(table, length, MODE <= SUOVVAMET_CONSISTENT_SET, &words, &index);
+    if (refusal == SUOVVAMET_ANSWERED) {
+        if (words > 160 * NODES)
+            words = 160 * NODES;
+        refusal = suovvamet_rewrite(table, length, MODE, DEFAULT_HOP, output, sizeof output, work, words, &count, &change, &index);
+    }
     if (refusal != SUOVVAMET_ANSWERED) {
         say("gateway: refused ");
         say_number(refusal);
@@ -81,7 +86,7 @@ int main(void)
     say(", out ");
     say_number((uint32_t)count);
     say("; bytes of work room ");
-    say_number(4 * words);
+    say_number(4 * (uint32_t)words);
     say(", of stack ");
     say_number((uint32_t)board_stack_used());
     say("\n");

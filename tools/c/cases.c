@@ -105,6 +105,31 @@ static int answered(uint32_t refusal, const struct guarded *index, int values_ze
     return 0;
 }
 
+/*
+ * Holds the words that the library says the table needs to what a call said that was lent so many: number 10 is due below them alone, and a
+ * refused table is refused alike.
+ */
+static void promise_words(size_t length, int is_set, size_t words, uint32_t refusal, uint64_t at)
+{
+    struct guarded needed = unset, index = unset;
+    uint32_t own = suovvamet_work_words(table, length, is_set ? 0x100 : 0, &needed.value, &index.value);
+    promise_guards(&needed);
+    promise_guards(&index);
+    if (own != SUOVVAMET_ANSWERED) {
+        promise(needed.value == 0, "words in a refusal");
+        promise(own >= SUOVVAMET_TABLE_LENGTH && own <= SUOVVAMET_ORDER, "words refused by no number of a table");
+        promise(refusal == SUOVVAMET_MODE || refusal == SUOVVAMET_DEFAULT || (refusal == own && at == index.value), "words refused otherwise");
+        return;
+    }
+    promise(index.value == 0, "index of an answer");
+    promise(needed.value >= 160 && needed.value <= SUOVVAMET_MOST_WORK && (uint32_t)needed.value % 160 == 0, "words that no table needs");
+    promise(refusal < SUOVVAMET_TABLE_LENGTH || refusal > SUOVVAMET_ORDER, "words of a refused table");
+    if (refusal == SUOVVAMET_WORK_ROOM)
+        promise(words < needed.value, "fewer words needed than were too few");
+    else if (refusal == SUOVVAMET_ANSWERED || refusal == SUOVVAMET_OUTPUT)
+        promise(words >= needed.value, "more words needed than were enough");
+}
+
 static void rewrite(size_t length, uint32_t mode, uint32_t default_hop, size_t room, size_t words)
 {
     struct guarded count = unset, index = unset, change_room = unset;
@@ -116,6 +141,7 @@ static void rewrite(size_t length, uint32_t mode, uint32_t default_hop, size_t r
         suovvamet_rewrite(table, length, mode, default_hop, output, room, work, words, &count.value, change, &index.value);
     promise_guards(&count);
     promise_guards(&change_room);
+    promise_words(length, mode <= SUOVVAMET_CONSISTENT_SET, words, refusal, index.value);
     if (answered(refusal, &index, count.value == 0 && *change == 0)) {
         for (size_t i = 0; i < count.value; i++) {
             const uint8_t *record = output + 8 * i;
@@ -148,6 +174,7 @@ static void covers(size_t length, uint32_t address, uint32_t query, size_t words
     struct guarded index = unset;
     uint32_t refusal = suovvamet_covers(table, length, address, query, work, words, &covered.value, &index.value);
     promise_guards32(&covered);
+    promise_words(length, 1, words, refusal, index.value);
     if (answered(refusal, &index, covered.value == 0)) {
         print(covered.value ? "covered\n" : "uncovered\n");
         promise(covered.value <= 1, "covered is no 0 or 1");

@@ -70,13 +70,17 @@ size_t board_stack_used(void)
 /* ---- The start. */
 __attribute__((noreturn)) void reset(void)
 {
+#ifdef __ARM_FP
+    *(volatile uint32_t *)0xE000ED88 |= 0xFu << 20; /* the floating point unit, whose registers a compiler may use to copy */
+    __asm__ volatile("dsb\n isb" ::: "memory");
+#endif
     volatile uint32_t *to = data_low;
     for (const uint32_t *from = data_kept; to < data_high;)
         *to++ = *from++;
     for (to = bss_low; to < bss_high;)
         *to++ = 0;
     /* Painted but for a little at the top, which this function may hold. */
-    for (to = stack_low; to < stack_top - 64;)
+    for (to = stack_low; (uintptr_t)to < (uintptr_t)stack_top - 256;)
         *to++ = PAINT;
     input = opened(INPUT), output = opened(OUTPUT), error = opened(ERROR);
     leave(main());

@@ -6,11 +6,9 @@
 #include "can.h"
 #include "suovvamet.h"
 
-enum {
-    MODE = SUOVVAMET_MAP_DROP,
-    DEFAULT_HOP = 0, /* read in mode 5 alone */
-    NODES = 5153     /* the room, 640 bytes a node: this many serve any table; with fewer, a table that needs more is refused by number 10 */
-};
+#define MODE SUOVVAMET_MAP_DROP
+#define DEFAULT_HOP 0 /* read in mode 5 alone */
+#define NODES 5153u   /* the room, 640 bytes a node: this many serve any table; with fewer, a table that needs more is refused by number 10 */
 
 static uint8_t table[SUOVVAMET_MOST_OUTPUT]; /* a record more than a table may have, so that a longer one is refused by number 4 */
 static uint8_t output[SUOVVAMET_MOST_OUTPUT];

@@ -49,16 +49,8 @@ cover-number (long-query h) = omega arith
 cover-number (short-room h) = omega arith
 
 -- ---- Number 10 is the work room's alone.
-record-below : {s : Bool} {t : List ℕ} {i n : ℕ} → RecordCondition s t i n → n ≤ 8
-record-below (too-long f) = omega arith
-record-below (host-bits f) = omega arith
-record-below (bad-tail f) = omega arith
-record-below (not-after f) = omega arith
-
 table-below : {s : Bool} {t : List ℕ} {n i : ℕ} → TableCondition s t n i → n ≤ 8
-table-below (not-whole f) = omega arith
-table-below (too-many h) = omega arith
-table-below (of-record h c) = record-below c
+table-below {s} {t} {n} {i} c = table-numbers s t n i c .1
 
 rewrite-ten : {t : List ℕ} {mode default room words n i : ℕ} → RewriteCondition t mode default room words n i → n ≡ 10 → words < 160 * nodes 32 (routes t)
 rewrite-ten (no-mode f) e = absurd (omega arith)

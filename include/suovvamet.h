@@ -1,8 +1,9 @@
 /*
  * Suovvamet for C: a table of IPv4 routes made shorter without changing where any routed address is sent.
  *
- * What is said here of the four functions is proved of them for every input (crates/suovvamet; docs/C.md has the theorems' names and how to
- * build and link). They take no memory of their own but stack, keep nothing between calls and never fail to return.
+ * What is said here of the five functions of the library is proved of them for every input (crates/suovvamet; docs/C.md has the theorems' names
+ * and how to build and link). They take no memory of their own but stack, keep nothing between calls and never fail to return. The header is
+ * the same for every processor (docs/CORES.md).
  *
  * A table is records of 8 bytes (docs/WIRE.md): four octets of the address, the first one first, then the length (0 to 32), the next hop (0 to
  * 63 in a map, 0 in a set), and two bytes 0; no bit of the address is set past the length; strictly ascending by address, then length;
@@ -12,24 +13,32 @@
  *   - a pointer that is followed by a length points to that many elements (bytes of a table or an output, 32-bit words of a work room),
  *     whatever they hold, and is not NULL even where the length is 0;
  *   - each other pointer points to one number, whatever it holds;
+ *   - a table and an output may stand at any address; a work room stands at that of a 32-bit word, and a number at that of its type, as C
+ *     has them anyway;
  *   - no two of what the pointers of a call point to overlap, and nothing else writes there until the call returns.
- * Nothing else is asked: any bytes and any numbers are answered or refused.
+ * Nothing else is asked: any bytes and any numbers are answered or refused. Lengths are numbers of 64 bits on every processor; a size_t passes
+ * as it is.
  *
  * What every function gives:
  *   - its result is 0 exactly when the call is answered; else it is the number of the first refusal, in the order below, that is due;
  *   - *index is the index of the record that a refusal 5 to 8 names, counted from 0; it is 0 for the other refusals and for an answer;
  *   - every number that is set through a pointer is set in every case, and a refusal sets all but *index to 0;
  *   - a table is only read; a work room is 0 throughout afterwards, answered or refused; nothing past a length is read or written.
+ *
+ * A call clears the whole room that it is lent, so it costs by that room too: lend what the table needs, which suovvamet_work_words tells, and
+ * not all that there is.
  */
 #ifndef SUOVVAMET_H
 #define SUOVVAMET_H
 
-#include <stddef.h>
 #include <stdint.h>
 
 #ifdef __cplusplus
 extern "C" {
 #endif
+
+/* One more whenever something that is declared or promised here changes. */
+#define SUOVVAMET_VERSION 2
 
 /* The refusals, in the order in which they are checked, but that 5 to 8 go record by record: the first bad record, its lowest number. */
 enum suovvamet_refusal {
@@ -69,25 +78,51 @@ enum suovvamet_mode {
  * that number less the number of the table's records. The bytes of the output after these records stay as they were, and after a refusal
  * all of them. default_hop is read in mode 5 alone. Refusals 1 to 8, 10 and 11.
  */
-uint32_t suovvamet_rewrite(const uint8_t *table, size_t table_length, uint32_t mode, uint32_t default_hop, uint8_t *output,
-                           size_t output_length, uint32_t *work, size_t work_length, uint64_t *count, int64_t *change, uint64_t *index);
+uint32_t suovvamet_rewrite(const uint8_t *table, uint64_t table_length, uint32_t mode, uint32_t default_hop, uint8_t *output,
+                           uint64_t output_length, uint32_t *work, uint64_t work_length, uint64_t *count, int64_t *change, uint64_t *index);
 
 /*
  * Does the set cover the prefix of this address and length, each of its addresses lying under some member? Then *covered is 1, else 0.
  * The first octet of the address is the most significant; bits past the length are ignored. Refusals 3 to 10.
  */
-uint32_t suovvamet_covers(const uint8_t *table, size_t table_length, uint32_t address, uint32_t length, uint32_t *work,
-                          size_t work_length, uint32_t *covered, uint64_t *index);
+uint32_t suovvamet_covers(const uint8_t *table, uint64_t table_length, uint32_t address, uint32_t length, uint32_t *work,
+                          uint64_t work_length, uint32_t *covered, uint64_t *index);
 
 /*
  * The longest match of the address in a map: *found is 1 and *hop and *length are those of the record, or, where no record matches, all
  * three are 0. Refusals 3 to 8.
  */
-uint32_t suovvamet_lookup(const uint8_t *table, size_t table_length, uint32_t address, uint32_t *found, uint32_t *hop,
+uint32_t suovvamet_lookup(const uint8_t *table, uint64_t table_length, uint32_t address, uint32_t *found, uint32_t *hop,
                           uint32_t *length, uint64_t *index);
 
 /* The sum over the records of a map of 2^(32 - length), in *addresses. Refusals 3 to 8. */
-uint32_t suovvamet_addresses_held(const uint8_t *table, size_t table_length, uint64_t *addresses, uint64_t *index);
+uint32_t suovvamet_addresses_held(const uint8_t *table, uint64_t table_length, uint64_t *addresses, uint64_t *index);
+
+/*
+ * The words of work room that a rewrite of the table or a cover query needs, in *words: with as many no call refuses by number 10, with one less
+ * each does. The table is read as a set where is_set is not 0, else as a map. Refusals 3 to 8.
+ */
+uint32_t suovvamet_work_words(const uint8_t *table, uint64_t table_length, uint32_t is_set, uint64_t *words, uint64_t *index);
+
+/* A refusal in words, for a person to read. It is C, no function of the library, and proved by nothing. */
+static inline const char *suovvamet_refusal_text(uint32_t refusal)
+{
+    switch (refusal) {
+    case SUOVVAMET_ANSWERED: return "answered";
+    case SUOVVAMET_MODE: return "the mode is not 1 to 5";
+    case SUOVVAMET_DEFAULT: return "the default hop is above 63";
+    case SUOVVAMET_TABLE_LENGTH: return "the table is not made of whole records of 8 bytes";
+    case SUOVVAMET_RECORDS: return "the table has more than 1,024 records";
+    case SUOVVAMET_PREFIX_LENGTH: return "the record's length is above 32";
+    case SUOVVAMET_HOST_BITS: return "the record's address has bits set past its length";
+    case SUOVVAMET_HOP: return "the record's hop is above 63, or not 0 in a set, or one of its last two bytes is not 0";
+    case SUOVVAMET_ORDER: return "the record does not stand strictly after the one before it";
+    case SUOVVAMET_QUERY_LENGTH: return "the query's length is above 32";
+    case SUOVVAMET_WORK_ROOM: return "the work room is shorter than the table needs";
+    case SUOVVAMET_OUTPUT: return "the output is shorter than the result";
+    default: return "no call gives this number";
+    }
+}
 
 #ifdef __cplusplus
 }

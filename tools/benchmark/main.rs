@@ -1,7 +1,9 @@
-//! Runs the program `bench` and the crate's driver (crate.rs) on the same tables, and prints what they take, as tables in markdown.
-//! Usage: main FOLDER RUNS PROGRAM-WORDS... -- CRATE-WORDS... -- COUNTED-WORDS... -- PLUGIN-WORDS...
-//! tools/bench calls it: FOLDER is for files, RUNS how often each time is taken; then the words that run `bench`, the driver, the driver
-//! that counts its heap, and, where there is an emulator, those that have it count instructions (they go after the emulator's name).
+//! Runs the library's driver (the program `bench`, or library.c) and the crate's (crate.rs) on the same tables, and prints what they take, as
+//! tables in markdown.
+//! Usage: main FOLDER RUNS LIBRARY-WORDS... -- CRATE-WORDS... -- COUNTED-WORDS... -- PLUGIN-WORDS... -- BOARD-WORDS... -- BOARD-PLUGIN-WORDS...
+//! tools/bench calls it: FOLDER is for files, RUNS how often each time is taken; then the words that run the library's driver, the crate's, the
+//! crate's that counts its heap, and, where there is an emulator, those that have it count instructions (they go after the emulator's name);
+//! then, where the Cortex-M4 board is emulated, those that run the library's driver on it and have its instructions counted.
 
 use std::collections::BTreeSet;
 use std::fs;
@@ -149,6 +151,8 @@ struct Bench {
     theirs: Vec<String>,
     counted: Vec<String>,
     plugin: Vec<String>,
+    board: Vec<String>,
+    board_plugin: Vec<String>,
 }
 
 impl Bench {
@@ -171,8 +175,9 @@ impl Bench {
 
     fn count(&self, words: &[String], times: u32, stack: bool, mode: u8, room: usize, routes: &[Route]) -> Counts {
         let file = format!("{}/counts", self.folder);
-        let option = format!("{},out={file}{}", self.plugin[1], if stack { ",stack=on" } else { "" });
-        let mut all = vec![words[0].clone(), self.plugin[0].clone(), option];
+        let plugin = if words == self.board { &self.board_plugin } else { &self.plugin };
+        let option = format!("{},out={file}{}", plugin[1], if stack { ",stack=on" } else { "" });
+        let mut all = vec![words[0].clone(), plugin[0].clone(), option];
         all.extend_from_slice(&words[1..]);
         run(&all, &input(times, mode, room, routes));
         let text = fs::read_to_string(&file).unwrap_or_else(|error| fail(&format!("{file}: {error}")));
@@ -202,9 +207,11 @@ impl Bench {
         let result = one.split_whitespace().nth(1).unwrap_or("").to_string();
         let (ours, theirs) = (self.time(&self.ours, mode, room, routes), self.time(&self.theirs, mode, room, routes));
         print!(
-            "| {name} | {} | {} | {mode} | {result} | {ours:.0} | {theirs:.0} | **{:.2}** |",
+            "| {name} | {} | {} | {mode} | {result} | {} | {} | **{:.2}** |",
             thousands_of(routes.len() as i64),
             thousands_of(nodes as i64),
+            microseconds(ours),
+            microseconds(theirs),
             ours / theirs
         );
         if self.has_counts() {
@@ -289,6 +296,24 @@ impl Bench {
     }
 }
 
+impl Bench {
+    /// What a rewrite takes on the board: instructions, and what they come to at 180 MHz, one a cycle.
+    fn on_board(&self, tables: &[Table]) {
+        println!("\nCortex-M4, instructions of a rewrite, and milliseconds at 180 MHz if each took one cycle.\n");
+        println!("| table | records | nodes | mode 1 | mode 2 | mode 3 | mode 4 | mode 5 |");
+        println!("|---|--:|--:|--:|--:|--:|--:|--:|");
+        for table in tables {
+            let nodes = nodes(&table.routes);
+            print!("| {} | {} | {} |", table.name, thousands_of(table.routes.len() as i64), thousands_of(nodes as i64));
+            for mode in 1..=5 {
+                let count = self.instructions(&self.board, mode, 160 * nodes, &table.routes);
+                print!(" {:.2} M, {:.1} ms |", count as f64 / 1e6, count as f64 / 180e3);
+            }
+            println!();
+        }
+    }
+}
+
 /// A number with commas between its thousands.
 fn thousands_of(n: i64) -> String {
     let digits = n.to_string();
@@ -300,6 +325,12 @@ fn thousands_of(n: i64) -> String {
         text.push(digit);
     }
     text
+}
+
+/// Microseconds, to three figures at the least.
+fn microseconds(time: f64) -> String {
+    let places = [10.0, 100.0].iter().filter(|bound| time < **bound).count();
+    format!("{time:.places$}")
 }
 
 /// Instructions in thousands.
@@ -317,6 +348,8 @@ fn main() {
         theirs: parts[1].clone(),
         counted: parts[2].clone(),
         plugin: parts.get(3).cloned().unwrap_or_default(),
+        board: parts.get(4).cloned().unwrap_or_default(),
+        board_plugin: parts.get(5).cloned().unwrap_or_default(),
     };
     let yard = routes_of(&fs::read("examples/yard.table").unwrap_or_else(|error| fail(&format!("examples/yard.table: {error}"))));
     let tables = tables(&yard);
@@ -341,4 +374,7 @@ fn main() {
     }
     println!("\nMemory.");
     bench.memory(&tables);
+    if !bench.board.is_empty() {
+        bench.on_board(&tables);
+    }
 }

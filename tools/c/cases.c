@@ -1,18 +1,222 @@
 /*
  * Answers cases (docs/CASES.md) from standard input by the C library, and checks what include/suovvamet.h promises beside the answer: every
- * number that is set, the rooms, and what lies past them. A broken promise is a line of its own, which no expected answer has.
+ * number that is set, the rooms, and what lies before and after each of them. A broken promise is a line of its own, which no expected answer
+ * has. Tables and outputs stand at any address, work rooms at any word. Where the place can tell, the depth of the stack is said at the end.
  */
-#include <inttypes.h>
-#include <stdio.h>
-#include <string.h>
-
+#include "platform.h"
 #include "suovvamet.h"
 
-enum { HEADER = 16, MOST_BYTES = 65535, PAST = 64 };
+enum { HEADER = 16, MOST_BYTES = 65535, EDGE = 64, SHIFTS = 4 };
 
-static uint8_t header[HEADER], table[MOST_BYTES], kept[MOST_BYTES], output[MOST_BYTES + PAST];
-static uint32_t work[SUOVVAMET_MOST_WORK + PAST];
+static uint8_t table_room[EDGE + SHIFTS + MOST_BYTES + EDGE], kept[sizeof table_room], output_room[sizeof table_room];
+static uint32_t work_room[EDGE + SHIFTS + SUOVVAMET_MOST_WORK + EDGE];
 
+/* Where the rooms of this case begin. */
+static uint8_t *table, *output;
+static uint32_t *work;
+
+/* ---- Printing, gathered into large pieces. */
+static char printed[4096];
+static size_t filled;
+
+static void flush(void)
+{
+    platform_write(printed, filled);
+    filled = 0;
+}
+
+static void print(const char *text)
+{
+    for (; *text != 0; text++) {
+        if (filled == sizeof printed)
+            flush();
+        printed[filled++] = *text;
+    }
+}
+
+/* The digits of a number and a 0 after them, from the end of the text. No division: a 32-bit processor may have none of 64 bits. */
+static const char *digits(uint64_t number, char text[21])
+{
+    static const uint64_t powers[] = {
+        10000000000000000000u, 1000000000000000000u, 100000000000000000u, 10000000000000000u, 1000000000000000u, 100000000000000u,
+        10000000000000u, 1000000000000u, 100000000000u, 10000000000u, 1000000000u, 100000000u, 10000000u, 1000000u, 100000u, 10000u, 1000u,
+        100u, 10u, 1u,
+    };
+    size_t first = 19;
+    for (size_t i = 0; i < 20; i++) {
+        text[i] = '0';
+        for (; number >= powers[i]; number -= powers[i])
+            text[i]++;
+        if (text[i] != '0' && i < first)
+            first = i;
+    }
+    text[20] = 0;
+    return text + first;
+}
+
+static void print_number(uint64_t number)
+{
+    char text[21];
+    print(digits(number, text));
+}
+
+static void promise(int held, const char *else_line)
+{
+    if (!held) {
+        print(else_line);
+        print("\n");
+    }
+}
+
+/* ---- What stands in and round the rooms before a call: no word is zero. */
+static uint8_t pattern(size_t i) { return (uint8_t)(i * 7 + 165); }
+static uint32_t filler(size_t i) { return (uint32_t)i * 2654435761u | 1; }
+
+/* A number that a call sets, with a number on either side. */
+struct guarded {
+    uint64_t before, value, after;
+};
+enum { GUARD = 0x5EED };
+static const struct guarded unset = {GUARD, 77, GUARD};
+
+/* The same of 32 bits. */
+struct guarded32 {
+    uint32_t before, value, after;
+};
+static const struct guarded32 unset32 = {GUARD, 77, GUARD};
+
+static void promise_guards(const struct guarded *n) { promise(n->before == GUARD && n->after == GUARD, "beside a number touched"); }
+static void promise_guards32(const struct guarded32 *n) { promise(n->before == GUARD && n->after == GUARD, "beside a number touched"); }
+
+/* Prints the refusal, which carries no other value, or says that the call was answered, and then the index is 0. */
+static int answered(uint32_t refusal, const struct guarded *index, int values_zero)
+{
+    promise_guards(index);
+    if (refusal == SUOVVAMET_ANSWERED) {
+        promise(index->value == 0, "index of an answer");
+        return 1;
+    }
+    print("refused ");
+    print_number(refusal);
+    print(" at ");
+    print_number(index->value);
+    print("\n");
+    promise(values_zero, "value in a refusal");
+    return 0;
+}
+
+/*
+ * Holds the words that the library says the table needs to what a call said that was lent so many: number 10 is due below them alone, and a
+ * refused table is refused alike.
+ */
+static void promise_words(size_t length, int is_set, size_t words, uint32_t refusal, uint64_t at)
+{
+    struct guarded needed = unset, index = unset;
+    uint32_t own = suovvamet_work_words(table, length, is_set ? 0x100 : 0, &needed.value, &index.value);
+    promise_guards(&needed);
+    promise_guards(&index);
+    if (own != SUOVVAMET_ANSWERED) {
+        promise(needed.value == 0, "words in a refusal");
+        promise(own >= SUOVVAMET_TABLE_LENGTH && own <= SUOVVAMET_ORDER, "words refused by no number of a table");
+        promise(refusal == SUOVVAMET_MODE || refusal == SUOVVAMET_DEFAULT || (refusal == own && at == index.value), "words refused otherwise");
+        return;
+    }
+    promise(index.value == 0, "index of an answer");
+    promise(needed.value >= 160 && needed.value <= SUOVVAMET_MOST_WORK && (uint32_t)needed.value % 160 == 0, "words that no table needs");
+    promise(refusal < SUOVVAMET_TABLE_LENGTH || refusal > SUOVVAMET_ORDER, "words of a refused table");
+    if (refusal == SUOVVAMET_WORK_ROOM)
+        promise(words < needed.value, "fewer words needed than were too few");
+    else if (refusal == SUOVVAMET_ANSWERED || refusal == SUOVVAMET_OUTPUT)
+        promise(words >= needed.value, "more words needed than were enough");
+}
+
+static void rewrite(size_t length, uint32_t mode, uint32_t default_hop, size_t room, size_t words)
+{
+    struct guarded count = unset, index = unset, change_room = unset;
+    int64_t *change = (int64_t *)&change_room.value;
+    size_t all = (size_t)(output - output_room) + room + EDGE;
+    for (size_t i = 0; i < all; i++)
+        output_room[i] = pattern(i);
+    uint32_t refusal =
+        suovvamet_rewrite(table, length, mode, default_hop, output, room, work, words, &count.value, change, &index.value);
+    promise_guards(&count);
+    promise_guards(&change_room);
+    promise_words(length, mode <= SUOVVAMET_CONSISTENT_SET, words, refusal, index.value);
+    if (answered(refusal, &index, count.value == 0 && *change == 0)) {
+        for (size_t i = 0; i < count.value; i++) {
+            const uint8_t *record = output + 8 * i;
+            for (int octet = 0; octet < 4; octet++) {
+                print_number(record[octet]);
+                print(octet < 3 ? "." : "/");
+            }
+            print_number(record[4]);
+            if (mode > SUOVVAMET_CONSISTENT_SET) {
+                print(" ");
+                print_number(record[5]);
+            }
+            print(record[6] == 0 && record[7] == 0 ? "\n" : " and bytes that are not zero\n");
+        }
+        print(*change < 0 ? "change -" : "change ");
+        print_number(*change < 0 ? 0 - (uint64_t)*change : (uint64_t)*change);
+        print("\n");
+    }
+    int touched = 0;
+    const uint8_t *end = output + 8 * (size_t)count.value;
+    for (size_t i = 0; i < all; i++)
+        if (output_room + i < output || output_room + i >= end)
+            touched |= output_room[i] != pattern(i);
+    promise(!touched, "output touched");
+}
+
+static void covers(size_t length, uint32_t address, uint32_t query, size_t words)
+{
+    struct guarded32 covered = unset32;
+    struct guarded index = unset;
+    uint32_t refusal = suovvamet_covers(table, length, address, query, work, words, &covered.value, &index.value);
+    promise_guards32(&covered);
+    promise_words(length, 1, words, refusal, index.value);
+    if (answered(refusal, &index, covered.value == 0)) {
+        print(covered.value ? "covered\n" : "uncovered\n");
+        promise(covered.value <= 1, "covered is no 0 or 1");
+    }
+}
+
+static void lookup(size_t length, uint32_t address)
+{
+    struct guarded32 found = unset32, hop = unset32, matched = unset32;
+    struct guarded index = unset;
+    uint32_t refusal = suovvamet_lookup(table, length, address, &found.value, &hop.value, &matched.value, &index.value);
+    promise_guards32(&found);
+    promise_guards32(&hop);
+    promise_guards32(&matched);
+    int zero = found.value == 0 && hop.value == 0 && matched.value == 0;
+    if (!answered(refusal, &index, zero))
+        return;
+    if (found.value == 1) {
+        print("hop ");
+        print_number(hop.value);
+        print(" length ");
+        print_number(matched.value);
+        print("\n");
+    } else {
+        print("no route\n");
+        promise(zero, "value without a route");
+    }
+}
+
+static void addresses_held(size_t length)
+{
+    struct guarded addresses = unset, index = unset;
+    uint32_t refusal = suovvamet_addresses_held(table, length, &addresses.value, &index.value);
+    promise_guards(&addresses);
+    if (answered(refusal, &index, addresses.value == 0)) {
+        print("addresses ");
+        print_number(addresses.value);
+        print("\n");
+    }
+}
+
+/* ---- The cases. */
 static uint32_t number(const uint8_t *bytes, int size)
 {
     uint32_t n = 0;
@@ -21,125 +225,68 @@ static uint32_t number(const uint8_t *bytes, int size)
     return n;
 }
 
-static void promise(int held, const char *else_line)
-{
-    if (!held)
-        puts(else_line);
-}
-
-/* What stands in the rooms before a call: no word is zero. */
-static uint8_t pattern(size_t i) { return (uint8_t)(i * 7 + 165); }
-static uint32_t filler(size_t i) { return (uint32_t)(i * 2654435761u) | 1; }
-
-/* Prints the refusal, which carries no other value, or says that the call was answered, and then the index is 0. */
-static int answered(uint32_t refusal, uint64_t index, int values_zero)
-{
-    if (refusal == SUOVVAMET_ANSWERED) {
-        promise(index == 0, "index of an answer");
-        return 1;
-    }
-    printf("refused %" PRIu32 " at %" PRIu64 "\n", refusal, index);
-    promise(values_zero, "value in a refusal");
-    return 0;
-}
-
-static void rewrite(size_t length, uint32_t mode, uint32_t default_hop, size_t room, size_t words)
-{
-    uint64_t count = 77, index = 77;
-    int64_t change = 77;
-    for (size_t i = 0; i < room + PAST; i++)
-        output[i] = pattern(i);
-    uint32_t refusal = suovvamet_rewrite(table, length, mode, default_hop, output, room, work, words, &count, &change, &index);
-    if (answered(refusal, index, count == 0 && change == 0)) {
-        for (uint64_t i = 0; i < count; i++) {
-            const uint8_t *record = output + 8 * i;
-            printf("%d.%d.%d.%d/%d", record[0], record[1], record[2], record[3], record[4]);
-            if (mode > SUOVVAMET_CONSISTENT_SET)
-                printf(" %d", record[5]);
-            puts(record[6] == 0 && record[7] == 0 ? "" : " and bytes that are not zero");
-        }
-        printf("change %" PRId64 "\n", change);
-    }
-    int touched = 0;
-    for (size_t i = 8 * count; i < room + PAST; i++)
-        touched |= output[i] != pattern(i);
-    promise(!touched, "output touched");
-}
-
-static void covers(size_t length, uint32_t address, uint32_t query, size_t words)
-{
-    uint32_t covered = 77;
-    uint64_t index = 77;
-    uint32_t refusal = suovvamet_covers(table, length, address, query, work, words, &covered, &index);
-    if (answered(refusal, index, covered == 0)) {
-        puts(covered ? "covered" : "uncovered");
-        promise(covered <= 1, "covered is no 0 or 1");
-    }
-}
-
-static void lookup(size_t length, uint32_t address)
-{
-    uint32_t found = 77, hop = 77, matched = 77;
-    uint64_t index = 77;
-    uint32_t refusal = suovvamet_lookup(table, length, address, &found, &hop, &matched, &index);
-    if (!answered(refusal, index, found == 0 && hop == 0 && matched == 0))
-        return;
-    if (found == 1)
-        printf("hop %" PRIu32 " length %" PRIu32 "\n", hop, matched);
-    else {
-        puts("no route");
-        promise(found == 0 && hop == 0 && matched == 0, "value without a route");
-    }
-}
-
-static void addresses_held(size_t length)
-{
-    uint64_t addresses = 77, index = 77;
-    uint32_t refusal = suovvamet_addresses_held(table, length, &addresses, &index);
-    if (answered(refusal, index, addresses == 0))
-        printf("addresses %" PRIu64 "\n", addresses);
-}
-
 /* The line that ends the run, NULL after the last whole case. */
 static const char *run(void)
 {
-    for (;;) {
-        size_t got = fread(header, 1, HEADER, stdin);
+    for (size_t at = 0;; at++) {
+        uint8_t header[HEADER];
+        size_t got = platform_read(header, HEADER);
         if (got == 0)
             return NULL;
-        size_t length = number(header + 14, 2);
-        if (got < HEADER || fread(table, 1, length, stdin) < length)
+        table = table_room + EDGE + at % SHIFTS;
+        output = output_room + EDGE + (at + 1) % SHIFTS;
+        work = work_room + EDGE + at % SHIFTS;
+        size_t length = number(header + 14, 2), around = (size_t)(table - table_room) + length + EDGE;
+        for (size_t i = 0; i < around; i++)
+            table_room[i] = pattern(i);
+        if (got < HEADER || platform_read(table, length) < length)
             return "case cut short";
         if (header[0] > 3)
             return "no such call";
         size_t words = number(header + 8, 4), room = number(header + 12, 2);
         if (words > SUOVVAMET_MOST_WORK)
             return "work room too large";
+        for (size_t i = 0; i < around; i++)
+            kept[i] = table_room[i];
         int borrows = header[0] <= 1;
-        memcpy(kept, table, length);
-        for (size_t i = 0; borrows && i < words + PAST; i++)
-            work[i] = filler(i);
+        size_t before = (size_t)(work - work_room), all = before + words + EDGE;
+        for (size_t i = 0; borrows && i < all; i++)
+            work_room[i] = filler(i);
         switch (header[0]) {
         case 0: rewrite(length, header[1], header[2], room, words); break;
         case 1: covers(length, number(header + 4, 4), header[3], words); break;
         case 2: lookup(length, number(header + 4, 4)); break;
         case 3: addresses_held(length); break;
         }
-        uint32_t left = 0, past = 0;
-        for (size_t i = 0; borrows && i < words; i++)
-            left |= work[i];
-        for (size_t i = words; borrows && i < words + PAST; i++)
-            past |= work[i] ^ filler(i);
+        uint32_t left = 0, round = 0;
+        for (size_t i = 0; borrows && i < all; i++)
+            if (i < before || i >= before + words)
+                round |= work_room[i] ^ filler(i);
+            else
+                left |= work_room[i];
         promise(left == 0, "work not zero");
-        promise(past == 0, "past the work room touched");
-        promise(memcmp(kept, table, length) == 0, "table touched");
+        promise(round == 0, "beside the work room touched");
+        int touched = 0;
+        for (size_t i = 0; i < around; i++)
+            touched |= kept[i] != table_room[i];
+        promise(!touched, "table touched");
     }
 }
 
 int main(void)
 {
     const char *line = run();
-    if (line != NULL)
-        puts(line);
+    if (line != NULL) {
+        print(line);
+        print("\n");
+    }
+    flush();
+    size_t depth = platform_stack_used();
+    if (depth > 0) {
+        print("stack ");
+        print_number(depth);
+        print("\n");
+        platform_say(printed, filled);
+    }
     return 0;
 }

@@ -1,5 +1,6 @@
 //! The comparison behind tools/compare: the crate (tools/oracle), the model (model.rs) and, where it is built, the program replay
-//! answer the same cases. Words are those of tools/compare, which says what they do; it adds `--replay COMMAND` and
+//! answer the same cases. Words are those of tools/compare, which says what they do; it adds `--replay COMMAND`, which is run with the
+//! word replay and the cases, `--called NAME`, by which the command is then run and spoken of in the place of replay, and
 //! `--fixed-list STDIN STDOUT`.
 
 mod case;
@@ -11,7 +12,7 @@ use std::fs;
 use std::io::{Read, Write};
 use std::panic::catch_unwind;
 use std::process::{exit, Command, Stdio};
-use std::sync::Mutex;
+use std::sync::{Mutex, OnceLock};
 use std::thread;
 
 use case::{Answer, Case, COVER, LOOKUP, REWRITE};
@@ -154,9 +155,17 @@ fn program(command: &str, name: &str, bytes: &[u8], worker: usize) -> Vec<u8> {
     output.stdout
 }
 
+/// What `--called` says.
+static CALLED: OnceLock<String> = OnceLock::new();
+
+/// Who answers the cases beside the crate and the model.
+fn answerer() -> &'static str {
+    CALLED.get().map_or("replay", String::as_str)
+}
+
 /// What replay writes for these bytes of cases.
 fn replay(command: &str, bytes: &[u8], worker: usize) -> String {
-    String::from_utf8_lossy(&program(command, "replay", bytes, worker)).into_owned()
+    String::from_utf8_lossy(&program(command, answerer(), bytes, worker)).into_owned()
 }
 
 /// Holds replay to the expected texts of some cases, taken in one run.
@@ -175,18 +184,18 @@ fn hold_replay(command: &str, made: &[Made], texts: &[String], worker: usize) {
                     made[i].case.write(&mut bytes);
                     let alone = replay(command, &bytes, worker);
                     if alone != texts[i] {
-                        differ(&made[i].case, ("the crate and the model", &texts[i]), ("replay", &alone));
+                        differ(&made[i].case, ("the crate and the model", &texts[i]), (answerer(), &alone));
                     }
                 }
-                println!("compare: replay differs here only after the cases before this one, all in {FOLDER}/run.bin");
+                println!("compare: {} differs here only after the cases before this one, all in {FOLDER}/run.bin", answerer());
                 fs::write(format!("{FOLDER}/run.bin"), &bytes).unwrap_or_else(|error| fail(format!("cannot write run.bin: {error}")));
                 let has: String = rest.lines().take(text.lines().count() + 1).map(|line| format!("{line}\n")).collect();
-                differ(&made[i].case, ("the crate and the model", text), ("replay, in a run of cases", &has));
+                differ(&made[i].case, ("the crate and the model", text), (&format!("{}, in a run of cases", answerer()), &has));
             }
         }
     }
     if !rest.is_empty() {
-        println!("compare: replay writes more than the answers to its cases: {}", rest.lines().next().unwrap_or(""));
+        println!("compare: {} writes more than the answers to its cases: {}", answerer(), rest.lines().next().unwrap_or(""));
         exit(1);
     }
 }
@@ -240,7 +249,7 @@ fn run(cases: u64, seed: u64, command: Option<&str>, by_replay: u64) {
     counts.print();
     let pairs = counts.0.keys().filter(|what| what.starts_with("pair ")).count();
     println!("compare: {pairs} pairs of refusal numbers in one call");
-    println!("compare: seed {seed}: the crate and the model agree on {cases} cases; replay agrees on {replayed} of them");
+    println!("compare: seed {seed}: the crate and the model agree on {cases} cases; {} agrees on {replayed} of them", answerer());
 }
 
 /// Document 01's worked routes, by the crate and by the model.
@@ -428,6 +437,7 @@ fn main() {
             "--ladders" => ladders = words.next(),
             "--seed" => seed = number(&mut words, &word),
             "--replay" => command = words.next(),
+            "--called" => CALLED.set(words.next().unwrap_or_default()).unwrap_or_else(|_| fail("--called comes twice".to_string())),
             "--fixed-list" => fixed_list = (words.next().unwrap_or_default(), words.next().unwrap_or_default()),
             "--quick" | "--self-test" | "--fixed" | "--answer" | "--explain" => what = word,
             _ => fail(format!("there is no word {word}")),

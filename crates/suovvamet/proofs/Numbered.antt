@@ -4,7 +4,7 @@ use mathlib.Core.Path.{_≡_, refl, sym, ap, ap₂, _∙_}
 use mathlib.Core.Bool.{Bool, false}
 use mathlib.Core.List.{List}
 use mathlib.Core.Logic.{_↔_}
-use Prim.Native.Nat.{ℕ, _≤_}
+use Prim.Native.Nat.{ℕ, _*_, _≤_, _<_}
 use native.Mathlib.Omega.{arith}
 use lib.IntN.{ℤ}
 use lib.ListN.{length}
@@ -16,6 +16,12 @@ use Rattle.table.proofs.Tested.{table-numbers}
 use Rattle.table.specs.Conditions.{TableCondition}
 use Rattle.calls.specs.Conditions.{RewriteCondition, no-mode, large-default, of-table, short-work, short-output, CoverCondition, of-set, long-query, short-room}
 use Rattle.refusals.specs.Order.{First, None}
+use Rattle.records.specs.Wire.{routes}
+use Rattle.nodecount.specs.Nodes.{nodes}
+use Rattle.workroom.specs.Needed.{wordsSays}
+use Rattle.workroom.specs.declared.WorkWords.{WorkWords}
+use Rattle.workroom.specs.declared.WorkWords.the-variants.{Words, Refused as NotNeeded}
+use Rattle.workroom.proofs.Exactly.{words-exactly}
 use Rattle.calls.specs.Covering.{coveredBy, coversSays}
 use Rattle.calls.specs.Rewriting.{Written, rewrittenSays}
 use Rattle.calls.specs.declared.Rewritten.{Rewritten}
@@ -23,8 +29,8 @@ use Rattle.calls.specs.declared.Rewritten.the-variants.{Records, Refused}
 use Rattle.calls.specs.declared.Covers.the-variants.{Refused as NotAnswered}
 use Rattle.calls.proofs.Refusals.{rewrite-refused, rewrite-accepted, covers-refused, covers-answered}
 use Rattle.calls.proofs.Settled.{rewritten-same, covers-same}
-use Rattle.suovvamet.specs.Numbers.{numberOf, indexOf}
-use Rattle.suovvamet.specs.Calls.{RewriteInC, CoversInC, LookupInC, HeldInC}
+use Rattle.suovvamet.specs.Numbers.{numberOf, indexOf, isSetBy, wordsOf}
+use Rattle.suovvamet.specs.Calls.{RewriteInC, CoversInC, LookupInC, HeldInC, WordsInC}
 
 -- ---- No condition has the number 0.
 table-number : {s : Bool} {t : List ℕ} {n i : ℕ} → TableCondition s t n i → 1 ≤ n
@@ -41,6 +47,22 @@ cover-number : {t : List ℕ} {len words n i : ℕ} → CoverCondition t len wor
 cover-number (of-set c) = table-number c
 cover-number (long-query h) = omega arith
 cover-number (short-room h) = omega arith
+
+-- ---- Number 10 is the work room's alone.
+table-below : {s : Bool} {t : List ℕ} {n i : ℕ} → TableCondition s t n i → n ≤ 8
+table-below {s} {t} {n} {i} c = table-numbers s t n i c .1
+
+rewrite-ten : {t : List ℕ} {mode default room words n i : ℕ} → RewriteCondition t mode default room words n i → n ≡ 10 → words < 160 * nodes 32 (routes t)
+rewrite-ten (no-mode f) e = absurd (omega arith)
+rewrite-ten (large-default d h) e = absurd (omega arith)
+rewrite-ten (of-table c) e = let k = table-below c in absurd (omega arith)
+rewrite-ten (short-work h) e = h
+rewrite-ten (short-output h) e = absurd (omega arith)
+
+cover-ten : {t : List ℕ} {len words n i : ℕ} → CoverCondition t len words n i → n ≡ 10 → words < 160 * nodes 32 (routes t)
+cover-ten (of-set c) e = let k = table-below c in absurd (omega arith)
+cover-ten (long-query h) e = absurd (omega arith)
+cover-ten (short-room h) e = h
 
 -- ---- Any reply: N says when it gives a value, F when it refuses, and no refusal has the number 0.
 module _ {A : Type 0} (q : Reply A) {N : Type 0} (given : ((a : A) × (q ≡ gives a)) ↔ N)
@@ -116,18 +138,18 @@ module _ (t : List ℕ) (address len : ℕ) (work : List ℕ) {number covered in
   pub covers-in-c-refused : (n i : ℕ) → ((1 ≤ n) × (number ≡ n) × (index ≡ i)) ↔ First (CoverCondition t len (length work)) n i
   covers-in-c-refused = numbered (coversSays (ok .answer)) given-cover refused-cover (λ n i f. cover-number (f .0)) (ok .number-is) (ok .index-is)
 
--- ---- A call that judges a map's table and nothing else.
-module _ {A : Type 0} (t : List ℕ) (v : A) (q : Reply A) (judged : q ≡ judge (tableRules false t) v) where
-  given-table : ((a : A) × (q ≡ gives a)) ↔ None (TableCondition false t)
+-- ---- A call that judges a table, of a set or of a map, and nothing else.
+module _ {A : Type 0} (s : Bool) (t : List ℕ) (v : A) (q : Reply A) (judged : q ≡ judge (tableRules s t) v) where
+  given-table : ((a : A) × (q ≡ gives a)) ↔ None (TableCondition s t)
   given-table = (
-    λ (a, e). accepted-exactly false t .0 (accepted false t v (sym judged ∙ e)),
-    λ none. (v, judged ∙ not-refused false t v (accepted-exactly false t .1 none)),
+    λ (a, e). accepted-exactly s t .0 (accepted s t v (sym judged ∙ e)),
+    λ none. (v, judged ∙ not-refused s t v (accepted-exactly s t .1 none)),
   )
 
-  refused-table : (n i : ℕ) → q ≡ refuses n i ↔ First (TableCondition false t) n i
+  refused-table : (n i : ℕ) → q ≡ refuses n i ↔ First (TableCondition s t) n i
   refused-table n i = (
-    λ e. refused-exactly false t v n i .0 (sym judged ∙ e),
-    λ f. judged ∙ refused-exactly false t v n i .1 f,
+    λ e. refused-exactly s t v n i .0 (sym judged ∙ e),
+    λ f. judged ∙ refused-exactly s t v n i .1 f,
   )
 
 -- ---- A lookup.
@@ -135,13 +157,13 @@ module _ (t : List ℕ) (address : ℕ) {number found hop len index : ℕ} (ok :
   -- The result is 0 exactly when no condition of document 01 holds.
   pub lookup-in-c-answered : number ≡ 0 ↔ None (TableCondition false t)
   lookup-in-c-answered =
-      answered (lookupSays (ok .answer)) (given-table t _ _ (ok .looked)) (refused-table t _ _ (ok .looked))
+      answered (lookupSays (ok .answer)) (given-table false t _ _ (ok .looked)) (refused-table false t _ _ (ok .looked))
       (λ n i f. table-number (f .0)) (ok .number-is) (ok .index-is)
 
   -- Else it is, with the index, the first that holds.
   pub lookup-in-c-refused : (n i : ℕ) → ((1 ≤ n) × (number ≡ n) × (index ≡ i)) ↔ First (TableCondition false t) n i
   lookup-in-c-refused =
-      numbered (lookupSays (ok .answer)) (given-table t _ _ (ok .looked)) (refused-table t _ _ (ok .looked))
+      numbered (lookupSays (ok .answer)) (given-table false t _ _ (ok .looked)) (refused-table false t _ _ (ok .looked))
       (λ n i f. table-number (f .0)) (ok .number-is) (ok .index-is)
 
 -- ---- Addresses held.
@@ -149,11 +171,45 @@ module _ (t : List ℕ) {number addresses index : ℕ} (ok : HeldInC t number ad
   -- The result is 0 exactly when no condition of document 01 holds.
   pub held-in-c-answered : number ≡ 0 ↔ None (TableCondition false t)
   held-in-c-answered =
-      answered (heldSays (ok .answer)) (given-table t _ _ (ok .held)) (refused-table t _ _ (ok .held))
+      answered (heldSays (ok .answer)) (given-table false t _ _ (ok .held)) (refused-table false t _ _ (ok .held))
       (λ n i f. table-number (f .0)) (ok .number-is) (ok .index-is)
 
   -- Else it is, with the index, the first that holds.
   pub held-in-c-refused : (n i : ℕ) → ((1 ≤ n) × (number ≡ n) × (index ≡ i)) ↔ First (TableCondition false t) n i
   held-in-c-refused =
-      numbered (heldSays (ok .answer)) (given-table t _ _ (ok .held)) (refused-table t _ _ (ok .held))
+      numbered (heldSays (ok .answer)) (given-table false t _ _ (ok .held)) (refused-table false t _ _ (ok .held))
       (λ n i f. table-number (f .0)) (ok .number-is) (ok .index-is)
+
+-- ---- Work words.
+module _ (t : List ℕ) (isSet : ℕ) {number needed index : ℕ} (ok : WordsInC t isSet number needed index) where
+  -- The result is 0 exactly when no condition of document 01 holds.
+  pub words-in-c-answered : number ≡ 0 ↔ None (TableCondition (isSetBy isSet) t)
+  words-in-c-answered =
+      answered (wordsSays (ok .answer)) (given-table _ t _ _ (ok .replies)) (refused-table _ t _ _ (ok .replies))
+      (λ n i f. table-number (f .0)) (ok .number-is) (ok .index-is)
+
+  -- Else it is, with the index, the first that holds.
+  pub words-in-c-refused : (n i : ℕ) → ((1 ≤ n) × (number ≡ n) × (index ≡ i)) ↔ First (TableCondition (isSetBy isSet) t) n i
+  words-in-c-refused =
+      numbered (wordsSays (ok .answer)) (given-table _ t _ _ (ok .replies)) (refused-table _ t _ _ (ok .replies))
+      (λ n i f. table-number (f .0)) (ok .number-is) (ok .index-is)
+
+  module _ (zero : number ≡ 0) where
+    needed-is : (r : WorkWords) → ok .answer ≡ r → needed ≡ 160 * nodes 32 (routes t)
+    needed-is (Words n) e = ok .words-is ∙ ap wordsOf e ∙ sym (words-exactly (isSetBy isSet) t (ok .answer) (ok .replies) n .0 e .1)
+    needed-is (NotNeeded m i) e =
+        let k = table-number (refused-table (isSetBy isSet) t _ _ (ok .replies) m i .0 (ap wordsSays e) .0) in
+        let same = ok .number-is ∙ ap (λ (r : WorkWords). numberOf (wordsSays r)) e in
+        absurd (omega arith)
+
+    -- An answer is the number of words below which a rewrite has its condition 10.
+    pub words-in-c-rewrite : (mode default room words : ℕ) → words < needed ↔ RewriteCondition t mode default room words 10 0
+    words-in-c-rewrite mode default room words =
+        let is = needed-is (ok .answer) refl in
+        (λ h. short-work (omega arith), λ c. let h = rewrite-ten c refl in omega arith)
+
+    -- And the cover query.
+    pub words-in-c-cover : (len words : ℕ) → words < needed ↔ CoverCondition t len words 10 0
+    words-in-c-cover len words =
+        let is = needed-is (ok .answer) refl in
+        (λ h. short-room (omega arith), λ c. let h = cover-ten c refl in omega arith)

@@ -8,13 +8,16 @@ use Rattle.lookup.specs.Calls.{lookupSays, heldSays}
 use Rattle.lookup.specs.declared.answers.Lookup.{Lookup}
 use Rattle.lookup.specs.declared.answers.AddressesHeld.{AddressesHeld}
 use Rattle.lookup.proofs.Calls.{lookup-unique, held-unique}
+use Rattle.workroom.specs.Needed.{wordsSays}
+use Rattle.workroom.specs.declared.WorkWords.{WorkWords}
+use Rattle.workroom.proofs.Exactly.{words-unique}
 use Rattle.calls.specs.Rewriting.{rewrittenSays, countOf, changeOf}
 use Rattle.calls.specs.Covering.{coversSays}
 use Rattle.calls.specs.declared.Rewritten.{Rewritten}
 use Rattle.calls.specs.declared.Covers.{Covers}
 use Rattle.calls.proofs.Settled.{rewrite-settled, covers-settled}
-use Rattle.suovvamet.specs.Numbers.{numberOf, indexOf, coveredOf, foundOf, hopOf, lengthOf, sumOf}
-use Rattle.suovvamet.specs.Calls.{RewriteInC, CoversInC, LookupInC, HeldInC}
+use Rattle.suovvamet.specs.Numbers.{numberOf, indexOf, coveredOf, foundOf, hopOf, lengthOf, sumOf, isSetBy, wordsOf}
+use Rattle.suovvamet.specs.Calls.{RewriteInC, CoversInC, LookupInC, HeldInC, WordsInC}
 
 -- Parts of two answers that are the same are the same.
 same-part : {R N : Type 0} (part : R → N) {a b : R} {m n : N} → a ≡ b → m ≡ part a → n ≡ part b → m ≡ n
@@ -68,4 +71,15 @@ held-in-c-settled t a b =
       same-part (λ (r : AddressesHeld). numberOf (heldSays r)) e (a .number-is) (b .number-is),
       same-part sumOf e (a .sum-is) (b .sum-is),
       same-part (λ (r : AddressesHeld). indexOf (heldSays r)) e (a .index-is) (b .index-is),
+    )
+
+-- Of work words: the number, the words and the index.
+pub words-in-c-settled : (t : List ℕ) (isSet : ℕ) {number number₁ needed needed₁ index index₁ : ℕ}
+    → WordsInC t isSet number needed index → WordsInC t isSet number₁ needed₁ index₁
+    → (number ≡ number₁) × (needed ≡ needed₁) × (index ≡ index₁)
+words-in-c-settled t isSet a b =
+    let e = words-unique (isSetBy isSet) t (a .answer) (b .answer) (a .replies) (b .replies) in (
+      same-part (λ (r : WorkWords). numberOf (wordsSays r)) e (a .number-is) (b .number-is),
+      same-part wordsOf e (a .words-is) (b .words-is),
+      same-part (λ (r : WorkWords). indexOf (wordsSays r)) e (a .index-is) (b .index-is),
     )

@@ -7,11 +7,13 @@ use lib.ListN.{length}
 use Rattle.lookup.specs.Calls.{lookupSays, lookupReply, heldSays, heldReply}
 use Rattle.lookup.specs.declared.answers.Lookup.{Lookup}
 use Rattle.lookup.specs.declared.answers.AddressesHeld.{AddressesHeld}
+use Rattle.workroom.specs.Needed.{wordsSays, wordsReply}
+use Rattle.workroom.specs.declared.WorkWords.{WorkWords}
 use Rattle.calls.specs.Rewriting.{rewrittenSays, countOf, changeOf, Rewrites}
 use Rattle.calls.specs.Covering.{coversSays, Queried}
 use Rattle.calls.specs.declared.Rewritten.{Rewritten}
 use Rattle.calls.specs.declared.Covers.{Covers}
-use Rattle.suovvamet.specs.Numbers.{numberOf, indexOf, coveredOf, foundOf, hopOf, lengthOf, sumOf}
+use Rattle.suovvamet.specs.Numbers.{numberOf, indexOf, coveredOf, foundOf, hopOf, lengthOf, sumOf, isSetBy, wordsOf}
 
 -- Of a rewrite: the table t, the output o and the room work were lent; the output is o′ then and the room work′.
 pub record RewriteInC (t : List ℕ) (mode default : ℕ) (o work : List ℕ) (number count : ℕ) (change : ℤ) (index : ℕ) (o′ work′ : List ℕ) : Type 0 where
@@ -47,3 +49,11 @@ pub record HeldInC (t : List ℕ) (number addresses index : ℕ) : Type 0 where
   pub number-is : number ≡ numberOf (heldSays answer)
   pub index-is : index ≡ indexOf (heldSays answer)
   pub sum-is : addresses ≡ sumOf answer
+
+-- Of work words, for a table of a set where isSet is not 0, else of a map.
+pub record WordsInC (t : List ℕ) (isSet number needed index : ℕ) : Type 0 where
+  pub answer : WorkWords
+  pub replies : wordsSays answer ≡ wordsReply (isSetBy isSet) t
+  pub number-is : number ≡ numberOf (wordsSays answer)
+  pub index-is : index ≡ indexOf (wordsSays answer)
+  pub words-is : needed ≡ wordsOf answer

@@ -5,6 +5,10 @@ use Rattle.lookup.specs.declared.answers.Lookup.{Lookup}
 use Rattle.lookup.specs.declared.answers.Lookup.the-variants.{Route, NoRoute, Refused as NotLooked}
 use Rattle.lookup.specs.declared.answers.AddressesHeld.{AddressesHeld}
 use Rattle.lookup.specs.declared.answers.AddressesHeld.the-variants.{Sum, Refused as NotSummed}
+use mathlib.Core.Bool.{Bool, not}
+use lib.Dec.{eqb}
+use Rattle.workroom.specs.declared.WorkWords.{WorkWords}
+use Rattle.workroom.specs.declared.WorkWords.the-variants.{Words, Refused as NotNeeded}
 use Rattle.calls.specs.declared.Covers.{Covers}
 use Rattle.calls.specs.declared.Covers.the-variants.{Covered, Uncovered, Refused as NotAnswered}
 
@@ -50,3 +54,14 @@ lengthOf (NotLooked number index) = 0
 abbrev pub sumOf : AddressesHeld → ℕ
 sumOf (Sum n) = n
 sumOf (NotSummed number index) = 0
+
+-- ---- Of work words.
+
+-- Is a set meant? By any number but 0.
+abbrev pub isSetBy : ℕ → Bool
+isSetBy n = not (eqb n 0)
+
+-- The words, 0 in a refusal.
+abbrev pub wordsOf : WorkWords → ℕ
+wordsOf (Words n) = n
+wordsOf (NotNeeded number index) = 0

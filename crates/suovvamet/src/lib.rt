@@ -1,16 +1,18 @@
-// The library for C: the four calls, each with its answer in numbers. The result is the refusal's number, 0 for an answer; what else is
+// The library for C: the calls, each with its answer in numbers. The result is the refusal's number, 0 for an answer; what else is
 // answered is set through the parameters that are lent for it, all of them in every case. include/suovvamet.h says the same in words.
 
 use calls::Covers;
 use calls::Rewritten;
 use lookup::answers::AddressesHeld;
 use lookup::answers::Lookup;
+use workroom::WorkWords;
 ghost use mathlib.Core.Path.{_≡_};
 ghost use Rattle.lookup.specs.Calls.{lookupSays, heldSays};
+ghost use Rattle.workroom.specs.Needed.{wordsSays};
 ghost use Rattle.calls.specs.Covering.{coversSays};
 ghost use Rattle.calls.specs.Rewriting.{rewrittenSays, countOf, changeOf};
-ghost use Rattle.suovvamet.specs.Numbers.{numberOf, indexOf, coveredOf, foundOf, hopOf, lengthOf, sumOf};
-ghost use Rattle.suovvamet.specs.Calls.{RewriteInC, CoversInC, LookupInC, HeldInC};
+ghost use Rattle.suovvamet.specs.Numbers.{numberOf, indexOf, coveredOf, foundOf, hopOf, lengthOf, sumOf, wordsOf};
+ghost use Rattle.suovvamet.specs.Calls.{RewriteInC, CoversInC, LookupInC, HeldInC, WordsInC};
 
 // A refusal in numbers, both 0 for an answer.
 struct Refusal {
@@ -243,6 +245,45 @@ pub extern "C" fn suovvamet_addresses_held(
     let answer = lookup::addresses_held(table);
     *addresses = held_sum(answer);
     let refused = held_refusal(answer);
+    *index = refused.index;
+    refused.number
+}
+
+// The parts of the answer of work words.
+fn words_refusal(r: WorkWords) -> Refusal
+    ensures { λ f. ⌜ (f .number ≡ numberOf (wordsSays r)) × (f .index ≡ indexOf (wordsSays r)) ⌝ }
+{
+    match r {
+        WorkWords::Words(_) => no_refusal(),
+        WorkWords::Refused { number, index } => in_numbers(number, index),
+    }
+}
+
+fn words_needed(r: WorkWords) -> u64
+    ensures { λ n. ⌜ n ≡ wordsOf r ⌝ }
+{
+    match r {
+        WorkWords::Words(n) => n as u64,
+        WorkWords::Refused {
+            number: _,
+            index: _,
+        } => 0,
+    }
+}
+
+// The words of work room that the table needs, of a set where is_set is not 0, else of a map.
+#[no_mangle]
+pub extern "C" fn suovvamet_work_words(
+    table: &[u8],
+    is_set: u32,
+    needed: &mut u64,
+    index: &mut u64,
+) -> u32
+    ensures { λ n. ⌜ WordsInC (now (table .entry)) «is_set» n (now (needed .exit)) (now (index .exit)) ⌝ }
+{
+    let answer = workroom::work_words(table, is_set != 0);
+    *needed = words_needed(answer);
+    let refused = words_refusal(answer);
     *index = refused.index;
     refused.number
 }

@@ -7,15 +7,12 @@ use mathlib.Core.Logic.{_↔_}
 use Prim.Native.Nat.{ℕ}
 use native.Mathlib.Omega.{arith}
 use Rattle.refusals.specs.Order.{First}
-use Rattle.refusals.proofs.Answered.{unique, given-exactly, refused-exactly}
 use Rattle.records.specs.Wire.{records}
 use Rattle.table.specs.declared.Checked.{Checked}
 use Rattle.table.specs.declared.Checked.the-variants.{Valid, Refused}
 use Rattle.table.specs.Checking.{checkedSays, checkReply}
 use Rattle.table.specs.Conditions.{TableCondition, Accepted}
-use Rattle.table.specs.TableRules.{tableRules}
-use Rattle.table.proofs.Accepted.{accepted-exactly}
-use Rattle.table.proofs.Tested.{table-tests, table-ranked}
+use Rattle.table.proofs.Alone.{table-unique, table-gives, table-refuses}
 
 -- Answers that say the same are the same.
 checked-same : (a b : Checked) → checkedSays a ≡ checkedSays b → a ≡ b
@@ -27,18 +24,13 @@ checked-same (Refused m i) (Refused n j) e = cc
 module _ (s : Bool) (t : List ℕ) where
   -- No second answer satisfies the statement.
   pub check-unique : (a b : Checked) → checkedSays a ≡ checkReply s t → checkedSays b ≡ checkReply s t → a ≡ b
-  check-unique = unique checkedSays checked-same (tableRules s t) (table-tests s t) (table-ranked s t .order) (records t)
+  check-unique = table-unique checkedSays checked-same s t (records t)
 
   module _ (r : Checked) (e : checkedSays r ≡ checkReply s t) where
     -- It answers the number of records exactly for an accepted table.
     pub check-valid-exactly : (n : ℕ) → r ≡ Valid n ↔ (Accepted s t × (records t ≡ n))
-    check-valid-exactly n =
-        let exactly = given-exactly checkedSays checked-same (tableRules s t) (table-tests s t) (table-ranked s t .order) (records t) r e (Valid n) n refl in (
-          λ q. let f = exactly .0 q in (accepted-exactly s t .1 (f .0), f .1),
-          λ f. exactly .1 (accepted-exactly s t .0 (f .0), f .1),
-        )
+    check-valid-exactly n = table-gives checkedSays checked-same s t (records t) r e (Valid n) n refl
 
     -- It answers a refusal exactly when its number and index are those of the first condition that holds.
     pub check-refused-exactly : (n i : ℕ) → r ≡ Refused n i ↔ First (TableCondition s t) n i
-    check-refused-exactly n i =
-        refused-exactly checkedSays checked-same (tableRules s t) (table-tests s t) (table-ranked s t .order) (records t) r e (Refused n i) n i refl
+    check-refused-exactly n i = table-refuses checkedSays checked-same s t (records t) r e (Refused n i) n i refl

@@ -1,0 +1,2 @@
+-- What the statement settles.
+pub mod Exactly

@@ -1,0 +1,2 @@
+-- The work room that a table needs.
+pub mod Needed

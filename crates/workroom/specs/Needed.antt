@@ -1,0 +1,19 @@
+-- How much work room a table needs: what an answer says, and which reply is right.
+use Prim.Native.Nat.{ℕ, _*_}
+use mathlib.Core.Bool.{Bool}
+use mathlib.Core.List.{List}
+use Rattle.refusals.specs.Rules.{Reply, gives, refuses, judge}
+use Rattle.records.specs.Wire.{routes}
+use Rattle.table.specs.TableRules.{tableRules}
+use Rattle.nodecount.specs.Nodes.{nodes}
+use Rattle.workroom.specs.declared.WorkWords.{WorkWords}
+use Rattle.workroom.specs.declared.WorkWords.the-variants.{Words, Refused}
+
+-- It gives a number of words, or a refusal.
+abbrev pub wordsSays : WorkWords → Reply ℕ
+wordsSays (Words n) = gives n
+wordsSays (Refused number index) = refuses number index
+
+-- The right reply for a table of a set or of a map: 160 words for each node, by document 01.
+abbrev pub wordsReply : Bool → List ℕ → Reply ℕ
+wordsReply isSet t = judge (tableRules isSet t) (160 * nodes 32 (routes t))

@@ -1,0 +1,63 @@
+/*
+ * The library's side of tools/bench, by C: rewrites one table again and again. Reads and prints what the program bench does
+ * (crates/bench/src/main.rt), on this machine or on the bare Cortex-M4 board.
+ */
+#include "platform.h"
+#include "suovvamet.h"
+
+static uint8_t table[SUOVVAMET_MOST_OUTPUT], output[SUOVVAMET_MOST_OUTPUT];
+static uint32_t work[SUOVVAMET_MOST_WORK];
+
+static void print(const char *text)
+{
+    size_t length = 0;
+    while (text[length] != 0)
+        length++;
+    platform_write(text, length);
+}
+
+static void print_number(uint32_t number)
+{
+    char digits[11];
+    char *first = digits + sizeof digits - 1;
+    *first = 0;
+    do {
+        *--first = (char)('0' + number % 10);
+        number /= 10;
+    } while (number > 0);
+    print(first);
+}
+
+static uint32_t join3(const uint8_t *bytes) { return (uint32_t)bytes[0] << 16 | (uint32_t)bytes[1] << 8 | bytes[2]; }
+
+int main(void)
+{
+    uint8_t head[8] = {0};
+    platform_read(head, sizeof head);
+    size_t length = platform_read(table, sizeof table);
+    uint32_t times = join3(head), words = join3(head + 5);
+    if (words > SUOVVAMET_MOST_WORK)
+        words = SUOVVAMET_MOST_WORK;
+    if (times == 0) {
+        print("not run\n");
+        return 0;
+    }
+    uint32_t refusal = 0;
+    uint64_t count = 0, index = 0;
+    int64_t change = 0;
+    for (; times > 0; times--)
+        refusal = suovvamet_rewrite(table, length, head[3], head[4], output, sizeof output, work, words, &count, &change, &index);
+    if (refusal != SUOVVAMET_ANSWERED) {
+        print("refused ");
+        print_number(refusal);
+        print(" at ");
+        print_number((uint32_t)index);
+    } else {
+        print("records ");
+        print_number((uint32_t)count);
+        print(change < 0 ? " change -" : " change ");
+        print_number((uint32_t)(change < 0 ? -change : change));
+    }
+    print("\n");
+    return 0;
+}

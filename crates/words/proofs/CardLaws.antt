@@ -7,12 +7,13 @@ use Prim.Native.Nat.{ℕ, zero, suc, _+_, _-_, _*_, _/_, _%_, _^_, _≤_, _<_}
 use native.Mathlib.Omega.{arith}
 use lib.Dec.{ltb}
 use lib.ListN.{length, getD}
+use lib.Seq.{ext-getD}
 use lib.Bits.{bitOr}
 use borrow.Author.Tests.{ltb-true, lt-leb, le-leb}
 use Rattle.words.specs.Bits.{bit}
 use Rattle.words.specs.Rules.{foldBit, Folded}
 use Rattle.words.specs.Card.{pairSet, FoldedByte, Card}
-use Rattle.words.proofs.BitLaws.{if-lt, if-eq, bit-or, bit-shr, bit-shl, bit-shl-low, bit-over, bit-cut}
+use Rattle.words.proofs.BitLaws.{if-lt, if-eq, bit-or, bit-shr, bit-shl, bit-shl-low, bit-over, bit-cut, same-bits}
 
 -- ---- the rule, by one test that antt computes
 
@@ -60,6 +61,16 @@ card-of folds n t = record { size = n; entry = at }
     at x h =
         let e : 0 + x ≡ x = omega arith in
         subst (λ (y : ℕ). FoldedByte y (getD folds x 0)) e (ruled-at 0 folds t x (omega arith))
+
+-- There is no second card.
+pub one-card : {a b : List ℕ} → Card a → Card b → a ≡ b
+one-card {a} {b} f g = ext-getD 0 a b (f .size ∙ sym (g .size)) (λ x h. let small = f .size in at x (omega arith))
+  where
+    at : (x : ℕ) → x < 256 → getD a x 0 ≡ getD b x 0
+    at x h =
+        let p = f .entry x h in
+        let q = g .entry x h in
+        same-bits 4 (p .four-bits) (q .four-bits) (λ k l. p .pairs k l ∙ sym (q .pairs k l))
 
 -- ---- the slots, byte by byte
 

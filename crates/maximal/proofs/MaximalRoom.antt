@@ -15,12 +15,13 @@ use Rattle.words.specs.Bits.{bit, NextBit, LastBit}
 use Rattle.words.specs.Coverage.{WhollyCovered}
 use Rattle.words.specs.Rules.{PushedSlots}
 use Rattle.words.proofs.BitLaws.{neither}
+use Rattle.nodecount.specs.Walk.{slotNodes}
 use Rattle.positions.specs.Runs.{inside, placeAt}
 use Rattle.positions.specs.Walk.{slots}
 use Rattle.positions.proofs.Counts.{maximal-few}
 use Rattle.gather.specs.Gathered.{runAt}
 use Rattle.nodes.specs.Node.{wide, run, slotSize, Node}
-use Rattle.nodes.specs.Room.{Begins, BlockBy, nodesDeep, slotNodes, nodesBelow, LaidBy, StoredBy, SlotsLaid}
+use Rattle.nodes.specs.Room.{Begins, BlockBy, nodesDeep, nodesBelow, LaidBy, StoredBy, SlotsLaid}
 use Rattle.nodes.specs.Output.{Wrote, entryAt, HeadSlots}
 use Rattle.gather.proofs.GatherLaws.{node-run, child-node}
 use Rattle.nodes.proofs.OutputWalk.{Past, lent, relaid, Walked, Begun, walked-none, walked-alone, walked-child, walked-all, no-heads}
@@ -83,7 +84,7 @@ module _ {t : List ℕ} {lo hi depth key : ℕ} {first end : List ℕ} {present 
   collect-none s room =
       let nodes = nodesBelow (nodesDeep (depth + 5)) in
       let all = slot-nodes-le nodes (slotSize depth) key (run t lo hi) (openRoutes t lo hi depth key) (uncovered-selects (slotSize depth) key (run t lo hi)) 32 in
-      let enough : 160 * (1 + slotNodes nodes (slotSize depth) key (run t lo hi) 32) ≤ top =
+      let enough : 160 * (1 + slotNodes wide nodes (slotSize depth) key (run t lo hi) 32) ≤ top =
       rw (nodes-below-deep depth (s .node .level) key (run t lo hi) (s .node .fives) (s .node .deep)) at (room .0) in
       record {
         opened = s;

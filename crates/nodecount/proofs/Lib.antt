@@ -1,4 +1,5 @@
--- The laws of the node count. The theorems to look for: NodeCount.nodes-pass, nodes-most and nodes-met, NodeRuns.nodes-runs.
+-- The laws of the node count. The theorems to look for: NodeCount.nodes-pass, nodes-most and nodes-met, NodeRuns.nodes-runs, NodesWide.nodes-widen.
 pub mod NodeCount
 pub mod NodePass
 pub mod NodeRuns
+pub mod NodesWide

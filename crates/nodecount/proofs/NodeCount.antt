@@ -31,10 +31,10 @@ before-addr r s (inl a) = omega arith
 before-addr r s (inr a) = omega arith
 
 -- A test of an order and an equation, as those of nodes and blocks are.
-pub both-true : (m n x y : ℕ) → (leb m n && eqb x y) ≡ true → (m ≤ n) × (x ≡ y)
+both-true : (m n x y : ℕ) → (leb m n && eqb x y) ≡ true → (m ≤ n) × (x ≡ y)
 both-true m n x y e = let b = and-eq-true-iff (leb m n) (eqb x y) .0 e in (leb-true m n (b .0), eqb-true x y (b .1))
 
-pub true-both : (m n x y : ℕ) → m ≤ n → x ≡ y → (leb m n && eqb x y) ≡ true
+true-both : (m n x y : ℕ) → m ≤ n → x ≡ y → (leb m n && eqb x y) ≡ true
 true-both m n x y le e = rw (le-leb m n le, eq-eqb x y e)
 
 -- The test `nodeAt` holds where s is long enough, and its address lies in the same block of that depth as x.

@@ -1,51 +1,27 @@
--- The nodes of a table by a walk over nodes: the node at depth d over the addresses of one block, and its 32 child slots, each with its run
--- of the records. Over the width w.
+-- The nodes of a table are those that a walk over nodes counts: the node at depth d over the addresses of one block, and its 32 slots, each with
+-- its run of the records. So their order and repetition are of no account. Over the width w.
 use Prim.Native.Nat.{ℕ, zero, suc, _+_, _-_, _*_, _/_, _^_, _≤_, _<_}
-use mathlib.Core.Path.{_≡_, refl, sym, ap, ap₂, _∙_}
-use mathlib.Core.Bool.{Bool, true, false, cond, _||_, _&&_, or-true}
+use mathlib.Core.Path.{_≡_, refl, sym, ap, ap₂, subst, _∙_}
+use mathlib.Core.Bool.{Bool, true, false, true≢false, cond, _||_, or-true}
 use mathlib.Core.List.{List, [], _∷_}
-use mathlib.Core.Logic.{_⊎_, inl, inr}
+use mathlib.Core.Logic.{_↔_, _⊎_, inl, inr}
 use native.Mathlib.Nat.{sub-zero, eq-or-lt-of-le, add-mul, add-mul-div-right, div-lt-iff-lt-mul}
 use native.Mathlib.Decide.{decLt}
 use native.Mathlib.Omega.{arith}
-use lib.Dec.{leb, ltb, eqb}
+use lib.Dec.{ltb, eqb}
 use lib.Pow.{pow-add, shl-shr, shr-mono}
-use borrow.Author.Tests.{le-leb, lt-leb, lt-ltb, le-ltb, ltb-true, eq-eqb, ne-eqb, eqb-true, eqb-false}
+use borrow.Author.Tests.{lt-leb, lt-ltb, le-ltb, ltb-true, eq-eqb, ne-eqb, eqb-true, eqb-false}
 use Rattle.theory.specs.Results.{In, part}
 use Rattle.theory.specs.Routes.{Route, Aligned, Valid, All, nil, cons, Member, head, later}
-use Rattle.theory.proofs.Blocks.{pow-pos, aligned-zero, block→in, aligned-down, fewer-bits}
+use Rattle.theory.proofs.Blocks.{pow-pos, aligned-zero, block→in, in→block, aligned-down, fewer-bits}
 use Rattle.theory.proofs.Lists.{all-map}
 use Rattle.theory.proofs.Parts.{all-part}
+use Rattle.positions.specs.Runs.{isIn, inside, placeAt}
+use Rattle.positions.proofs.Runs.{is-in}
+use Rattle.positions.proofs.RunsNode.{size-slot, place-aligned}
 use Rattle.nodecount.specs.Nodes.{levels, nodeAt, seen, fresh, brought, nodes}
-use Rattle.nodecount.proofs.NodeCount.{both-true, true-both, node-held, node-true}
-
--- Is r of length d or more, in the block of depth d in which the address k lies?
-abbrev pub inBlock : ℕ → ℕ → ℕ → Route → Bool
-inBlock w d k r = leb d (r .len) && eqb (r .addr / 2 ^ (w - d)) (k / 2 ^ (w - d))
-
--- The first address of child slot c of the node at depth d whose first address is key.
-abbrev pub slotKey : ℕ → ℕ → ℕ → ℕ → ℕ
-slotKey w d key c = key + c * 2 ^ (w - (d + 5))
-
--- The records of a run that belong to child slot c.
-abbrev pub slotRun : ℕ → ℕ → ℕ → ℕ → List Route → List Route
-slotRun w d key c rs = part (inBlock w (d + 5) (slotKey w d key c)) rs
-
--- The number for a run, where an empty run has none.
-abbrev pub orNone : List Route → ℕ → ℕ
-orNone [] n = 0
-orNone (r ∷ t) n = n
-
--- The sum of the n numbers f 0, f 1 and so on.
-unfoldable pub sumTo : (ℕ → ℕ) → ℕ → ℕ
-sumTo f zero = 0
-sumTo f (suc n) = sumTo f n + f n
-
--- The nodes from the node at depth d down, for the records of its run: itself, and those of each child slot that has a record. The fuel
--- bounds how many nodes deep the walk goes.
-unfoldable pub nodesIn : ℕ → ℕ → ℕ → ℕ → List Route → ℕ
-nodesIn w zero d key rs = 1
-nodesIn w (suc f) d key rs = 1 + sumTo (λ c. orNone (slotRun w d key c rs) (nodesIn w f (d + 5) (slotKey w d key c) (slotRun w d key c rs))) 32
+use Rattle.nodecount.specs.Walk.{orNone, sumTo, nodesIn}
+use Rattle.nodecount.proofs.NodeCount.{node-held, node-true}
 
 -- ---- Sums.
 sum-same : (f g : ℕ → ℕ) (n : ℕ) → ((c : ℕ) → f c ≡ g c) → sumTo f n ≡ sumTo g n
@@ -124,27 +100,33 @@ from-next w e earlier x (suc m) lt = go (eq-or-lt-of-le lt) (from-next w e earli
     go (inr l) ih = rw (lt-ltb e (suc m) (omega arith), lt-ltb (suc e) (suc m) l) (omega (arith, ih (omega arith)))
 
 -- ---- A run in one block of depth d: it shares the node there.
-block-true : (w d k : ℕ) (r : Route) → inBlock w d k r ≡ true → (d ≤ r .len) × (r .addr / 2 ^ (w - d) ≡ k / 2 ^ (w - d))
-block-true w d k r e = both-true d (r .len) _ _ e
 
-module _ (w e d k : ℕ) (level : d ≡ 5 * suc e) where
+-- A record lies in the block that begins at k exactly when it is long enough and its first d bits are those of k.
+in-block : (w d k : ℕ) → d ≤ w → Aligned (w - d) k → (r : Route)
+    → (isIn w (w - d) k r ≡ true) ↔ ((d ≤ r .len) × (r .addr / 2 ^ (w - d) ≡ k / 2 ^ (w - d)))
+in-block w d k le lined r = (
+  λ e. let z = is-in w (w - d) k r .0 e in (omega arith, in→block (w - d) k (r .addr) lined (z .1)),
+  λ z. is-in w (w - d) k r .1 (omega arith, block→in (w - d) k (r .addr) lined (z .1)),
+)
+
+module _ (w e d k : ℕ) (level : d ≡ 5 * suc e) (within : d ≤ w) (lined : Aligned (w - d) k) where
   -- Where the node is seen from each address of the block, nothing is brought at its depth.
   shared-brought : (earlier : List Route) {t : List Route} → ((x : ℕ) → x / 2 ^ (w - d) ≡ k / 2 ^ (w - d) → seen w (suc e) x earlier ≡ true)
-      → All (λ r. inBlock w d k r ≡ true) t → broughtFrom w e earlier t ≡ broughtFrom w (suc e) earlier t
+      → All (λ r. isIn w (w - d) k r ≡ true) t → broughtFrom w e earlier t ≡ broughtFrom w (suc e) earlier t
   unfolding broughtFrom
   shared-brought earlier h nil = refl
   shared-brought earlier h (cons {r = r} p ps) =
-      let b = block-true w d k r p in
+      let b = in-block w d k within lined r .0 p in
       ap₂ _+_
       (from-next w e earlier (r .addr) (levels r) (omega arith) ∙ rw (h (r .addr) (b .1)) (omega arith))
       (shared-brought (r ∷ earlier) (λ x q. rw (h x q) (or-true (nodeAt w (suc e) x r))) ps)
 
   -- A run that is not empty brings the node itself, and what lies deeper.
-  run-brought : {t : List Route} → All (λ r. inBlock w d k r ≡ true) t → orNone t (1 + broughtFrom w (suc e) [] t) ≡ broughtFrom w e [] t
+  run-brought : {t : List Route} → All (λ r. isIn w (w - d) k r ≡ true) t → orNone t (1 + broughtFrom w (suc e) [] t) ≡ broughtFrom w e [] t
   unfolding broughtFrom
   run-brought nil = refl
   run-brought (cons {r = r} p ps) =
-      let b = block-true w d k r p in
+      let b = in-block w d k within lined r .0 p in
       let f : freshFrom w e [] (r .addr) (levels r) ≡ 1 + freshFrom w (suc e) [] (r .addr) (levels r) =
       from-next w e [] (r .addr) (levels r) (omega arith) in
       let held : (x : ℕ) → x / 2 ^ (w - d) ≡ k / 2 ^ (w - d) → seen w (suc e) x (r ∷ []) ≡ true =
@@ -154,67 +136,76 @@ module _ (w e d k : ℕ) (level : d ≡ 5 * suc e) where
 
   -- Of the earlier records only those of the same block are seen at that depth or deeper.
   seen-part : (m x : ℕ) → suc e ≤ m → 5 * m ≤ w → x / 2 ^ (w - d) ≡ k / 2 ^ (w - d) → (earlier : List Route)
-      → seen w m x (part (inBlock w d k) earlier) ≡ seen w m x earlier
+      → seen w m x (part (isIn w (w - d) k) earlier) ≡ seen w m x earlier
   seen-part m x le fits q [] = refl
-  seen-part m x le fits q (s ∷ t) = go (inBlock w d k s) refl (seen-part m x le fits q t)
+  seen-part m x le fits q (s ∷ t) = go (isIn w (w - d) k s) refl (seen-part m x le fits q t)
     where
-      other : inBlock w d k s ≡ false → (b : Bool) → nodeAt w m x s ≡ b → b ≡ false
+      other : isIn w (w - d) k s ≡ false → (b : Bool) → nodeAt w m x s ≡ b → b ≡ false
       other f true n =
           let u = node-true w m x s n in
           let same : s .addr / 2 ^ (w - d) ≡ x / 2 ^ (w - d) = fewer-bits w d (5 * m) (s .addr) x (omega arith) (u .1) in
-          let h : inBlock w d k s ≡ true = true-both d (s .len) _ _ (omega (arith, u .0)) (same ∙ q) in
+          let h : isIn w (w - d) k s ≡ true = in-block w d k within lined s .1 (omega (arith, u .0), same ∙ q) in
           let z : _≡_ {A = ℕ} 0 1 = cc in
           absurd (omega arith)
       other f false n = refl
 
-      go : (b : Bool) → inBlock w d k s ≡ b → seen w m x (part (inBlock w d k) t) ≡ seen w m x t
-          → seen w m x (cond b (s ∷ part (inBlock w d k) t) (part (inBlock w d k) t)) ≡ (nodeAt w m x s || seen w m x t)
+      go : (b : Bool) → isIn w (w - d) k s ≡ b → seen w m x (part (isIn w (w - d) k) t) ≡ seen w m x t
+          → seen w m x (cond b (s ∷ part (isIn w (w - d) k) t) (part (isIn w (w - d) k) t)) ≡ (nodeAt w m x s || seen w m x t)
       go true f ih = ap (λ (b : Bool). nodeAt w m x s || b) ih
       go false f ih = rw (other f (nodeAt w m x s) refl) ih
 
   from-part : (earlier : List Route) (x m : ℕ) → 5 * m ≤ w → x / 2 ^ (w - d) ≡ k / 2 ^ (w - d)
-      → freshFrom w e (part (inBlock w d k) earlier) x m ≡ freshFrom w e earlier x m
+      → freshFrom w e (part (isIn w (w - d) k) earlier) x m ≡ freshFrom w e earlier x m
   unfolding freshFrom
   from-part earlier x zero fits q = refl
   from-part earlier x (suc m) fits q = ap₂ _+_ (from-part earlier x m (omega arith) q) (go (ltb e (suc m)) refl)
     where
       go : (b : Bool) → ltb e (suc m) ≡ b
-          → cond b (cond {A = ℕ} (seen w (suc m) x (part (inBlock w d k) earlier)) 0 1) 0 ≡ cond b (cond (seen w (suc m) x earlier) 0 1) 0
+          → cond b (cond {A = ℕ} (seen w (suc m) x (part (isIn w (w - d) k) earlier)) 0 1) 0 ≡ cond b (cond (seen w (suc m) x earlier) 0 1) 0
       go true l = ap (λ (b : Bool). cond b 0 1) (seen-part (suc m) x (ltb-true e (suc m) l) fits q earlier)
       go false l = refl
 
--- ---- The 32 child slots of the node at depth d whose first address is key.
+-- ---- The 32 slots of the node at depth d whose first address is key.
 
 -- A record of the node's run: it is no longer than the width, and its address lies in the node's block.
 pub record Inside (w d key : ℕ) (r : Route) : Type 0 where
   pub short : r .len ≤ w
   pub inside : In (w - d) key (r .addr)
 
-module _ (w d key : ℕ) (lined : Aligned (w - d) key) where
-  lined-down : Aligned (w - (d + 5)) key
-  lined-down = aligned-down (w - (d + 5)) (w - d) key (omega arith) lined
+-- Where slot c stands, and the records in it.
+abbrev pub slotKey : ℕ → ℕ → ℕ → ℕ → ℕ
+slotKey w d key c = placeAt (w - (d + 5)) key 5 c
 
+abbrev pub slotRun : ℕ → ℕ → ℕ → ℕ → List Route → List Route
+slotRun w d key c rs = inside w (w - (d + 5)) (slotKey w d key c) rs
+
+module _ (w d key : ℕ) (fits : d + 5 ≤ w) (lined : Aligned (w - d) key) where
   slot-lined : (c : ℕ) → Aligned (w - (d + 5)) (slotKey w d key c)
-  slot-lined c = (lined-down .0 + c, omega (arith, lined-down .1, add-mul (lined-down .0) c (2 ^ (w - (d + 5)))))
+  slot-lined c =
+      let up : w - d ≡ (w - (d + 5)) + 5 = omega arith in
+      subst (λ (k : ℕ). Aligned k (slotKey w d key c)) (size-slot (w - (d + 5))) (place-aligned (w - (d + 5)) key 5 c (rw up at lined))
+
+  -- Its number is that of the node's first slot, and c more.
+  slot-number : (c : ℕ) → slotKey w d key c / 2 ^ (w - (d + 5)) ≡ key / 2 ^ (w - (d + 5)) + c
+  slot-number c = rw (size-slot (w - (d + 5))) (add-mul-div-right key c (pow-pos (w - (d + 5))))
 
   -- The slot in which an address lies.
   slotOf : ℕ → ℕ
   slotOf x = x / 2 ^ (w - (d + 5)) - key / 2 ^ (w - (d + 5))
 
-  slot-small : (r : Route) → Inside w d key r → d + 5 ≤ r .len → slotOf (r .addr) < 32
+  slot-small : (x : ℕ) → In (w - d) key x → slotOf x < 32
   unfolding slotOf
-  slot-small r i le =
+  slot-small x i =
       let k : ℕ = w - (d + 5) in
-      let a = lined-down in
-      let base : key / 2 ^ k ≡ a .0 = ap (λ (x : ℕ). x / 2 ^ k) (a .1) ∙ shl-shr (a .0) k in
-      let size : 2 ^ (w - d) ≡ 2 ^ k * 32 = ap (λ (n : ℕ). 2 ^ n) (let n : w - d ≡ k + 5 = omega (arith, i .short) in n) ∙ pow-add 2 k 5 in
-      let top : r .addr / 2 ^ k < a .0 + 32 =
-      div-lt-iff-lt-mul (pow-pos k) .1 (omega (arith, i .inside, a .1, add-mul (a .0) 32 (2 ^ k))) in
+      let a = aligned-down k (w - d) key (omega arith) lined in
+      let base : key / 2 ^ k ≡ a .0 = ap (λ (y : ℕ). y / 2 ^ k) (a .1) ∙ shl-shr (a .0) k in
+      let size : 2 ^ (w - d) ≡ 2 ^ k * 32 = ap (λ (n : ℕ). 2 ^ n) (let n : w - d ≡ k + 5 = omega arith in n) ∙ pow-add 2 k 5 in
+      let top : x / 2 ^ k < a .0 + 32 = div-lt-iff-lt-mul (pow-pos k) .1 (omega (arith, a .1, add-mul (a .0) 32 (2 ^ k))) in
       omega arith
 
-  slot-is : (r : Route) → Inside w d key r → d + 5 ≤ r .len → (c : ℕ) → inBlock w (d + 5) (slotKey w d key c) r ≡ eqb c (slotOf (r .addr))
+  slot-is : (r : Route) → Inside w d key r → d + 5 ≤ r .len → (c : ℕ) → isIn w (w - (d + 5)) (slotKey w d key c) r ≡ eqb c (slotOf (r .addr))
   unfolding slotOf
-  slot-is r i le c = rw (le-leb (d + 5) (r .len) le, add-mul-div-right key c (pow-pos (w - (d + 5)))) (go (eqb c (slotOf (r .addr))) refl)
+  slot-is r i le c = go (isIn w (w - (d + 5)) (slotKey w d key c) r) refl
     where
       k : ℕ
       k = w - (d + 5)
@@ -222,65 +213,67 @@ module _ (w d key : ℕ) (lined : Aligned (w - d) key) where
       low : key / 2 ^ k ≤ r .addr / 2 ^ k
       low = shr-mono k (i .inside .0)
 
-      go : (b : Bool) → eqb c (slotOf (r .addr)) ≡ b → eqb (r .addr / 2 ^ k) (key / 2 ^ k + c) ≡ b
-      go true e = eq-eqb (r .addr / 2 ^ k) (key / 2 ^ k + c) (omega (arith, low, eqb-true c (slotOf (r .addr)) e))
-      go false e = ne-eqb (r .addr / 2 ^ k) (key / 2 ^ k + c) (λ q. eqb-false c (slotOf (r .addr)) e (omega arith))
+      at : (isIn w k (slotKey w d key c) r ≡ true) ↔ ((d + 5 ≤ r .len) × (r .addr / 2 ^ k ≡ slotKey w d key c / 2 ^ k))
+      at = in-block w (d + 5) (slotKey w d key c) fits (slot-lined c) r
 
-  slot-none : (r : Route) → r .len < d + 5 → (c : ℕ) → inBlock w (d + 5) (slotKey w d key c) r ≡ false
-  slot-none r lt c = rw (lt-leb (d + 5) (r .len) lt)
+      go : (b : Bool) → isIn w k (slotKey w d key c) r ≡ b → b ≡ eqb c (slotOf (r .addr))
+      go true e = sym (eq-eqb c (slotOf (r .addr)) (omega (arith, at .0 e, slot-number c)))
+      go false e =
+          sym (ne-eqb c (slotOf (r .addr)) (λ q.
+          true≢false (sym (at .1 (le, (let s : r .addr / 2 ^ k ≡ slotKey w d key c / 2 ^ k = omega (arith, low, slot-number c) in s))) ∙ e)))
+
+  slot-none : (r : Route) → r .len < d + 5 → (c : ℕ) → isIn w (w - (d + 5)) (slotKey w d key c) r ≡ false
+  slot-none r lt c = rw (lt-leb (w - (w - (d + 5))) (r .len) (omega arith))
 
   slot-inside : (c : ℕ) {rs : List Route} → All (Inside w d key) rs → All (Inside w (d + 5) (slotKey w d key c)) (slotRun w d key c rs)
   slot-inside c all =
-      all-part (inBlock w (d + 5) (slotKey w d key c))
-      (λ r i e. record {
-        short = i .short;
-        inside = block→in (w - (d + 5)) (slotKey w d key c) (r .addr) (slot-lined c) (block-true w (d + 5) (slotKey w d key c) r e .1);
-      })
+      all-part (isIn w (w - (d + 5)) (slotKey w d key c))
+      (λ r i e. record { short = i .short; inside = is-in w (w - (d + 5)) (slotKey w d key c) r .0 e .1 })
       all
 
 -- What the slots' runs bring is what the run brings deeper than the node.
-module _ (w e d key : ℕ) (level : d ≡ 5 * e) (lined : Aligned (w - d) key) where
+module _ (w e d key : ℕ) (level : d ≡ 5 * e) (fits : d + 5 ≤ w) (lined : Aligned (w - d) key) where
   -- Of the slots one alone holds a record that is long enough, and a shorter record brings nothing.
   slot-fresh : (earlier : List Route) (r : Route) → Inside w d key r
-      → sumTo (λ c. cond (inBlock w (d + 5) (slotKey w d key c) r) (freshFrom w e (slotRun w d key c earlier) (r .addr) (levels r)) 0) 32
+      → sumTo (λ c. cond (isIn w (w - (d + 5)) (slotKey w d key c) r) (freshFrom w e (slotRun w d key c earlier) (r .addr) (levels r)) 0) 32
       ≡ freshFrom w e earlier (r .addr) (levels r)
-  slot-fresh earlier r i = sum-same _ (λ c. cond (inBlock w (d + 5) (slotKey w d key c) r) here 0) 32 own ∙ one (decLt (r .len) (d + 5))
+  slot-fresh earlier r i = sum-same _ (λ c. cond (isIn w (w - (d + 5)) (slotKey w d key c) r) here 0) 32 own ∙ one (decLt (r .len) (d + 5))
     where
       here : ℕ
       here = freshFrom w e earlier (r .addr) (levels r)
 
-      own : (c : ℕ) → cond (inBlock w (d + 5) (slotKey w d key c) r) (freshFrom w e (slotRun w d key c earlier) (r .addr) (levels r)) 0
-          ≡ cond (inBlock w (d + 5) (slotKey w d key c) r) here 0
-      own c = go (inBlock w (d + 5) (slotKey w d key c) r) refl
+      own : (c : ℕ) → cond (isIn w (w - (d + 5)) (slotKey w d key c) r) (freshFrom w e (slotRun w d key c earlier) (r .addr) (levels r)) 0
+          ≡ cond (isIn w (w - (d + 5)) (slotKey w d key c) r) here 0
+      own c = go (isIn w (w - (d + 5)) (slotKey w d key c) r) refl
         where
-          go : (b : Bool) → inBlock w (d + 5) (slotKey w d key c) r ≡ b
+          go : (b : Bool) → isIn w (w - (d + 5)) (slotKey w d key c) r ≡ b
               → cond b (freshFrom w e (slotRun w d key c earlier) (r .addr) (levels r)) 0 ≡ cond b here 0
           go true q =
-              from-part w e (d + 5) (slotKey w d key c) (omega arith) earlier (r .addr) (levels r) (omega (arith, i .short))
-              (block-true w (d + 5) (slotKey w d key c) r q .1)
+              from-part w e (d + 5) (slotKey w d key c) (omega arith) fits (slot-lined w d key fits lined c) earlier (r .addr) (levels r) (omega (arith, i .short))
+              (in-block w (d + 5) (slotKey w d key c) fits (slot-lined w d key fits lined c) r .0 q .1)
           go false q = refl
 
-      one : Dec (r .len < d + 5) → sumTo (λ c. cond (inBlock w (d + 5) (slotKey w d key c) r) here 0) 32 ≡ here
+      one : Dec (r .len < d + 5) → sumTo (λ c. cond (isIn w (w - (d + 5)) (slotKey w d key c) r) here 0) 32 ≡ here
       one (yes lt) =
-          sum-none _ 32 (λ c. ap (λ (b : Bool). cond b here 0) (slot-none w d key lined r lt c))
+          sum-none _ 32 (λ c. ap (λ (b : Bool). cond b here 0) (slot-none w d key fits lined r lt c))
           ∙ sym (from-none w e earlier (r .addr) (levels r) (omega arith))
       one (no ge) =
-          sum-same _ (λ c. cond (eqb c (slotOf w d key lined (r .addr))) here 0) 32
-          (λ c. ap (λ (b : Bool). cond b here 0) (slot-is w d key lined r i (omega arith) c))
-          ∙ sum-one (slotOf w d key lined (r .addr)) here 32
-          ∙ ap (λ (b : Bool). cond b here 0) (lt-ltb (slotOf w d key lined (r .addr)) 32 (slot-small w d key lined r i (omega arith)))
+          sum-same _ (λ c. cond (eqb c (slotOf w d key fits lined (r .addr))) here 0) 32
+          (λ c. ap (λ (b : Bool). cond b here 0) (slot-is w d key fits lined r i (omega arith) c))
+          ∙ sum-one (slotOf w d key fits lined (r .addr)) here 32
+          ∙ ap (λ (b : Bool). cond b here 0) (lt-ltb (slotOf w d key fits lined (r .addr)) 32 (slot-small w d key fits lined (r .addr) (i .inside)))
 
   slots-brought : (earlier : List Route) {t : List Route} → All (Inside w d key) t
       → sumTo (λ c. broughtFrom w e (slotRun w d key c earlier) (slotRun w d key c t)) 32 ≡ broughtFrom w e earlier t
   unfolding broughtFrom
   slots-brought earlier nil = sum-none _ 32 (λ c. refl)
   slots-brought earlier (cons {r = r} {t = t} i is) =
-      sum-same _ (λ c. new c + deeper c) 32 (λ c. split c (inBlock w (d + 5) (slotKey w d key c) r))
+      sum-same _ (λ c. new c + deeper c) 32 (λ c. split c (isIn w (w - (d + 5)) (slotKey w d key c) r))
       ∙ sum-add new deeper 32
       ∙ ap₂ _+_ (slot-fresh earlier r i) (slots-brought (r ∷ earlier) is)
     where
       new : ℕ → ℕ
-      new c = cond (inBlock w (d + 5) (slotKey w d key c) r) (freshFrom w e (slotRun w d key c earlier) (r .addr) (levels r)) 0
+      new c = cond (isIn w (w - (d + 5)) (slotKey w d key c) r) (freshFrom w e (slotRun w d key c earlier) (r .addr) (levels r)) 0
 
       deeper : ℕ → ℕ
       deeper c = broughtFrom w e (slotRun w d key c (r ∷ earlier)) (slotRun w d key c t)
@@ -292,27 +285,40 @@ module _ (w e d key : ℕ) (level : d ≡ 5 * e) (lined : Aligned (w - d) key) w
       split c true = refl
       split c false = omega arith
 
--- The walk over the nodes below depth d counts what the run brings deeper than that.
-pub runs-brought : (w f e d key : ℕ) {rs : List Route} → d ≡ 5 * e → Aligned (w - d) key → w / 5 ≤ e + f → All (Inside w d key) rs
-    → nodesIn w f d key rs ≡ 1 + broughtFrom w e [] rs
+-- A list whose number is 0 has 0 in any case.
+none-zero : (t : List Route) → orNone t 0 ≡ 0
+none-zero [] = refl
+none-zero (r ∷ t) = refl
+
+-- The walk from the node at depth d counts it and what the run brings deeper than that, if it goes as deep as the records have nodes.
+pub runs-brought : (w k e d key : ℕ) {rs : List Route} → d ≡ 5 * e → d + 5 * k ≤ w → Aligned (w - d) key → All (λ r. levels r ≤ e + k) rs
+    → All (Inside w d key) rs → nodesIn w (suc k) (w - d) key rs ≡ 1 + broughtFrom w e [] rs
 unfolding nodesIn
-runs-brought w zero e d key level lined far all =
-    let none = brought-none w e [] (all-map (λ r i. (let j : levels r ≤ e = omega (arith, i .short) in j)) all) in
-    omega (arith, none)
-runs-brought w (suc f) e d key {rs} level lined far all =
-    ap (λ (n : ℕ). 1 + n)
+runs-brought w zero e d key {rs} level fits lined few all =
+    let deeper = brought-none w e [] (all-map (λ r h. (let j : levels r ≤ e = omega arith in j)) few) in
+    let none = sum-none (λ c. orNone (inside w ((w - d) - 5) (placeAt ((w - d) - 5) key 5 c) rs) 0) 32
+    (λ c. none-zero (inside w ((w - d) - 5) (placeAt ((w - d) - 5) key 5 c) rs)) in
+    omega arith
+runs-brought w (suc k) e d key {rs} level fits lined few all =
+    let deep : d + 5 ≤ w = omega arith in
+    let size : (w - d) - 5 ≡ w - (d + 5) = omega arith in
+    rw size (ap (λ (n : ℕ). 1 + n)
     (sum-same _ (λ c. broughtFrom w e [] (slotRun w d key c rs)) 32
-    (λ c. ap (orNone (slotRun w d key c rs))
-    (runs-brought w f (suc e) (d + 5) (slotKey w d key c) (omega arith) (slot-lined w d key lined c) (omega arith) (slot-inside w d key lined c all))
-    ∙ run-brought w e (d + 5) (slotKey w d key c) (omega arith) (all-part (inBlock w (d + 5) (slotKey w d key c)) (λ r i q. q) all))
-    ∙ slots-brought w e d key level lined [] all)
+    (λ c.
+    let down = slot-lined w d key deep lined c in
+    ap (orNone (slotRun w d key c rs))
+    (runs-brought w k (suc e) (d + 5) (slotKey w d key c) (omega arith) (omega arith) down
+    (all-part _ (λ r h q. (let j : levels r ≤ suc e + k = omega arith in j)) few) (slot-inside w d key deep lined c all))
+    ∙ run-brought w e (d + 5) (slotKey w d key c) (omega arith) deep down (all-part (isIn w (w - (d + 5)) (slotKey w d key c)) (λ r i q. q) all))
+    ∙ slots-brought w e d key level deep lined [] all))
 
 -- The nodes of a table, in any order, are those that the walk from the root counts.
-pub nodes-runs : (w f : ℕ) {rs : List Route} → All (Valid w) rs → w / 5 ≤ f → nodesIn w f 0 0 rs ≡ nodes w rs
+pub nodes-runs : (w k : ℕ) {rs : List Route} → All (Valid w) rs → 5 * k ≤ w → All (λ r. levels r ≤ k) rs → nodesIn w (suc k) w 0 rs ≡ nodes w rs
 unfolding nodes
-nodes-runs w f {rs} all far =
-    runs-brought w f 0 0 0 refl (aligned-zero (w - 0)) (omega arith)
-    (all-map (λ r v. record { short = v .short; inside = (omega arith, rw (sub-zero w) (omega (arith, v .small))) }) all)
+nodes-runs w k {rs} all fits few =
+    rw (sub-zero w) at (runs-brought w k 0 0 0 refl (omega arith) (aligned-zero (w - 0))
+    (all-map (λ r h. (let j : levels r ≤ 0 + k = omega arith in j)) few)
+    (all-map (λ r v. record { short = v .short; inside = (omega arith, rw (sub-zero w) (omega (arith, v .small))) }) all))
     ∙ ap (λ (n : ℕ). 1 + n) (brought-root w [] rs)
 
 -- ---- The order of the records and their repetition are of no account.
@@ -358,20 +364,21 @@ none-among [] (r ∷ t) m n k l e = member-none (l r head)
 none-among (r ∷ s) [] m n k l e = member-none (k r head)
 none-among (r ∷ s) (u ∷ t) m n k l e = e
 
-in-among : (w f d key : ℕ) (s t : List Route) → Among s t → Among t s → nodesIn w f d key s ≡ nodesIn w f d key t
+in-among : (w k n a : ℕ) (s t : List Route) → Among s t → Among t s → nodesIn w k n a s ≡ nodesIn w k n a t
 unfolding nodesIn
-in-among w zero d key s t k l = refl
-in-among w (suc f) d key s t k l =
-    ap (λ (n : ℕ). 1 + n)
+in-among w zero n a s t i j = refl
+in-among w (suc k) n a s t i j =
+    ap (λ (m : ℕ). 1 + m)
     (sum-same _ _ 32
-    (λ c. none-among (slotRun w d key c s) (slotRun w d key c t) _ _
-    (part-among (inBlock w (d + 5) (slotKey w d key c)) s t k)
-    (part-among (inBlock w (d + 5) (slotKey w d key c)) t s l)
-    (in-among w f (d + 5) (slotKey w d key c) (slotRun w d key c s) (slotRun w d key c t)
-    (part-among (inBlock w (d + 5) (slotKey w d key c)) s t k)
-    (part-among (inBlock w (d + 5) (slotKey w d key c)) t s l))))
+    (λ c.
+    let p = isIn w (n - 5) (placeAt (n - 5) a 5 c) in
+    let u = part-among p s t i in
+    let v = part-among p t s j in
+    none-among (part p s) (part p t) _ _ u v (in-among w k (n - 5) (placeAt (n - 5) a 5 c) (part p s) (part p t) u v)))
 
 -- Lists of the same records have as many nodes.
 pub nodes-among : (w : ℕ) {s t : List Route} → All (Valid w) s → All (Valid w) t → Among s t → Among t s → nodes w s ≡ nodes w t
-nodes-among w {s} {t} u v k l =
-    sym (nodes-runs w (w / 5) u (omega arith)) ∙ in-among w (w / 5) 0 0 s t k l ∙ nodes-runs w (w / 5) v (omega arith)
+nodes-among w {s} {t} u v i j = sym (walked u) ∙ in-among w (suc (w / 5)) w 0 s t i j ∙ walked v
+  where
+    walked : {rs : List Route} → All (Valid w) rs → nodesIn w (suc (w / 5)) w 0 rs ≡ nodes w rs
+    walked all = nodes-runs w (w / 5) all (omega arith) (all-map (λ r h. (let j : levels r ≤ w / 5 = omega (arith, h .short) in j)) all)

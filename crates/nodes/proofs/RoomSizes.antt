@@ -11,15 +11,11 @@ use lib.ListN.{length, length-append}
 use Rattle.theory.specs.Routes.{Route}
 use Rattle.positions.specs.Runs.{inside, placeAt}
 use Rattle.nodes.specs.Node.{wide, slotSize}
-use Rattle.nodecount.proofs.NodeRuns.{orNone}
-use Rattle.nodes.specs.Room.{SlotBlock, SlotBlocks, BlockBy, Block, everywhere, nodesDeep, slotNodes, nodesBelow}
+use Rattle.nodecount.specs.Walk.{orNone, sumTo, nodesAt, slotNodes, nodesIn}
+use Rattle.nodes.specs.Room.{SlotBlock, SlotBlocks, BlockBy, Block, everywhere, nodesDeep, nodesBelow}
 use Rattle.nodes.proofs.RoomBlocks.{deep-step}
 
 -- ---- The nodes below a node, slot by slot.
-
--- The nodes of slot c.
-abbrev pub nodesAt : (ℕ → List Route → ℕ) → ℕ → ℕ → List Route → ℕ → ℕ
-nodesAt nodes m a t c = orNone (inside wide m (placeAt m a 5 c) t) (nodes (placeAt m a 5 c) (inside wide m (placeAt m a 5 c) t))
 
 -- The number stands where there is a route.
 pub some-number : (t : List Route) (n : ℕ) → 0 < length t → orNone t n ≡ n
@@ -28,24 +24,24 @@ some-number (r ∷ t) n h = refl
 
 -- One more slot.
 pub slot-nodes-next : (nodes : ℕ → List Route → ℕ) (m a : ℕ) (t : List Route) (c : ℕ)
-    → slotNodes nodes m a t (c + 1) ≡ slotNodes nodes m a t c + nodesAt nodes m a t c
-unfolding slotNodes
+    → slotNodes wide nodes m a t (c + 1) ≡ slotNodes wide nodes m a t c + nodesAt wide nodes m a t c
+unfolding sumTo
 slot-nodes-next nodes m a t c = rw add-one
 
 -- The same of a number for each node.
 times-next : (most : ℕ) (nodes : ℕ → List Route → ℕ) (m a : ℕ) (t : List Route) (c : ℕ)
-    → most * slotNodes nodes m a t (c + 1) ≡ most * slotNodes nodes m a t c + most * nodesAt nodes m a t c
+    → most * slotNodes wide nodes m a t (c + 1) ≡ most * slotNodes wide nodes m a t c + most * nodesAt wide nodes m a t c
 times-next most nodes m a t c =
-    ap (λ (n : ℕ). most * n) (slot-nodes-next nodes m a t c) ∙ mul-add most (slotNodes nodes m a t c) (nodesAt nodes m a t c)
+    ap (λ (n : ℕ). most * n) (slot-nodes-next nodes m a t c) ∙ mul-add most (slotNodes wide nodes m a t c) (nodesAt wide nodes m a t c)
 
 -- A node and those of its slots.
-pub nodes-below-next : (k a : ℕ) (t : List Route) → nodesBelow (suc k) a t ≡ 1 + slotNodes (nodesBelow k) (5 * k) a t 32
-unfolding nodesBelow
-nodes-below-next k a t = refl
+pub nodes-below-next : (k a : ℕ) (t : List Route) → nodesBelow (suc k) a t ≡ 1 + slotNodes wide (nodesBelow k) (5 * k) a t 32
+unfolding nodesIn
+nodes-below-next k a t = let size : 5 * suc k - 5 ≡ 5 * k = omega arith in rw size
 
 -- The same of a node at this depth.
 pub nodes-below-deep : (depth level a : ℕ) (t : List Route) → depth ≡ level * 5 → depth ≤ 30
-    → nodesBelow (nodesDeep depth) a t ≡ 1 + slotNodes (nodesBelow (nodesDeep (depth + 5))) (slotSize depth) a t 32
+    → nodesBelow (nodesDeep depth) a t ≡ 1 + slotNodes wide (nodesBelow (nodesDeep (depth + 5))) (slotSize depth) a t 32
 nodes-below-deep depth level a t e le =
     let d = deep-step depth level e le in
     rw (d .0, ← d .1) (nodes-below-next (nodesDeep (depth + 5)) a t)
@@ -59,13 +55,13 @@ Selects m a t s =
 
 -- So they have no more nodes there.
 pub slot-nodes-le : (nodes : ℕ → List Route → ℕ) (m a : ℕ) (t s : List Route) → Selects m a t s → (c : ℕ)
-    → slotNodes nodes m a s c ≤ slotNodes nodes m a t c
-unfolding slotNodes
+    → slotNodes wide nodes m a s c ≤ slotNodes wide nodes m a t c
+unfolding sumTo
 slot-nodes-le nodes m a t s some zero = omega arith
 slot-nodes-le nodes m a t s some (suc c) = omega (arith, slot-nodes-le nodes m a t s some c, at (some c))
   where
     at : (inside wide m (placeAt m a 5 c) s ≡ []) ⊎ (inside wide m (placeAt m a 5 c) s ≡ inside wide m (placeAt m a 5 c) t)
-        → nodesAt nodes m a s c ≤ nodesAt nodes m a t c
+        → nodesAt wide nodes m a s c ≤ nodesAt wide nodes m a t c
     at (inl e) = rw e (omega arith)
     at (inr e) = rw e (omega arith)
 
@@ -84,20 +80,20 @@ module _ (most : ℕ) (block : ℕ → List Route → List ℕ → Type 0) (node
   module _ (m a : ℕ) (t : List Route) where
     -- And those of the last d slots.
     last-length : (d : ℕ) (v : List ℕ) → d ≤ 32 → SlotBlocks block m a t d v
-        → length v + most * slotNodes nodes m a t (32 - d) ≤ most * slotNodes nodes m a t 32
+        → length v + most * slotNodes wide nodes m a t (32 - d) ≤ most * slotNodes wide nodes m a t 32
     unfolding SlotBlocks
     last-length zero v le e = rw e (omega arith)
     last-length (suc d) ws le (u, v, e, s, b) =
         let c : 32 - d ≡ (31 - d) + 1 = omega arith in
         let f : 32 - suc d ≡ 31 - d = omega arith in
-        let ih : length v + most * slotNodes nodes m a t ((31 - d) + 1) ≤ most * slotNodes nodes m a t 32 =
+        let ih : length v + most * slotNodes wide nodes m a t ((31 - d) + 1) ≤ most * slotNodes wide nodes m a t 32 =
         rw c at (last-length d v (omega arith) b) in
         let n : length ws ≡ length u + length v = ap length e ∙ length-append u v in
         rw f (omega (arith, times-next most nodes m a t (31 - d), slot-length (placeAt m a 5 (31 - d)) (inside wide m (placeAt m a 5 (31 - d)) t) u s))
 
     -- The slots from c on leave the room for those before them.
     pub slots-length : (c : ℕ) (v : List ℕ) → c ≤ 32 → SlotBlocks block m a t (32 - c) v
-        → length v + most * slotNodes nodes m a t c ≤ most * slotNodes nodes m a t 32
+        → length v + most * slotNodes wide nodes m a t c ≤ most * slotNodes wide nodes m a t 32
     slots-length c v le b =
         let e : 32 - (32 - c) ≡ c = omega arith in
         rw e at (last-length (32 - c) v (omega arith) b)
@@ -110,7 +106,7 @@ module _ (most : ℕ) (deeper : ℕ → ℕ → List Route → List Route) (sele
   block-by-length zero a t ws b = absurd b
   block-by-length (suc k) a t ws (u, v, e, o, b) =
       let n : length ws ≡ length u + length v = ap length e ∙ length-append u v in
-      let walked : slotNodes (nodesBelow k) (5 * k) a (deeper (5 * k) a t) 32 ≤ slotNodes (nodesBelow k) (5 * k) a t 32 =
+      let walked : slotNodes wide (nodesBelow k) (5 * k) a (deeper (5 * k) a t) 32 ≤ slotNodes wide (nodesBelow k) (5 * k) a t 32 =
       slot-nodes-le (nodesBelow k) (5 * k) a t (deeper (5 * k) a t) (selects (5 * k) a t) 32 in
       let all = mul-le-mul-left most walked in
       rw nodes-below-next
@@ -124,20 +120,20 @@ block-length most own = block-by-length most everywhere (λ m a t c. inr refl) o
 -- ---- The room left. Before slot c is met from the back, there is room for the slots up to it and for the node itself.
 module _ (most : ℕ) (nodes : ℕ → List Route → ℕ) (m a : ℕ) (t : List Route) where
   -- There is room for the block of slot c, which is none where the slot has no route.
-  pub room-slot : (c at : ℕ) → most * (1 + slotNodes nodes m a t (c + 1)) ≤ at → most * nodesAt nodes m a t c ≤ at
+  pub room-slot : (c at : ℕ) → most * (1 + slotNodes wide nodes m a t (c + 1)) ≤ at → most * nodesAt wide nodes m a t c ≤ at
   room-slot c at h = omega (arith, times-next most nodes m a t c)
 
-  pub room-child : (c at : ℕ) → most * (1 + slotNodes nodes m a t (c + 1)) ≤ at → 0 < length (inside wide m (placeAt m a 5 c) t)
+  pub room-child : (c at : ℕ) → most * (1 + slotNodes wide nodes m a t (c + 1)) ≤ at → 0 < length (inside wide m (placeAt m a 5 c) t)
       → most * nodes (placeAt m a 5 c) (inside wide m (placeAt m a 5 c) t) ≤ at
   room-child c at h s =
       let e = some-number (inside wide m (placeAt m a 5 c) t) (nodes (placeAt m a 5 c) (inside wide m (placeAt m a 5 c) t)) s in
       rw e at (room-slot c at h)
 
   -- After it there is room for the slots before it.
-  pub room-step : (c at at′ : ℕ) → most * (1 + slotNodes nodes m a t (c + 1)) ≤ at → at ≤ at′ + most * nodesAt nodes m a t c
-      → most * (1 + slotNodes nodes m a t c) ≤ at′
+  pub room-step : (c at at′ : ℕ) → most * (1 + slotNodes wide nodes m a t (c + 1)) ≤ at → at ≤ at′ + most * nodesAt wide nodes m a t c
+      → most * (1 + slotNodes wide nodes m a t c) ≤ at′
   room-step c at at′ h s = omega (arith, times-next most nodes m a t c)
 
   -- There is always room for the node's own words.
-  pub room-own : (c at : ℕ) → most * (1 + slotNodes nodes m a t c) ≤ at → most ≤ at
+  pub room-own : (c at : ℕ) → most * (1 + slotNodes wide nodes m a t c) ≤ at → most ≤ at
   room-own c at h = omega arith

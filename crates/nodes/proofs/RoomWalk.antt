@@ -6,9 +6,10 @@ use mathlib.Core.List.{List, [], _++_}
 use native.Mathlib.Omega.{arith}
 use lib.ListN.{length, length-append}
 use Rattle.theory.specs.Routes.{Route}
+use Rattle.nodecount.specs.Walk.{slotNodes}
 use Rattle.positions.specs.Runs.{inside, placeAt}
 use Rattle.nodes.specs.Node.{wide, run, slotSize, Node}
-use Rattle.nodes.specs.Room.{Pushed, Begins, SlotBlocks, BlockBy, nodesDeep, slotNodes, StoredBy, SlotsLaid, SlotsAhead}
+use Rattle.nodes.specs.Room.{Pushed, Begins, SlotBlocks, BlockBy, nodesDeep, StoredBy, SlotsLaid, SlotsAhead}
 use Rattle.nodes.proofs.RoomBlocks.{BlockAt, NodeBlock, slot-none, slot-empty, slots-start, slots-down, slots-up, slots-end, block-by-deep}
 use Rattle.nodes.proofs.RoomLaws.{pushed-none, pushed-then, pushed-length, begins-left, begins-right}
 use Rattle.nodes.proofs.RoomSizes.{Sized, slot-length, room-step}
@@ -17,7 +18,7 @@ use Rattle.nodes.proofs.RoomSizes.{Sized, slot-length, room-step}
 
 module _ (most : ℕ) (block : ℕ → List Route → List ℕ → Type 0) (nodes : ℕ → List Route → ℕ) (m a : ℕ) (t : List Route) where
   -- Before the last slot.
-  pub laid-start : (top : ℕ) (o : List ℕ) → most * (1 + slotNodes nodes m a t 32) ≤ top → SlotsLaid most block nodes m a t 32 top top o o
+  pub laid-start : (top : ℕ) (o : List ℕ) → most * (1 + slotNodes wide nodes m a t 32) ≤ top → SlotsLaid most block nodes m a t 32 top top o o
   laid-start top o h = record { words = []; pushed = pushed-none top o; blocks = slots-start block m a t; room = h }
 
   module _ (sized : Sized most block nodes) {b c top at : ℕ} {o o₁ : List ℕ} (h : SlotsLaid most block nodes m a t b top at o o₁)

@@ -5,7 +5,7 @@ use mathlib.Core.Path.{_≡_}
 use mathlib.Core.List.{List, [], _∷_, _++_}
 use lib.ListN.{length, take, drop}
 use Rattle.theory.specs.Routes.{Route}
-use Rattle.nodecount.proofs.NodeRuns.{orNone}
+use Rattle.nodecount.specs.Walk.{slotNodes, nodesIn}
 use Rattle.positions.specs.Runs.{inside, placeAt}
 use Rattle.nodes.specs.Node.{wide}
 
@@ -56,17 +56,9 @@ Block own = BlockBy everywhere own
 abbrev pub nodesDeep : ℕ → ℕ
 nodesDeep depth = 7 - depth / 5
 
--- The nodes of the first c slots, those that have a record.
-unfoldable pub slotNodes : (ℕ → List Route → ℕ) → ℕ → ℕ → List Route → ℕ → ℕ
-slotNodes nodes m a t zero = 0
-slotNodes nodes m a t (suc c) =
-    slotNodes nodes m a t c
-    + orNone (inside wide m (placeAt m a 5 c) t) (nodes (placeAt m a 5 c) (inside wide m (placeAt m a 5 c) t))
-
 -- The nodes from the node (5 * k, a) down that the routes t have, itself included.
-unfoldable pub nodesBelow : ℕ → ℕ → List Route → ℕ
-nodesBelow zero a t = 0
-nodesBelow (suc k) a t = 1 + slotNodes (nodesBelow k) (5 * k) a t 32
+abbrev pub nodesBelow : ℕ → ℕ → List Route → ℕ
+nodesBelow k a t = nodesIn wide k (5 * k) a t
 
 -- A block of the node (5 * k, a) was laid from r to top.
 pub record LaidBy (deeper : ℕ → ℕ → List Route → List Route) (own : ℕ → ℕ → List Route → List ℕ → Type 0) (k a : ℕ) (t : List Route) (top r : ℕ)
@@ -97,7 +89,7 @@ pub record SlotsLaid (most : ℕ) (block : ℕ → List Route → List ℕ → T
   pub words : List ℕ
   pub pushed : Pushed words top at o o′
   pub blocks : SlotBlocks block m a t (32 - c) words
-  pub room : most * (1 + slotNodes nodes m a t c) ≤ at
+  pub room : most * (1 + slotNodes wide nodes m a t c) ≤ at
 
 -- From the first slot to the last: the blocks of the slots from c on stand from `at` to `end`.
 pub record SlotsAhead (block : ℕ → List Route → List ℕ → Type 0) (m a : ℕ) (t : List Route) (c at end : ℕ) (o : List ℕ) : Type 0 where

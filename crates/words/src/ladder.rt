@@ -1,16 +1,19 @@
-// The folds and pushes: ladders of shifts and masks that carry one level of a node's positions to the next.
+// The folds and pushes, which carry one level of a node's positions to the next: the fold of the child slots by the fold card, the others by
+// ladders of shifts and masks.
 
+use crate::card::fold_card;
 ghost use Rattle.words.specs.Rules.{Folded, Pushed, PushedSlots};
 
-// 32 child slots to level 4.
+// 32 child slots to level 4: the folds of the four bytes, in the order of the bytes.
 pub fn fold_children(cc: u32) -> u32
     ensures { λ r. ⌜ Folded 4 cc r ⌝ }
 {
-    let p = cc & (cc >> 1) & 0x5555_5555;
-    let p = (p | (p >> 1)) & 0x3333_3333;
-    let p = (p | (p >> 2)) & 0x0F0F_0F0F;
-    let p = (p | (p >> 4)) & 0x00FF_00FF;
-    ((p | (p >> 8)) & 0x0000_FFFF) << 15
+    let card = fold_card();
+    let p = card[(cc >> 24) as usize] as u32;
+    let p = (p << 4) | card[((cc >> 16) % 256) as usize] as u32;
+    let p = (p << 4) | card[((cc >> 8) % 256) as usize] as u32;
+    let p = (p << 4) | card[(cc % 256) as usize] as u32;
+    p << 15
 }
 
 // Level 4 to level 3.

@@ -1,0 +1,2 @@
+-- The laws of the fold card's text.
+pub mod Boxes

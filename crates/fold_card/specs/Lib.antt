@@ -1,0 +1,2 @@
+-- What the fold card shows.
+pub mod Shown

@@ -12,7 +12,7 @@ use borrow.Author.Tests.{le-leb, lt-leb, lt-ltb, le-ltb}
 use Rattle.theory.specs.Routes.{Route, matches, held, Valid, All, nil, cons, Before, Ascending, empty, first, Table, Member}
 use Rattle.theory.specs.Results.{In}
 use Rattle.theory.specs.Reach.{howMany, reach}
-use Rattle.theory.proofs.Blocks.{pow-pos, aligned-down, aligned-next, next-block}
+use Rattle.theory.proofs.Blocks.{aligned-down, aligned-next, next-block}
 use Rattle.theory.proofs.HowMany.{many-agree, many-apart, many-none, many-matched}
 use Rattle.theory.proofs.Lists.{all-member, member-all}
 use Rattle.theory.proofs.LongestMatch.{lookup-member}

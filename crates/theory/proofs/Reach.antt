@@ -1,13 +1,13 @@
 -- How many addresses a table holds: those with a longest match; before and after each mode; and what is missing to all of them are its holes.
 use Prim.Native.Nat.{ℕ, _+_, _^_, _≤_, _<_}
 use mathlib.Core.Path.{_≡_, refl, sym, ap, _∙_}
-use mathlib.Core.Bool.{Bool, true, not, Bool·not-not}
+use mathlib.Core.Bool.{true, not, Bool·not-not}
 use mathlib.Core.List.{List, []}
 use mathlib.Core.Logic.{_↔_}
 use native.Mathlib.Nat.{le-refl}
 use native.Mathlib.Omega.{arith}
 use Rattle.theory.specs.Routes.{Route, held, lookup, Answer, none, via, answer, orDefault, filled, Table}
-use Rattle.theory.specs.Results.{throughout, maximal, isMiss, Mode, aggregateSet, aggregateConsistentSet, aggregateConsistentMap, aggregateMapDrop, aggregateMapFill, result, Chooses}
+use Rattle.theory.specs.Results.{maximal, isMiss, Mode, aggregateSet, aggregateConsistentSet, aggregateConsistentMap, aggregateMapDrop, aggregateMapFill, result, Chooses}
 use Rattle.theory.specs.Reach.{howMany, reach, reachAfter, sizes}
 use Rattle.theory.specs.Shapes.{routed}
 use Rattle.theory.specs.Demands.{Keeps}

@@ -11,7 +11,7 @@ use Rattle.calls.specs.Rewriting.{rewrittenSays, countOf, changeOf, Rewrites}
 use Rattle.calls.specs.Covering.{coversSays, Queried}
 use Rattle.calls.specs.declared.Rewritten.{Rewritten}
 use Rattle.calls.specs.declared.Covers.{Covers}
-use Rattle.suovvamet.specs.Numbers.{numberOf, indexOf, coveredOf, foundOf, hopOf, lengthOf, sumOf}
+use Rattle.suovvamet.specs.Numbers.{numberOf, indexOf, coveredOf, foundOf, hopOf, lengthOf, addressesOf}
 
 -- Of a rewrite: the table t, the output o and the room work were lent; the output is o′ then and the room work′.
 pub record RewriteInC (t : List ℕ) (mode default : ℕ) (o work : List ℕ) (number count : ℕ) (change : ℤ) (index : ℕ) (o′ work′ : List ℕ) : Type 0 where
@@ -46,4 +46,4 @@ pub record HeldInC (t : List ℕ) (number addresses index : ℕ) : Type 0 where
   pub held : heldSays answer ≡ heldReply t
   pub number-is : number ≡ numberOf (heldSays answer)
   pub index-is : index ≡ indexOf (heldSays answer)
-  pub sum-is : addresses ≡ sumOf answer
+  pub addresses-is : addresses ≡ addressesOf answer

@@ -1,4 +1,5 @@
-// One pass over a node's run: which records stand at each of its positions, and which lie in each of its slots.
+// One pass over a node's run: which records stand at each of its positions, and which lie in each of its slots; and by these the hop that covers
+// each position.
 
 use records::addr_at;
 use records::hop_at;

@@ -4,14 +4,14 @@ use mathlib.Core.Path.{_≡_}
 use mathlib.Core.Bool.{Bool}
 use mathlib.Core.List.{List}
 use mathlib.Core.Logic.{_↔_}
-use Prim.Native.Nat.{ℕ}
+use Prim.Native.Nat.{ℕ, _≤_}
 use Rattle.refusals.specs.Rules.{Reply, gives, refuses, judge}
 use Rattle.refusals.specs.Order.{First}
 use Rattle.refusals.proofs.Answered.{unique, given-exactly, refused-exactly}
 use Rattle.table.specs.Conditions.{TableCondition, Accepted}
 use Rattle.table.specs.TableRules.{tableRules}
 use Rattle.table.proofs.Accepted.{accepted-exactly}
-use Rattle.table.proofs.Tested.{table-tests, table-ranked}
+use Rattle.table.proofs.Tested.{table-tests, table-ranked, table-numbers}
 
 module _ {R A : Type 0} (says : R → Reply A) (same : (b c : R) → says b ≡ says c → b ≡ c) (s : Bool) (t : List ℕ) (a : A) where
   -- No second answer satisfies the statement.
@@ -30,3 +30,7 @@ module _ {R A : Type 0} (says : R → Reply A) (same : (b c : R) → says b ≡ 
     -- A refusal is given exactly when its number and index are those of the first condition that holds.
     pub table-refuses : (b : R) (n i : ℕ) → says b ≡ refuses n i → r ≡ b ↔ First (TableCondition s t) n i
     table-refuses = refused-exactly says same (tableRules s t) (table-tests s t) (table-ranked s t .order) a r e
+
+    -- It gives the numbers 3 to 8 alone.
+    pub table-gives-numbers : (b : R) (n i : ℕ) → says b ≡ refuses n i → r ≡ b → (3 ≤ n) × (n ≤ 8)
+    table-gives-numbers b n i p q = table-numbers s t n i (table-refuses b n i p .0 q .0)

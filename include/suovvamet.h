@@ -95,7 +95,7 @@ uint32_t suovvamet_covers(const uint8_t *table, uint64_t table_length, uint32_t 
 uint32_t suovvamet_lookup(const uint8_t *table, uint64_t table_length, uint32_t address, uint32_t *found, uint32_t *hop,
                           uint32_t *length, uint64_t *index);
 
-/* The sum over the records of a map of 2^(32 - length), in *addresses. Refusals 3 to 8. */
+/* The number of addresses with a longest match in a map, 0 to 4294967296, in *addresses. Refusals 3 to 8. */
 uint32_t suovvamet_addresses_held(const uint8_t *table, uint64_t table_length, uint64_t *addresses, uint64_t *index);
 
 /*

@@ -532,6 +532,10 @@ fn prefix(text: &str) -> Route {
     (u32::from_be_bytes([octets[0], octets[1], octets[2], octets[3]]), length.parse().unwrap(), hop.parse().unwrap())
 }
 
+fn prefixes(text: &str) -> Vec<Route> {
+    text.split_whitespace().map(prefix).collect()
+}
+
 /// The worked routes of document 01: number, mode, default, input, result, change.
 pub const WORKED: [(u8, u8, u8, &str, &str, i64); 16] = [
     (1, 1, 0, "", "", 0),
@@ -555,11 +559,10 @@ pub const WORKED: [(u8, u8, u8, &str, &str, i64); 16] = [
 /// A worked case with the rooms of document 01's programs, and the routes that the document says come out.
 pub fn worked(at: usize) -> (Case, Vec<Route>, i64) {
     let (_, mode, default, input, result, change) = WORKED[at];
-    let routes = |text: &str| text.split_whitespace().map(prefix).collect::<Vec<Route>>();
     let mut case = blank(REWRITE, mode);
     (case.default, case.work, case.room) = (default, 16_384, 8_200);
-    case.table = table_of(&routes(input));
-    (case, routes(result), change)
+    case.table = table_of(&prefixes(input));
+    (case, prefixes(result), change)
 }
 
 /// The fixed list: the worked cases first, then every mode on every shape, every call, every refusal, every pair of faults, and
@@ -642,6 +645,10 @@ pub fn fixed() -> Vec<Made> {
     }
     for length in [0, 1, 31, 32, 33, 255] {
         list.push(edge(COVER, 0, 0, length, &set));
+    }
+    // Addresses held: document 02's nested routes; all addresses by one record, and by two with one inside; the last address.
+    for text in ["10.0.0.0/8>1 10.1.0.0/16>2", "0.0.0.0/0>1", "0.0.0.0/1>1 128.0.0.0/1>1 128.0.0.0/9>2", "255.255.255.255/32>1"] {
+        list.push(edge(HELD, 0, 0, 0, &table_of(&prefixes(text))));
     }
     list
 }

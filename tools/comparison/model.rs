@@ -23,7 +23,8 @@ pub enum Fault {
     QueryTailCounts,
     CoverWithoutMerge,
     ShortestMatch,
-    AddressesOnce,
+    AddressesTwice,
+    AddressesWrap,
     NodeShortOfFive,
     NodesNotShared,
     HostBitsMasked,
@@ -38,7 +39,7 @@ pub enum Fault {
 }
 
 /// Each planted mistake and what it does wrong.
-pub const FAULTS: [(Fault, &str); 26] = [
+pub const FAULTS: [(Fault, &str); 27] = [
     (Fault::LargestHop, "modes 4, 5: the largest hop of a set instead of the smallest"),
     (Fault::HoleIsEmptySet, "mode 4: a hole taken as an empty set"),
     (Fault::AlwaysSmallest, "modes 4, 5: the smallest hop even where the hop above is in the set"),
@@ -53,7 +54,8 @@ pub const FAULTS: [(Fault, &str); 26] = [
     (Fault::QueryTailCounts, "cover query: query bits past the length are read"),
     (Fault::CoverWithoutMerge, "cover query: only a member at or above the query covers it"),
     (Fault::ShortestMatch, "lookup: the shortest match"),
-    (Fault::AddressesOnce, "addresses held: nested records counted once"),
+    (Fault::AddressesTwice, "addresses held: nested records counted too"),
+    (Fault::AddressesWrap, "addresses held: counted in 32 bits"),
     (Fault::NodeShortOfFive, "work room: no node at the depth that equals a record's length"),
     (Fault::NodesNotShared, "work room: records share no node"),
     (Fault::HostBitsMasked, "number 6: never given"),
@@ -216,6 +218,15 @@ impl<'a> Position<'a> {
         self.hop.is_some() || self.halves().is_some_and(|(zero, one)| zero.covered() && one.covered())
     }
 
+    /// How many addresses of the position are under some member?
+    fn held(&self) -> u64 {
+        match self.halves() {
+            _ if self.hop.is_some() => 1 << (32 - self.length),
+            Some((zero, one)) => zero.held() + one.held(),
+            None => 0,
+        }
+    }
+
     fn maximal_covered(&self, out: &mut Vec<Route>) {
         if self.covered() {
             out.push((self.address, self.length as u8, 0));
@@ -349,9 +360,12 @@ fn lookup(routes: &[Route], address: u32, fault: Fault) -> Option<(u8, u8)> {
     best.map(|route| (route.2, route.1))
 }
 
-pub fn addresses(routes: &[Route], fault: Fault) -> u64 {
-    let counted = |route: &&Route| fault != Fault::AddressesOnce || nearest_above(routes, route).is_none();
-    routes.iter().filter(counted).map(|route| 1 << (32 - route.1 as u64)).sum()
+fn addresses(routes: &[Route], fault: Fault) -> u64 {
+    match fault {
+        Fault::AddressesTwice => routes.iter().map(|route| 1 << (32 - route.1 as u64)).sum(),
+        Fault::AddressesWrap => Position::root(routes).held() as u32 as u64,
+        _ => Position::root(routes).held(),
+    }
 }
 
 /// The model's answer to a case.

@@ -197,6 +197,11 @@ pub fn lookup(routes: &[Route], address: u32) -> Option<(u8, u8)> {
     Some((*present.get(), length))
 }
 
+/// The crate's count of the addresses that the prefixes cover. It gives none where they are all 2^32: a /0, or a sum that 32 bits do not hold.
+pub fn addresses(routes: &[Route]) -> Option<u32> {
+    filled(routes.iter().copied(), |hop| hop).address_count::<(u32, u8)>()
+}
+
 /// The crate's folds and pushes of a word, in the order in which the program `ladders` writes them.
 pub fn ladders(word: u32) -> [u32; 10] {
     use aggregate::*;

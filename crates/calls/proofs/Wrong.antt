@@ -1,26 +1,29 @@
 -- The wrong rewrites that document 01 names, each against the statement: refusing everything, one table for all, copying the input, copying the deeper
 -- nodes, an invented change; and an invented total of addresses held. Assumes nothing.
 use mathlib.Core.Path.{_≡_, refl, sym, ap, ap₂, _∙_}
-use mathlib.Core.Bool.{Bool, true, _&&_, and-eq-true-iff}
 use mathlib.Core.List.{List, [], _∷_, _++_}
-use Prim.Native.Nat.{ℕ, zero, suc, _*_, _≤_}
+use Prim.Native.Nat.{ℕ, _*_, _≤_}
 use native.Mathlib.Omega.{arith}
-use lib.Dec.{ltb}
 use lib.IntN.{ℤ, pos, negsuc, _-ℤ_}
 use lib.ListN.{length, getD, take, drop}
 use lib.Seq.{take-at}
-use borrow.Author.Tests.{ltb-true}
 use Rattle.theory.specs.Routes.{Route, Member, head, nil, cons, answer, Alike}
 use Rattle.theory.specs.Results.{smallest, result}
+use Rattle.theory.specs.Reach.{reach}
 use Rattle.theory.proofs.Lists.{all-member}
 use Rattle.theory.proofs.Chosen.{smallest-chooses}
 use Rattle.theory.proofs.Preserve.{answers}
+use Rattle.theory.proofs.Pass.{countFrom}
 use Rattle.theory.proofs.Cases.{route, cases, worked}
-use Rattle.records.specs.Wire.{records, routeAt, routesFrom, routes, bytesOf, Bytes}
-use Rattle.lookup.specs.Calls.{addressSum, heldSays, heldReply}
-use Rattle.lookup.specs.declared.answers.AddressesHeld.the-variants.{Sum}
+use Rattle.refusals.specs.Rules.{judge}
+use Rattle.table.specs.TableRules.{recordRules, rulesFrom, tableRules}
+use Rattle.records.specs.Wire.{records, routeAt, routesFrom, routes, bytesOf}
+use Rattle.records.proofs.Octets.{all-bytes}
+use Rattle.lookup.specs.Calls.{heldSays, heldReply}
+use Rattle.lookup.specs.declared.answers.AddressesHeld.the-variants.{Count}
 use Rattle.records.proofs.Written.{length-bytes}
-use Rattle.lookup.proofs.Calls.{held-sum-exactly}
+use Rattle.lookup.proofs.Calls.{held-count-exactly}
+use Rattle.lookup.proofs.Pass.{pass-counts}
 use Rattle.calls.specs.declared.Rewritten.{Rewritten}
 use Rattle.calls.specs.declared.Rewritten.the-variants.{Records, Refused}
 use Rattle.calls.specs.Rewriting.{countOf, Rewrites}
@@ -49,16 +52,6 @@ plain = 10 ∷ 0 ∷ 0 ∷ 0 ∷ 8 ∷ 2 ∷ 0 ∷ 0 ∷ []
 -- 10.0.0.0/9 by hop 1 and 10.128.0.0/9 by hop 2: mode 4 makes 10.0.0.0/8 by hop 1 and the second half of it.
 abbrev apart : List ℕ
 apart = 10 ∷ 0 ∷ 0 ∷ 0 ∷ 9 ∷ 1 ∷ 0 ∷ 0 ∷ 10 ∷ 128 ∷ 0 ∷ 0 ∷ 9 ∷ 2 ∷ 0 ∷ 0 ∷ []
-
--- Each of them is a list of bytes, which is computed.
-abbrev small : List ℕ → Bool
-small [] = true
-small (b ∷ l) = ltb b 256 && small l
-
-all-bytes : (l : List ℕ) → small l ≡ true → Bytes l
-all-bytes [] e k = omega arith
-all-bytes (b ∷ l) e zero = ltb-true b 256 (and-eq-true-iff (ltb b 256) (small l) .0 e .0)
-all-bytes (b ∷ l) e (suc k) = all-bytes l (and-eq-true-iff (ltb b 256) (small l) .0 e .1) k
 
 -- The routes of the deeper nodes, which are those of length 5 and more, stand in the result as they came.
 abbrev pub CopiesDeep : List Route → List Route → Type 0
@@ -142,11 +135,15 @@ change-invented t mode default o words count change o′ w′ other ok =
 
 -- ---- An invented total of addresses held.
 
--- Any but the sum over the records is wrong.
-pub total-invented : (t : List ℕ) (n : ℕ) → (addressSum 32 (routes t) ≡ n → ⊥) → heldSays (Sum n) ≡ heldReply t → ⊥
-total-invented t n other e = other (held-sum-exactly t (Sum n) e n .0 refl .1)
+-- Any but the number of addresses that the table holds is wrong.
+pub total-invented : (t : List ℕ) (n : ℕ) → (reach 32 (routes t) ≡ n → ⊥) → heldSays (Count n) ≡ heldReply t → ⊥
+total-invented t n other e = other (held-count-exactly t (Count n) e n .0 refl .1)
 
--- So for case 11's table, twice 2 ^ 23.
-pub total-apart : (n : ℕ) → heldSays (Sum n) ≡ heldReply apart → n ≡ 16777216
-unfolding addressSum routes routesFrom routeAt
-total-apart n e = sym (held-sum-exactly apart (Sum n) e n .0 refl .1)
+-- So for case 11's table, twice 2 ^ 23; for case 10's, whose halves lie in the first record, 2 ^ 24 too.
+pub total-apart : (n : ℕ) → heldSays (Count n) ≡ heldReply apart → n ≡ 16777216
+unfolding judge tableRules rulesFrom recordRules routes routesFrom routeAt countFrom
+total-apart n e = sym (held-count-exactly apart (Count n) e n .0 refl .1) ∙ pass-counts apart (all-bytes apart refl) 2 refl
+
+pub total-shadowed : (n : ℕ) → heldSays (Count n) ≡ heldReply shadowed → n ≡ 16777216
+unfolding judge tableRules rulesFrom recordRules routes routesFrom routeAt countFrom
+total-shadowed n e = sym (held-count-exactly shadowed (Count n) e n .0 refl .1) ∙ pass-counts shadowed (all-bytes shadowed refl) 3 refl

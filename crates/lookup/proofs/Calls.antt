@@ -1,15 +1,17 @@
 -- What the statements of lookup and of addresses held settle: no second answer satisfies one, and each case of an answer stands for exactly these
 -- facts. The answer of a call is any r of which the call's `ensures` holds. Assumes nothing.
-use mathlib.Core.Path.{_≡_, refl}
+use mathlib.Core.Path.{_≡_, refl, sym, _∙_}
 use mathlib.Core.Bool.{Bool, true, false, not}
-use mathlib.Core.List.{List}
+use mathlib.Core.List.{List, []}
 use mathlib.Core.Logic.{_↔_}
-use Prim.Native.Nat.{ℕ}
+use Prim.Native.Nat.{ℕ, _+_, _^_}
 use native.Mathlib.Omega.{arith}
 use Rattle.theory.specs.Routes.{Route as Entry, held, Match, miss, hit, lookup}
-use Rattle.theory.specs.Results.{isMiss}
+use Rattle.theory.specs.Results.{maximal, isMiss}
+use Rattle.theory.specs.Reach.{howMany, reach, sizes}
 use Rattle.theory.specs.Longest.{IsLongest}
 use Rattle.theory.proofs.LongestMatch.{lookup-found, lookup-held}
+use Rattle.theory.proofs.Reach.{reach-matched, reach-holes, reach-whole}
 use Rattle.refusals.specs.Order.{First}
 use Rattle.records.specs.Wire.{routes}
 use Rattle.table.specs.Conditions.{TableCondition, Accepted}
@@ -17,8 +19,8 @@ use Rattle.table.proofs.Alone.{table-unique, table-gives, table-refuses}
 use Rattle.lookup.specs.declared.answers.Lookup.{Lookup}
 use Rattle.lookup.specs.declared.answers.Lookup.the-variants.{Route, NoRoute, Refused as NotLooked}
 use Rattle.lookup.specs.declared.answers.AddressesHeld.{AddressesHeld}
-use Rattle.lookup.specs.declared.answers.AddressesHeld.the-variants.{Sum, Refused as NotSummed}
-use Rattle.lookup.specs.Calls.{lookupSays, lookupReply, addressSum, heldSays, heldReply}
+use Rattle.lookup.specs.declared.answers.AddressesHeld.the-variants.{Count, Refused as NotCounted}
+use Rattle.lookup.specs.Calls.{lookupSays, lookupReply, heldSays, heldReply}
 
 -- ---- Answers that say the same are the same.
 lookup-same : (a b : Lookup) → lookupSays a ≡ lookupSays b → a ≡ b
@@ -32,11 +34,11 @@ lookup-same (NotLooked n i) (Route h l) e = let z : _≡_ {A = ℕ} 0 1 = cc in 
 lookup-same (NotLooked n i) NoRoute e = let z : _≡_ {A = ℕ} 0 1 = cc in absurd (omega arith)
 lookup-same (NotLooked m i) (NotLooked n j) e = cc
 
-sum-same : (a b : AddressesHeld) → heldSays a ≡ heldSays b → a ≡ b
-sum-same (Sum m) (Sum n) e = cc
-sum-same (Sum m) (NotSummed n i) e = let z : _≡_ {A = ℕ} 0 1 = cc in absurd (omega arith)
-sum-same (NotSummed n i) (Sum m) e = let z : _≡_ {A = ℕ} 0 1 = cc in absurd (omega arith)
-sum-same (NotSummed m i) (NotSummed n j) e = cc
+count-same : (a b : AddressesHeld) → heldSays a ≡ heldSays b → a ≡ b
+count-same (Count m) (Count n) e = cc
+count-same (Count m) (NotCounted n i) e = let z : _≡_ {A = ℕ} 0 1 = cc in absurd (omega arith)
+count-same (NotCounted n i) (Count m) e = let z : _≡_ {A = ℕ} 0 1 = cc in absurd (omega arith)
+count-same (NotCounted m i) (NotCounted n j) e = cc
 
 -- ---- Lookup.
 module _ (t : List ℕ) (x : ℕ) where
@@ -81,13 +83,28 @@ module _ (t : List ℕ) (x : ℕ) where
 module _ (t : List ℕ) where
   -- No second answer satisfies the statement.
   pub held-unique : (a b : AddressesHeld) → heldSays a ≡ heldReply t → heldSays b ≡ heldReply t → a ≡ b
-  held-unique = table-unique heldSays sum-same false t (addressSum 32 (routes t))
+  held-unique = table-unique heldSays count-same false t (reach 32 (routes t))
 
   module _ (r : AddressesHeld) (e : heldSays r ≡ heldReply t) where
-    -- It answers the sum of the prefixes' sizes exactly for an accepted table.
-    pub held-sum-exactly : (n : ℕ) → r ≡ Sum n ↔ (Accepted false t × (addressSum 32 (routes t) ≡ n))
-    held-sum-exactly n = table-gives heldSays sum-same false t (addressSum 32 (routes t)) r e (Sum n) n refl
+    -- It answers a number exactly for an accepted table that holds as many addresses.
+    pub held-count-exactly : (n : ℕ) → r ≡ Count n ↔ (Accepted false t × (reach 32 (routes t) ≡ n))
+    held-count-exactly n = table-gives heldSays count-same false t (reach 32 (routes t)) r e (Count n) n refl
+
+    -- They are the addresses with a longest match.
+    pub held-matched : (n : ℕ) → r ≡ Count n → n ≡ howMany (λ x. not (isMiss (lookup 32 (routes t) x))) 32 0
+    held-matched n q = sym (held-count-exactly n .0 q .1) ∙ reach-matched 32 (routes t)
+
+    -- With the sizes of the holes, the maximal prefixes none of whose addresses is held, they are all the addresses;
+    pub held-holes : (n : ℕ) → r ≡ Count n → n + sizes 32 (maximal 32 (λ x. not (held 32 (routes t) x)) 32 0) ≡ 2 ^ 32
+    held-holes n q = omega (arith, held-count-exactly n .0 q .1, reach-holes 32 (routes t))
+
+    -- without them exactly when there is no hole.
+    pub held-whole : (n : ℕ) → r ≡ Count n → (n ≡ 2 ^ 32) ↔ (maximal 32 (λ x. not (held 32 (routes t) x)) 32 0 ≡ [])
+    held-whole n q =
+        let e = held-count-exactly n .0 q .1 in
+        let whole = reach-whole 32 (routes t) in
+        (λ p. whole .0 (e ∙ p), λ p. sym e ∙ whole .1 p)
 
     -- It answers a refusal exactly when its number and index are those of the first condition that holds.
-    pub held-refused-exactly : (n i : ℕ) → r ≡ NotSummed n i ↔ First (TableCondition false t) n i
-    held-refused-exactly n i = table-refuses heldSays sum-same false t (addressSum 32 (routes t)) r e (NotSummed n i) n i refl
+    pub held-refused-exactly : (n i : ℕ) → r ≡ NotCounted n i ↔ First (TableCondition false t) n i
+    held-refused-exactly n i = table-refuses heldSays count-same false t (reach 32 (routes t)) r e (NotCounted n i) n i refl

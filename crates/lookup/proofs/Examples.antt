@@ -1,14 +1,17 @@
 -- Worked tables, from bytes to replies. Assumes nothing.
-use mathlib.Core.Path.{_≡_, refl}
+use mathlib.Core.Path.{_≡_, refl, ap}
 use mathlib.Core.Bool.{true, false}
 use mathlib.Core.List.{List, [], _∷_}
 use Prim.Native.Nat.{ℕ, _+_, _*_}
 use Rattle.theory.specs.Routes.{miss, hit}
 use Rattle.table.specs.Checking.{checkReply}
-use Rattle.lookup.specs.Calls.{lookupReply, addressSum, heldReply}
+use Rattle.lookup.specs.Calls.{lookupReply, heldReply}
 use Rattle.refusals.specs.Rules.{gives, refuses, judge}
 use Rattle.records.specs.Wire.{routeAt, routesFrom, routes}
+use Rattle.records.proofs.Octets.{all-bytes}
 use Rattle.table.specs.TableRules.{recordRules, rulesFrom, tableRules}
+use Rattle.theory.proofs.Pass.{countFrom}
+use Rattle.lookup.proofs.Pass.{pass-counts}
 
 -- 10.0.0.0/8 by hop 1, and 10.1.0.0/16 inside it by hop 2.
 abbrev nested : List ℕ
@@ -18,10 +21,10 @@ nested = 10 ∷ 0 ∷ 0 ∷ 0 ∷ 8 ∷ 1 ∷ 0 ∷ 0 ∷ 10 ∷ 1 ∷ 0 ∷ 0 �
 abbrev ip : ℕ → ℕ → ℕ → ℕ → ℕ
 ip a b c d = ((a * 256 + b) * 256 + c) * 256 + d
 
--- Each record counts: 2 ^ 24 and 2 ^ 16.
-pub nested-held : heldReply nested ≡ gives 16842752
-unfolding judge tableRules rulesFrom recordRules routeAt routesFrom routes addressSum
-nested-held = refl
+-- The addresses of the inner prefix are those of the outer: 2 ^ 24 in all.
+pub nested-held : heldReply nested ≡ gives 16777216
+unfolding judge tableRules rulesFrom recordRules routeAt routesFrom routes countFrom
+nested-held = ap gives (pass-counts nested (all-bytes nested refl) 2 refl)
 
 -- Inside both the longer match wins.
 pub nested-inside : lookupReply nested (ip 10 1 2 3) ≡ gives (hit 16 2)

@@ -1,12 +1,13 @@
 -- Lookup and addresses held: what each case of an answer says in document 01's terms, and which reply is right.
-use Prim.Native.Nat.{ℕ, _+_, _-_, _^_, _≤_, _<_}
+use Prim.Native.Nat.{ℕ, _≤_, _<_}
 use mathlib.Core.Bool.{false}
-use mathlib.Core.List.{List, [], _∷_}
-use Rattle.theory.specs.Routes.{Route, Match, miss, hit, lookup}
+use mathlib.Core.List.{List}
+use Rattle.theory.specs.Routes.{Match, miss, hit, lookup}
+use Rattle.theory.specs.Reach.{reach}
 use Rattle.lookup.specs.declared.answers.Lookup.{Lookup}
 use Rattle.lookup.specs.declared.answers.Lookup.the-variants.{Route as Found, NoRoute, Refused as NotLooked}
 use Rattle.lookup.specs.declared.answers.AddressesHeld.{AddressesHeld}
-use Rattle.lookup.specs.declared.answers.AddressesHeld.the-variants.{Sum, Refused as NotSummed}
+use Rattle.lookup.specs.declared.answers.AddressesHeld.the-variants.{Count, Refused as NotCounted}
 use Rattle.lookup.specs.declared.matching.Found.{Found as Best}
 use Rattle.lookup.specs.declared.matching.Found.the-variants.{Nothing, Match as One}
 use Rattle.refusals.specs.Rules.{Reply, gives, refuses, judge}
@@ -27,19 +28,14 @@ lookupReply t x = judge (tableRules false t) (lookup 32 (routes t) x)
 
 -- ---- Addresses held.
 
--- The sum over the routes of the number of addresses of each, in width w.
-unfoldable pub addressSum : ℕ → List Route → ℕ
-addressSum w [] = 0
-addressSum w (r ∷ rs) = 2 ^ (w - r .len) + addressSum w rs
-
--- It gives the sum, or a refusal.
+-- It gives the number of the addresses held, or a refusal.
 abbrev pub heldSays : AddressesHeld → Reply ℕ
-heldSays (Sum n) = gives n
-heldSays (NotSummed number index) = refuses number index
+heldSays (Count n) = gives n
+heldSays (NotCounted number index) = refuses number index
 
 -- The right reply for a map's table.
 abbrev pub heldReply : List ℕ → Reply ℕ
-heldReply t = judge (tableRules false t) (addressSum 32 (routes t))
+heldReply t = judge (tableRules false t) (reach 32 (routes t))
 
 -- ---- What the inner functions ask and say.
 

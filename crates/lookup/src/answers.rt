@@ -7,8 +7,8 @@ pub enum Lookup {
     Refused { number: u8, index: usize },
 }
 
-// Of addresses held: the sum, or the refusal.
+// Of addresses held: how many they are, or the refusal.
 pub enum AddressesHeld {
-    Sum(u64),
+    Count(u64),
     Refused { number: u8, index: usize },
 }

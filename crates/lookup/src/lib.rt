@@ -7,14 +7,17 @@ use answers::AddressesHeld;
 use answers::Lookup;
 use matching::Found;
 use matching::longest_in;
+use records::addr_at;
 use records::len_at;
 use table::Checked;
 use table::check_table;
 ghost use mathlib.Core.Path.{_≡_};
 ghost use Prim.Native.Nat.{_-_, _^_, _≤_};
+ghost use Rattle.theory.specs.Routes.{Table};
+ghost use Rattle.theory.specs.Reach.{reach};
 ghost use Rattle.refusals.specs.Rules.{gives};
-ghost use Rattle.records.specs.Wire.{records, routes};
-ghost use Rattle.lookup.specs.Calls.{Short, addressSum, matchOf, lookupSays, lookupReply, heldSays, heldReply};
+ghost use Rattle.records.specs.Wire.{routes};
+ghost use Rattle.lookup.specs.Calls.{matchOf, lookupSays, lookupReply, heldSays, heldReply};
 
 // The answer that a match comes to.
 fn answer_of(found: Found) -> Lookup
@@ -50,26 +53,34 @@ fn prefix_size(len: u8) -> u64
     1 << (32 - len)
 }
 
-// The sum of the prefixes' sizes.
-fn sum_of_sizes(table: &[u8]) -> u64
-    requires { ⌜ Short (now table) × (records (now table) ≤ 1024) ⌝ }
-    ensures { λ r. ⌜ r ≡ addressSum 32 (routes (now (table .entry))) ⌝ }
+// The addresses held by the records of a table, each once. No prefix straddles the end of one before it, so one that starts before the end of the last
+// one counted lies in that and adds nothing.
+fn count_held(table: &[u8]) -> u64
+    requires { ⌜ Table 32 (routes (now table)) ⌝ }
+    ensures { λ r. ⌜ r ≡ reach 32 (routes (now (table .entry))) ⌝ }
 {
-    let mut sum: u64 = 0;
-    let mut i = table.len() / 8;
-    while 0 < i {
-        i -= 1;
-        sum += prefix_size(len_at(table, i));
+    let n = table.len() / 8;
+    let mut held: u64 = 0;
+    let mut end: u64 = 0;
+    let mut i = 0;
+    while i < n {
+        let start = addr_at(table, i) as u64;
+        if end <= start {
+            let size = prefix_size(len_at(table, i));
+            held += size;
+            end = start + size;
+        }
+        i += 1;
     }
-    sum
+    held
 }
 
-// The sum over a map's records of the sizes of their prefixes, or the refusal (3 to 8).
+// The number of addresses with a longest match in a map's table, or the refusal (3 to 8).
 pub fn addresses_held(table: &[u8]) -> AddressesHeld
     ensures { λ r. ⌜ heldSays r ≡ heldReply (now (table .entry)) ⌝ }
 {
     match check_table(table, false) {
-        Checked::Valid(_) => AddressesHeld::Sum(sum_of_sizes(table)),
+        Checked::Valid(_) => AddressesHeld::Count(count_held(table)),
         Checked::Refused { number, index } => AddressesHeld::Refused {
             number: number,
             index: index,

@@ -4,11 +4,11 @@ use mathlib.Core.Path.{_≡_, refl, sym, ap, ap₂, _∙_}
 use mathlib.Core.Bool.{Bool, true, false, cond}
 use mathlib.Core.List.{List, [], _∷_}
 use native.Mathlib.Omega.{arith}
-use Rattle.theory.specs.Routes.{Route, Valid, All, cons, Table}
+use Rattle.theory.specs.Routes.{Route, Valid, All, Table}
 use Rattle.nodecount.specs.Nodes.{levels, nodeAt, seen, fresh, nodes, bare, newNodes}
 use Rattle.records.specs.Wire.{routeAt, records, routes}
 use Rattle.nodecount.proofs.NodeCount.{root, passed, node-above, nodes-pass}
-use Rattle.records.proofs.Reading.{rest, rest-end, rest-all, rest-step}
+use Rattle.records.proofs.Reading.{rest, rest-end, rest-all, rest-next, all-next}
 
 -- ---- The depths of a record, from the deepest up.
 -- Where x lies in a node of p, nothing is new down to that depth.
@@ -34,9 +34,6 @@ fresh-small w earlier x (suc m) = go (seen w (suc m) x earlier) (fresh-small w e
     go false ih = omega arith
 
 -- ---- One more record of a table.
-rest-next : (t : List ℕ) (i : ℕ) → i < records t → rest t i ≡ routeAt t i ∷ rest t (i + 1)
-rest-next t i lt = let e : i + 1 - 1 ≡ i = omega arith in rw e at (rest-step t (i + 1) (omega arith) (omega arith))
-
 -- The hop of the record before is of no account.
 fresh-bare : (w : ℕ) (p : Route) (x m : ℕ) → fresh w (p ∷ []) x m ≡ fresh w (bare (p .addr) (p .len) ∷ []) x m
 unfolding fresh
@@ -71,15 +68,9 @@ module _ (w : ℕ) (t : List ℕ) where
         ap₂ (λ (x k : ℕ). passed w (bare x k) (rest t (i + 1))) ea el ∙ sym (passed-bare w r (rest t (i + 1))) in
         omega arith
 
-    -- Record i is valid, and so are those after it: it brings a node at each of w / 5 depths at the most.
-    pub valid-next : All (Valid w) (rest t i) → Valid w (routeAt t i) × All (Valid w) (rest t (i + 1))
-    valid-next v = go (rw (rest-next t i lt) at v)
-      where
-        go : {r : Route} {s : List Route} → All (Valid w) (r ∷ s) → Valid w r × All (Valid w) s
-        go (cons u us) = (u, us)
-
+    -- Record i is valid: it brings a node at each of w / 5 depths at the most.
     pub len-small : (l : ℕ) → l ≡ routeAt t i .len → All (Valid w) (rest t i) → l ≤ w
-    len-small l e v = omega (arith, valid-next v .0 .short)
+    len-small l e v = omega (arith, all-next t i lt v .0 .short)
 
     pub new-small : (p : Route) (a l new : ℕ) → l ≡ routeAt t i .len → new ≡ newNodes w p (bare a l) → All (Valid w) (rest t i) → new ≤ w / 5
     new-small p a l new el en v = omega (arith, fresh-small w (p ∷ []) a (l / 5), len-small l el v)

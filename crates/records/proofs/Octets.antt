@@ -1,8 +1,23 @@
--- Four octets and the number that they write, first octet first. Assumes nothing.
+-- Octets: a computed test for lists of them, and four octets and the number that they write, first octet first. Assumes nothing.
 use mathlib.Core.Path.{_≡_}
-use Prim.Native.Nat.{ℕ, _+_, _*_, _/_, _%_, _^_, _<_}
+use mathlib.Core.Bool.{Bool, true, _&&_, and-eq-true-iff}
+use mathlib.Core.List.{List, [], _∷_}
+use Prim.Native.Nat.{ℕ, zero, suc, _+_, _*_, _/_, _%_, _^_, _<_}
 use native.Mathlib.Omega.{arith}
-use Rattle.records.specs.Wire.{join}
+use lib.Dec.{ltb}
+use borrow.Author.Tests.{ltb-true}
+use Rattle.records.specs.Wire.{join, Bytes}
+
+-- Is each element an octet?
+abbrev pub octets : List ℕ → Bool
+octets [] = true
+octets (b ∷ l) = ltb b 256 && octets l
+
+-- Then they are bytes.
+pub all-bytes : (l : List ℕ) → octets l ≡ true → Bytes l
+all-bytes [] e k = omega arith
+all-bytes (b ∷ l) e zero = ltb-true b 256 (and-eq-true-iff (ltb b 256) (octets l) .0 e .0)
+all-bytes (b ∷ l) e (suc k) = all-bytes l (and-eq-true-iff (ltb b 256) (octets l) .0 e .1) k
 
 -- An address is the number of its octets.
 pub join-octets : (a : ℕ) → a < 2 ^ 32 → join (a / 16777216 % 256) (a / 65536 % 256) (a / 256 % 256) (a % 256) ≡ a

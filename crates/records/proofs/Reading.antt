@@ -1,10 +1,10 @@
 -- Laws of a table's routes, read record by record. Assumes nothing.
 use mathlib.Core.Path.{_≡_, refl, ap, ap₂, _∙_}
 use mathlib.Core.List.{List, [], _∷_}
-use Prim.Native.Nat.{ℕ, zero, suc, _-_, _≤_, _<_}
+use Prim.Native.Nat.{ℕ, zero, suc, _+_, _-_, _≤_, _<_}
 use native.Mathlib.Omega.{arith}
 use lib.ListN.{length}
-use Rattle.theory.specs.Routes.{Route}
+use Rattle.theory.specs.Routes.{Route, All, cons}
 use Rattle.records.specs.Wire.{routeAt, routesFrom, records, routes}
 
 -- The routes from record i on.
@@ -30,6 +30,17 @@ rest-step t i p h =
     let e : records t - (i - 1) ≡ suc (records t - i) = omega arith in
     let f : suc (i - 1) ≡ i = omega arith in
     ap (routesFrom t (i - 1)) e ∙ ap (λ (j : ℕ). routeAt t (i - 1) ∷ routesFrom t j (records t - i)) f
+
+-- The same, from the record in front on.
+pub rest-next : (t : List ℕ) (i : ℕ) → i < records t → rest t i ≡ routeAt t i ∷ rest t (i + 1)
+rest-next t i lt = let e : i + 1 - 1 ≡ i = omega arith in rw e at (rest-step t (i + 1) (omega arith) (omega arith))
+
+-- What holds of the routes from record i on holds of that of record i and of those after it.
+pub all-next : {P : Route → Type 0} (t : List ℕ) (i : ℕ) → i < records t → All P (rest t i) → P (routeAt t i) × All P (rest t (i + 1))
+all-next {P} t i lt ps = go (rw (rest-next t i lt) at ps)
+  where
+    go : {r : Route} {rs : List Route} → All P (r ∷ rs) → P r × All P rs
+    go (cons p ps) = (p, ps)
 
 -- ---- How many they are.
 -- There are as many as asked for.

@@ -16,7 +16,7 @@ use Rattle.lookup.specs.Calls.{lookupSays, lookupReply, heldSays, heldReply}
 use Rattle.lookup.specs.declared.answers.Lookup.{Lookup}
 use Rattle.lookup.specs.declared.answers.Lookup.the-variants.{Route as Found, NoRoute, Refused as NotLooked}
 use Rattle.lookup.specs.declared.answers.AddressesHeld.{AddressesHeld}
-use Rattle.lookup.specs.declared.answers.AddressesHeld.the-variants.{Sum, Refused as NotSummed}
+use Rattle.lookup.specs.declared.answers.AddressesHeld.the-variants.{Count, Refused as NotCounted}
 use Rattle.calls.specs.Covering.{coversSays, coverReply, Queried}
 use Rattle.calls.specs.declared.Covers.{Covers}
 use Rattle.calls.specs.declared.Covers.the-variants.{Covered, Uncovered, Refused as NotAnswered}
@@ -65,8 +65,8 @@ pub lookup-kept : (r : Lookup) (t : List ℕ) (address : ℕ) → lookupSays r �
 lookup-kept r t address e = ap lookupText (sym (lookup-back r) ∙ ap lookupOf e)
 
 held-back : (r : AddressesHeld) → heldOf (heldSays r) ≡ r
-held-back (Sum n) = refl
-held-back (NotSummed number index) = refl
+held-back (Count n) = refl
+held-back (NotCounted number index) = refl
 
 pub held-kept : (r : AddressesHeld) (t : List ℕ) → heldSays r ≡ heldReply t → heldText r ≡ heldAnswer t
 held-kept r t e = ap heldText (sym (held-back r) ∙ ap heldOf e)

@@ -11,7 +11,7 @@ use Rattle.lookup.specs.Calls.{lookupReply, heldReply}
 use Rattle.lookup.specs.declared.answers.Lookup.{Lookup}
 use Rattle.lookup.specs.declared.answers.Lookup.the-variants.{Route as Found, NoRoute, Refused as NotLooked}
 use Rattle.lookup.specs.declared.answers.AddressesHeld.{AddressesHeld}
-use Rattle.lookup.specs.declared.answers.AddressesHeld.the-variants.{Sum, Refused as NotSummed}
+use Rattle.lookup.specs.declared.answers.AddressesHeld.the-variants.{Count, Refused as NotCounted}
 use Rattle.calls.specs.Rewriting.{rewriteReply}
 use Rattle.calls.specs.Covering.{coverReply}
 use Rattle.calls.specs.declared.Covers.{Covers}
@@ -50,8 +50,8 @@ lookupOf (gives (hit len hop)) = Found hop len
 lookupOf (refuses number index) = NotLooked number index
 
 abbrev pub heldOf : Reply ℕ → AddressesHeld
-heldOf (gives n) = Sum n
-heldOf (refuses number index) = NotSummed number index
+heldOf (gives n) = Count n
+heldOf (refuses number index) = NotCounted number index
 
 -- Of each call; the hops are left out in modes 1 and 2.
 abbrev pub rewriteAnswer : List ℕ → ℕ → ℕ → ℕ → ℕ → List ℕ

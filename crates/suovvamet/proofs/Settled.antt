@@ -16,7 +16,7 @@ use Rattle.calls.specs.Covering.{coversSays}
 use Rattle.calls.specs.declared.Rewritten.{Rewritten}
 use Rattle.calls.specs.declared.Covers.{Covers}
 use Rattle.calls.proofs.Settled.{rewrite-settled, covers-settled}
-use Rattle.suovvamet.specs.Numbers.{numberOf, indexOf, coveredOf, foundOf, hopOf, lengthOf, sumOf, isSetBy, wordsOf}
+use Rattle.suovvamet.specs.Numbers.{numberOf, indexOf, coveredOf, foundOf, hopOf, lengthOf, addressesOf, isSetBy, wordsOf}
 use Rattle.suovvamet.specs.Calls.{RewriteInC, CoversInC, LookupInC, HeldInC, WordsInC}
 
 -- Parts of two answers that are the same are the same.
@@ -62,14 +62,14 @@ lookup-in-c-settled t address a b =
       same-part (λ (r : Lookup). indexOf (lookupSays r)) e (a .index-is) (b .index-is),
     )
 
--- Of addresses held: the number, the sum and the index.
+-- Of addresses held: the number, how many addresses they are and the index.
 pub held-in-c-settled : (t : List ℕ) {number number₁ addresses addresses₁ index index₁ : ℕ}
     → HeldInC t number addresses index → HeldInC t number₁ addresses₁ index₁
     → (number ≡ number₁) × (addresses ≡ addresses₁) × (index ≡ index₁)
 held-in-c-settled t a b =
     let e = held-unique t (a .answer) (b .answer) (a .held) (b .held) in (
       same-part (λ (r : AddressesHeld). numberOf (heldSays r)) e (a .number-is) (b .number-is),
-      same-part sumOf e (a .sum-is) (b .sum-is),
+      same-part addressesOf e (a .addresses-is) (b .addresses-is),
       same-part (λ (r : AddressesHeld). indexOf (heldSays r)) e (a .index-is) (b .index-is),
     )
 

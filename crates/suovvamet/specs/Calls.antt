@@ -13,7 +13,7 @@ use Rattle.calls.specs.Rewriting.{rewrittenSays, countOf, changeOf, Rewrites}
 use Rattle.calls.specs.Covering.{coversSays, Queried}
 use Rattle.calls.specs.declared.Rewritten.{Rewritten}
 use Rattle.calls.specs.declared.Covers.{Covers}
-use Rattle.suovvamet.specs.Numbers.{numberOf, indexOf, coveredOf, foundOf, hopOf, lengthOf, sumOf, isSetBy, wordsOf}
+use Rattle.suovvamet.specs.Numbers.{numberOf, indexOf, coveredOf, foundOf, hopOf, lengthOf, addressesOf, isSetBy, wordsOf}
 
 -- Of a rewrite: the table t, the output o and the room work were lent; the output is o′ then and the room work′.
 pub record RewriteInC (t : List ℕ) (mode default : ℕ) (o work : List ℕ) (number count : ℕ) (change : ℤ) (index : ℕ) (o′ work′ : List ℕ) : Type 0 where
@@ -48,7 +48,7 @@ pub record HeldInC (t : List ℕ) (number addresses index : ℕ) : Type 0 where
   pub held : heldSays answer ≡ heldReply t
   pub number-is : number ≡ numberOf (heldSays answer)
   pub index-is : index ≡ indexOf (heldSays answer)
-  pub sum-is : addresses ≡ sumOf answer
+  pub addresses-is : addresses ≡ addressesOf answer
 
 -- Of work words, for a table of a set where isSet is not 0, else of a map.
 pub record WordsInC (t : List ℕ) (isSet number needed index : ℕ) : Type 0 where

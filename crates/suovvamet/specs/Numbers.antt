@@ -4,7 +4,7 @@ use Rattle.refusals.specs.Rules.{Reply, gives, refuses}
 use Rattle.lookup.specs.declared.answers.Lookup.{Lookup}
 use Rattle.lookup.specs.declared.answers.Lookup.the-variants.{Route, NoRoute, Refused as NotLooked}
 use Rattle.lookup.specs.declared.answers.AddressesHeld.{AddressesHeld}
-use Rattle.lookup.specs.declared.answers.AddressesHeld.the-variants.{Sum, Refused as NotSummed}
+use Rattle.lookup.specs.declared.answers.AddressesHeld.the-variants.{Count, Refused as NotCounted}
 use mathlib.Core.Bool.{Bool, not}
 use lib.Dec.{eqb}
 use Rattle.workroom.specs.declared.WorkWords.{WorkWords}
@@ -50,10 +50,10 @@ lengthOf (Route hop len) = len
 lengthOf NoRoute = 0
 lengthOf (NotLooked number index) = 0
 
--- ---- Of addresses held: the sum, 0 in a refusal.
-abbrev pub sumOf : AddressesHeld → ℕ
-sumOf (Sum n) = n
-sumOf (NotSummed number index) = 0
+-- ---- Of addresses held: how many they are, 0 in a refusal.
+abbrev pub addressesOf : AddressesHeld → ℕ
+addressesOf (Count n) = n
+addressesOf (NotCounted number index) = 0
 
 -- ---- Of work words.
 

@@ -11,7 +11,7 @@ ghost use Rattle.lookup.specs.Calls.{lookupSays, heldSays};
 ghost use Rattle.workroom.specs.Needed.{wordsSays};
 ghost use Rattle.calls.specs.Covering.{coversSays};
 ghost use Rattle.calls.specs.Rewriting.{rewrittenSays, countOf, changeOf};
-ghost use Rattle.suovvamet.specs.Numbers.{numberOf, indexOf, coveredOf, foundOf, hopOf, lengthOf, sumOf, wordsOf};
+ghost use Rattle.suovvamet.specs.Numbers.{numberOf, indexOf, coveredOf, foundOf, hopOf, lengthOf, addressesOf, wordsOf};
 ghost use Rattle.suovvamet.specs.Calls.{RewriteInC, CoversInC, LookupInC, HeldInC, WordsInC};
 
 // A refusal in numbers, both 0 for an answer.
@@ -216,16 +216,16 @@ fn held_refusal(r: AddressesHeld) -> Refusal
     ensures { λ f. ⌜ (f .number ≡ numberOf (heldSays r)) × (f .index ≡ indexOf (heldSays r)) ⌝ }
 {
     match r {
-        AddressesHeld::Sum(_) => no_refusal(),
+        AddressesHeld::Count(_) => no_refusal(),
         AddressesHeld::Refused { number, index } => in_numbers(number, index),
     }
 }
 
-fn held_sum(r: AddressesHeld) -> u64
-    ensures { λ n. ⌜ n ≡ sumOf r ⌝ }
+fn held_count(r: AddressesHeld) -> u64
+    ensures { λ n. ⌜ n ≡ addressesOf r ⌝ }
 {
     match r {
-        AddressesHeld::Sum(sum) => sum,
+        AddressesHeld::Count(count) => count,
         AddressesHeld::Refused {
             number: _,
             index: _,
@@ -233,7 +233,7 @@ fn held_sum(r: AddressesHeld) -> u64
     }
 }
 
-// The sum over the records of the sizes of their prefixes.
+// The number of addresses with a longest match.
 #[no_mangle]
 pub extern "C" fn suovvamet_addresses_held(
     table: &[u8],
@@ -243,7 +243,7 @@ pub extern "C" fn suovvamet_addresses_held(
     ensures { λ n. ⌜ HeldInC (now (table .entry)) n (now (addresses .exit)) (now (index .exit)) ⌝ }
 {
     let answer = lookup::addresses_held(table);
-    *addresses = held_sum(answer);
+    *addresses = held_count(answer);
     let refused = held_refusal(answer);
     *index = refused.index;
     refused.number

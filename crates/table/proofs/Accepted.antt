@@ -1,7 +1,7 @@
 -- Judging a table by the rules 3 to 8 says what the facts say: it is accepted exactly when it keeps them, and refused exactly by the first
 -- condition that holds. Assumes nothing.
 use mathlib.Core.Path.{_≡_, refl}
-use mathlib.Core.Bool.{Bool}
+use mathlib.Core.Bool.{Bool, true, false}
 use mathlib.Core.List.{List}
 use mathlib.Core.Logic.{_↔_}
 use Prim.Native.Nat.{ℕ, _%_, _≤_, _<_}
@@ -15,7 +15,7 @@ use Rattle.refusals.specs.Order.{First, None}
 use Rattle.refusals.proofs.Shown.{shown, decided}
 use Rattle.refusals.proofs.Judged.{gives-exactly, refuses-exactly}
 use Rattle.records.specs.Wire.{records}
-use Rattle.table.specs.TableRules.{tableRules}
+use Rattle.table.specs.TableRules.{topHop, tableRules}
 use Rattle.table.specs.Conditions.{RecordCondition, too-long, host-bits, bad-tail, not-after, TableCondition, not-whole, too-many, of-record, Kept, Accepted}
 use Rattle.table.proofs.Tested.{length-shown, host-shown, tail-shown, order-shown, table-tests, table-ranked}
 
@@ -69,3 +69,24 @@ module _ (s : Bool) (t : List ℕ) where
     -- A table is refused with a number and an index exactly when they are those of the first condition that holds.
     pub refused-exactly : (n i : ℕ) → judge (tableRules s t) a ≡ refuses n i ↔ First (TableCondition s t) n i
     refused-exactly = refuses-exactly (tableRules s t) (table-tests s t) a (table-ranked s t .order)
+
+-- An accepted table, of a set or of a map, is an accepted map: hop 0 is a hop.
+pub accepted-map : (s : Bool) (t : List ℕ) → Accepted s t → Accepted false t
+accepted-map s t a =
+    record {
+      whole = a .whole;
+      few = a .few;
+      each =
+          λ i h.
+          let k = a .each i h in
+          record {
+            length-kept = k .length-kept;
+            host-kept = k .host-kept;
+            tail-kept = (omega (arith, k .tail-kept .0, most s), k .tail-kept .1, k .tail-kept .2);
+            order-kept = k .order-kept;
+          };
+    }
+  where
+    most : (s : Bool) → topHop s ≤ 63
+    most true = omega arith
+    most false = omega arith

@@ -10,7 +10,7 @@ use Rattle.records.specs.Wire.{routes}
 use Rattle.lookup.specs.declared.answers.Lookup.{Lookup}
 use Rattle.lookup.specs.declared.answers.Lookup.the-variants.{Route as Found, NoRoute, Refused as NotLooked}
 use Rattle.lookup.specs.declared.answers.AddressesHeld.{AddressesHeld}
-use Rattle.lookup.specs.declared.answers.AddressesHeld.the-variants.{Sum, Refused as NotSummed}
+use Rattle.lookup.specs.declared.answers.AddressesHeld.the-variants.{Count, Refused as NotCounted}
 use Rattle.calls.specs.declared.Rewritten.{Rewritten}
 use Rattle.calls.specs.declared.Rewritten.the-variants.{Records, Refused as NotWritten}
 use Rattle.calls.specs.declared.Covers.{Covers}
@@ -39,7 +39,7 @@ lookupText (Found hop len) = foundLine hop len
 lookupText NoRoute = 110 ∷ 111 ∷ 32 ∷ 114 ∷ 111 ∷ 117 ∷ 116 ∷ 101 ∷ 10 ∷ []
 lookupText (NotLooked number index) = refusedLine number index
 
--- Of addresses held: the sum or the refusal.
+-- Of addresses held: their number or the refusal.
 unfoldable pub heldText : AddressesHeld → List ℕ
-heldText (Sum n) = addressesLine n
-heldText (NotSummed number index) = refusedLine number index
+heldText (Count n) = addressesLine n
+heldText (NotCounted number index) = refusedLine number index

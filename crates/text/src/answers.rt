@@ -68,7 +68,7 @@ pub fn put_held(answer: AddressesHeld, at: usize, out: &mut [u8]) -> usize
     ensures { λ r. ⌜ Put (heldText answer) at r (now (out .entry)) (now (out .exit)) ⌝ }
 {
     match answer {
-        AddressesHeld::Sum(n) => put_addresses(n, at, out),
+        AddressesHeld::Count(n) => put_addresses(n, at, out),
         AddressesHeld::Refused { number, index } => put_refused(number, index, at, out),
     }
 }

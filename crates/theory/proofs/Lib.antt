@@ -20,4 +20,7 @@ pub mod Maximal
 pub mod Computed
 pub mod Lengths
 pub mod Modes
+pub mod HowMany
+pub mod Reach
+pub mod Pass
 pub mod Cases

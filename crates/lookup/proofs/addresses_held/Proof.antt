@@ -1,10 +1,11 @@
--- `addresses_held` replies with the sum of the sizes of an accepted table, and with the check's refusal of any other. Assumes nothing.
+-- `addresses_held` replies with the number of addresses that an accepted table holds, and with the check's refusal of any other. Assumes nothing.
 use mathlib.Core.Bool.{false}
 use mathlib.Core.Path.{sym, ap, _∙_}
+use native.Mathlib.Omega.{arith}
 use borrow.Author.Needs.{needs}
 use Rattle.table.specs.Checking.{checkedSays}
 use Rattle.refusals.specs.Rules.{gives}
-use Rattle.table.proofs.Accepted.{accepted}
+use Rattle.table.proofs.Tables.{accepted-table}
 use Rattle.refusals.proofs.Judged.{gives-any, refuses-any}
 use Rattle.lookup.proofs.addresses_held.Statement.{statement}
 use Rattle.lookup.proofs.addresses_held.Tie as tie
@@ -15,15 +16,16 @@ check-table-requires c κs = search needs
 enum-told : tie.Need-enum-told
 enum-told c = search needs
 
-sum-of-sizes-requires : tie.Need-sum-of-sizes-requires
-sum-of-sizes-requires c κs = let k = accepted false _ _ (sym (c .before .before .check-table .ensures) ∙ ap checkedSays (c .enum-told .given .1)) in
-    (λ i h. k .each i h .length-kept, k .few)
+count-held-requires : tie.Need-count-held-requires
+count-held-requires c κs =
+    accepted-table _ _ false _ (λ k. omega (arith, c .before .before .before .shared-slice-known .given k))
+    (sym (c .before .before .check-table .ensures) ∙ ap checkedSays (c .enum-told .given .1)) .0 .table
 
 enum-known-number : tie.Need-enum-known-number
 enum-known-number c = search needs
 
 returns : tie.Need-returns
-returns c = ap gives (c .sum-of-sizes .ensures)
+returns c = ap gives (c .count-held .ensures)
     ∙ sym (gives-any _ _ _ _ (sym (c .before .before .before .check-table .ensures) ∙ ap checkedSays (c .before .enum-told .given .1)))
 
 returns-2 : tie.Need-returns-2
@@ -35,7 +37,7 @@ addresses-held-spec =
     (tie.spec
     check-table-requires
     enum-told
-    sum-of-sizes-requires
+    count-held-requires
     enum-known-number
     returns
     returns-2)

@@ -5,9 +5,9 @@ use native.Mathlib.Omega.{arith}
 use Rattle.theory.specs.Routes.{Valid, All}
 use Rattle.records.specs.Wire.{records, routes}
 use Rattle.nodecount.specs.Nodes.{bare, nodes}
-use Rattle.records.proofs.Reading.{rest}
+use Rattle.records.proofs.Reading.{rest, all-next}
 use Rattle.nodecount.proofs.NodeCount.{passed}
-use Rattle.nodecount.proofs.NodePass.{pass-start, pass-next, pass-end, valid-next, len-small, new-small}
+use Rattle.nodecount.proofs.NodePass.{pass-start, pass-next, pass-end, len-small, new-small}
 use Rattle.nodecount.proofs.count_nodes.Statement.{statement}
 use Rattle.nodecount.proofs.count_nodes.Tie as tie
 
@@ -57,7 +57,7 @@ loop-again c =
       omega arith,
       omega (arith, new-small 32 t (b .loop .i) lt _ _ _ _ (c .before .len-at .ensures) (c .new-nodes .ensures) (b .loop .inv .3)),
       pass-next 32 t (b .loop .i) lt _ _ _ _ _ _ (c .before .before .addr-at .ensures) (c .before .len-at .ensures) (c .new-nodes .ensures) (b .loop .inv .2),
-      valid-next 32 t (b .loop .i) lt (b .loop .inv .3) .1,
+      all-next t (b .loop .i) lt (b .loop .inv .3) .1,
     )
 
 returns : tie.Need-returns Inv-loop μ-loop

@@ -230,7 +230,8 @@ throughout-under p q true n a h = throughout-each p n a .1 h
 throughout-under p q false n a h = throughout-agree p q n a h
 
 module _ {w n a : ℕ} {t : List Route} (run : Run w (suc n) a t) where
-  half-run : (b : ℕ) → Half n a b → Run w n b (inside w n b t)
+  -- The routes inside a half are its run.
+  pub half-run : (b : ℕ) → Half n a b → Run w n b (inside w n b t)
   half-run b h = inside-run w n b (omega (arith, run .fits)) (half-aligned n a b (run .aligned) h) (run .table)
 
   -- An address of one half is matched in that half's run only.

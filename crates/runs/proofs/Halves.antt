@@ -19,7 +19,7 @@ use Rattle.positions.proofs.Runs.{is-at, is-in, inside-run}
 use Rattle.records.specs.Wire.{records, routeAt, routes}
 use Rattle.runs.specs.Runs.{run, RunAt, PastOwn, with-own, without, SplitAt}
 use Rattle.runs.proofs.Numbered.{member-numbered}
-use Rattle.runs.proofs.Records.{run-numbered, run-none, run-first, run-before, run-suffix, run-part}
+use Rattle.runs.proofs.Records.{run-numbered, run-whole, run-none, run-first, run-before, run-suffix, run-part}
 
 -- A test that cannot be passed fails.
 is-false : (b : Bool) → (b ≡ true → ⊥) → b ≡ false
@@ -28,14 +28,14 @@ is-false false n = refl
 
 -- ---- The run of a whole table is that of the position of all addresses.
 pub whole-run : (w : ℕ) {t : List ℕ} → Table w (routes t) → RunAt w t 0 (records t) w 0
-unfolding routes
 whole-run w {t} table =
-    let e : records t - 0 ≡ records t = omega arith in
     record {
       low = omega arith;
       high = le-refl (records t);
       small = omega arith;
-      lies = rw e (record { fits = le-refl w; aligned = aligned-zero w; table = table; within = all-map (valid-within w) (table .valid) });
+      lies =
+          rw (run-whole t)
+          (record { fits = le-refl w; aligned = aligned-zero w; table = table; within = all-map (valid-within w) (table .valid) });
     }
 
 -- ---- The position's own record.

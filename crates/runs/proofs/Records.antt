@@ -4,11 +4,11 @@ use mathlib.Core.Path.{_≡_, refl, ap, _∙_}
 use mathlib.Core.Bool.{Bool, true, false}
 use mathlib.Core.List.{List, [], _∷_, _++_}
 use mathlib.Core.Logic.{_⊎_, inl, inr}
-use native.Mathlib.Nat.{eq-or-lt-of-le}
+use native.Mathlib.Nat.{sub-zero, eq-or-lt-of-le}
 use native.Mathlib.Omega.{arith}
 use Rattle.theory.specs.Results.{part}
 use Rattle.theory.specs.Routes.{Route, Before, Ascending, first}
-use Rattle.records.specs.Wire.{routeAt, routesFrom}
+use Rattle.records.specs.Wire.{records, routeAt, routesFrom, routes}
 use Rattle.runs.specs.Runs.{run}
 use Rattle.runs.proofs.Numbered.{counted, numbered, before-numbered, none-numbered, first-numbered, split-numbered, part-numbered}
 
@@ -21,6 +21,11 @@ module _ (t : List ℕ) where
   -- So they have the laws of lists by number.
   pub run-numbered : (lo hi : ℕ) → run t lo hi ≡ numbered (routeAt t) lo hi
   run-numbered lo hi = from-counted lo (hi - lo)
+
+  -- The run of all records is the table's routes.
+  pub run-whole : run t 0 (records t) ≡ routes t
+  unfolding routes
+  run-whole = ap (routesFrom t 0) (sub-zero (records t))
 
   -- A run that ends where it starts is empty, and one that does not has its first record.
   pub run-none : (lo hi : ℕ) → hi ≤ lo → run t lo hi ≡ []

@@ -64,7 +64,7 @@ module _ {R A : Type 0} (says : R → Reply A) (same : (b c : R) → says b ≡ 
 -- ---- Lookup.
 module _ (t : List ℕ) (x : ℕ) where
   -- There is no match exactly where no member matches.
-  miss-held : lookup 32 (routes t) x ≡ miss ↔ held 32 (routes t) x ≡ false
+  pub miss-held : lookup 32 (routes t) x ≡ miss ↔ held 32 (routes t) x ≡ false
   miss-held = go (lookup 32 (routes t) x) (held 32 (routes t) x) (lookup-held 32 (routes t) x)
     where
       go : (m : Match) (h : Bool) → isMiss m ≡ not h → m ≡ miss ↔ h ≡ false

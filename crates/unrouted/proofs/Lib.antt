@@ -4,3 +4,7 @@ pub mod Most
 pub mod Positions
 pub mod Output
 pub mod Replies
+pub mod Holes
+pub mod Calls
+pub mod Rewritten
+pub mod Empty

@@ -18,8 +18,7 @@ enum-known-records c = search needs
 
 fits-requires : tie.Need-fits-requires
 fits-requires c κs =
-    let valid = sym (c .before .before .before .check-table .ensures) ∙ ap checkedSays (c .before .records .given .1) in
-    (
+    let valid = sym (c .before .before .before .check-table .ensures) ∙ ap checkedSays (c .before .records .given .1) in (
       accepted-run _ valid (λ k. omega (arith, c .before .before .before .before .before .shared-slice-known .given k)),
       accepted-few _ valid (λ k. omega (arith, c .before .before .before .before .before .shared-slice-known .given k)),
     )
@@ -28,8 +27,7 @@ list-requires : tie.Need-list-requires
 list-requires c κs =
     let a = c .before .before .before .before .before .before .before .before .before .args in
     let records = c .before .before .before .before .records .given in
-    let valid = sym (c .before .before .before .before .before .before .check-table .ensures) ∙ ap checkedSays (records .1) in
-    (
+    let valid = sym (c .before .before .before .before .before .before .check-table .ensures) ∙ ap checkedSays (records .1) in (
       (omega arith, accepted-run _ valid (λ k. omega (arith, c .before .before .before .before .before .before .before .before .shared-slice-known .given k))),
       room-enough (a .table .now) (records .0 .0) (a .output .now) (c .before .before .fits2 .ensures) (c .before .if1 .taken),
     )

@@ -8,9 +8,9 @@ use lib.ListN.{length, take, drop}
 use Rattle.theory.specs.Routes.{Route}
 use Rattle.records.specs.Wire.{recordOf, bytesOf, laid}
 use Rattle.records.proofs.Laid.{laid-none, length-records, records-lent}
-use Rattle.unrouted.specs.Holes.{holesAt}
-use Rattle.unrouted.specs.Kinds.{Halves}
-use Rattle.unrouted.proofs.Positions.{halves-count}
+use Rattle.holes.specs.Holes.{holesAt}
+use Rattle.holes.specs.Kinds.{Halves}
+use Rattle.holes.proofs.Positions.{halves-count}
 
 -- The one record of a hole.
 pub hole-laid : {rs : List Route} (r : Route) (o o′ : List ℕ) → rs ≡ r ∷ [] → o′ ≡ laid 0 (recordOf r) o → o′ ≡ laid 0 (bytesOf rs) o

@@ -4,9 +4,9 @@ use mathlib.Core.Path.{_≡_}
 use mathlib.Core.List.{List, [], _∷_, _++_}
 use Rattle.records.specs.Wire.{route}
 use Rattle.runs.specs.Runs.{RunAt}
-use Rattle.unrouted.specs.declared.Kind.{Kind}
-use Rattle.unrouted.specs.declared.Kind.the-variants.{Hole, Routed, Parted}
-use Rattle.unrouted.specs.Holes.{holesAt}
+use Rattle.holes.specs.declared.Kind.{Kind}
+use Rattle.holes.specs.declared.Kind.the-variants.{Hole, Routed, Parted}
+use Rattle.holes.specs.Holes.{holesAt}
 
 -- The position of length len at addr, whose run is lo..hi, has halves: the left one stands there too, and its run is lo..mid; the right one stands at `right`,
 -- and its run is mid..hi. Its holes are theirs.

@@ -10,9 +10,9 @@ use Rattle.refusals.specs.Rules.{Rule, rule, Reply, gives, refuses, judge}
 use Rattle.records.specs.Wire.{routes}
 use Rattle.table.specs.TableRules.{tableRules}
 use Rattle.calls.specs.Rewriting.{outputOf}
-use Rattle.unrouted.specs.declared.Listed.{Listed}
-use Rattle.unrouted.specs.declared.Listed.the-variants.{Records, Refused}
-use Rattle.unrouted.specs.Holes.{holes}
+use Rattle.holes.specs.declared.Listed.{Listed}
+use Rattle.holes.specs.declared.Listed.the-variants.{Records, Refused}
+use Rattle.holes.specs.Holes.{holes}
 
 -- The holes of a map's table, by its bytes.
 abbrev pub holesOf : List ℕ → List Route

@@ -4,7 +4,7 @@ use mathlib.Core.Bool.{false}
 use mathlib.Core.List.{List}
 use lib.ListN.{length}
 use Rattle.table.specs.Conditions.{TableCondition}
-use Rattle.unrouted.specs.Listing.{holesOf}
+use Rattle.holes.specs.Listing.{holesOf}
 
 -- 3 to 8: the table's, as a map. 11: the output has fewer bytes than 8 times the holes.
 pub data UnroutedCondition (t : List ℕ) (room : ℕ) : ℕ → ℕ → Type 0 where

@@ -12,7 +12,7 @@ use Rattle.theory.proofs.Blocks.{aligned-start, in-start}
 use Rattle.theory.proofs.LongestMatch.{lookup-held}
 use Rattle.theory.proofs.Maximal.{covered-matches, maximal-listed, maximal-holds, maximal-table, maximal-bare}
 use Rattle.theory.proofs.Routed.{Bare}
-use Rattle.unrouted.specs.Holes.{isUnrouted, holesIn, holes, NoneRouted, shorter, IsHole}
+use Rattle.holes.specs.Holes.{isUnrouted, holesIn, holes, NoneRouted, shorter, IsHole}
 
 -- An address has no route exactly where its longest match is a miss.
 is-miss : (m : Match) → (isMiss m ≡ true) ↔ (m ≡ miss)

@@ -20,9 +20,9 @@ use Rattle.calls.specs.Rewriting.{outputOf}
 use Rattle.runs.specs.Runs.{RunAt}
 use Rattle.runs.proofs.Halves.{whole-run}
 use Rattle.runs.proofs.Records.{run-whole}
-use Rattle.unrouted.specs.declared.Listed.the-variants.{Records, Refused}
-use Rattle.unrouted.specs.Holes.{holesIn, holesAt}
-use Rattle.unrouted.specs.Listing.{holesOf, unroutedRules, Lists}
+use Rattle.holes.specs.declared.Listed.the-variants.{Records, Refused}
+use Rattle.holes.specs.Holes.{holesIn, holesAt}
+use Rattle.holes.specs.Listing.{holesOf, unroutedRules, Lists}
 
 -- ---- The rules, one after the other.
 module _ (t : List ℕ) (room : ℕ) where

@@ -15,9 +15,9 @@ ghost use lib.Dec.{leb};
 ghost use lib.ListN.{length};
 ghost use Rattle.records.specs.Wire.{bytesOf, laid};
 ghost use Rattle.runs.specs.Runs.{RunAt};
-ghost use Rattle.unrouted.specs.Holes.{holesAt};
-ghost use Rattle.unrouted.specs.Kinds.{KindOf};
-ghost use Rattle.unrouted.specs.Listing.{Lists};
+ghost use Rattle.holes.specs.Holes.{holesAt};
+ghost use Rattle.holes.specs.Kinds.{KindOf};
+ghost use Rattle.holes.specs.Listing.{Lists};
 
 // What the call answers: the number of records written, or the refusal, with the record's index for numbers 5 to 8 (else 0).
 pub enum Listed {

@@ -1,4 +1,4 @@
--- `unrouted::list`, which calls itself on the halves of a position, meets its contract, by falling bits below the position. What the left half has written
+-- `holes::list`, which calls itself on the halves of a position, meets its contract, by falling bits below the position. What the left half has written
 -- stands before the part of the output that is lent to the right half. Assumes nothing.
 use Prim.Native.Nat.{ℕ, _+_, _-_, _*_, _≤_, _<_}
 use mathlib.Core.Path.{_≡_, sym, ap, ap₂, subst, _∙_}
@@ -9,17 +9,17 @@ use borrow.Author.Needs.{needs}
 use borrow.Fn.Kinds.{In}
 use borrow.Fn.PlainCycle.{Measures, is, falls, and}
 use Rattle.records.specs.Wire.{route}
-use Rattle.unrouted.specs.Holes.{holesAt}
-use Rattle.unrouted.specs.Kinds.{Halves, KindOf}
-use Rattle.unrouted.proofs.Output.{hole-laid, none-laid, left-room, halves-laid}
-use Rattle.unrouted.proofs.Positions.{halves-count}
-use Rattle.unrouted.proofs.list.Reads as list
-use Rattle.unrouted.proofs.list.Kinds as list-kinds
-use Rattle.unrouted.proofs.+list.Lts-list as lts
-use Rattle.unrouted.proofs.kind_of.Reads as kind-of-reads
+use Rattle.holes.specs.Holes.{holesAt}
+use Rattle.holes.specs.Kinds.{Halves, KindOf}
+use Rattle.holes.proofs.Output.{hole-laid, none-laid, left-room, halves-laid}
+use Rattle.holes.proofs.Positions.{halves-count}
+use Rattle.holes.proofs.list.Reads as list
+use Rattle.holes.proofs.list.Kinds as list-kinds
+use Rattle.holes.proofs.+list.Lts-list as lts
+use Rattle.holes.proofs.kind_of.Reads as kind-of-reads
 use Rattle.records.proofs.write_record.Reads as write-record-reads
-use Rattle.unrouted.proofs.+list.{statement}
-use Rattle.unrouted.proofs.+list.Tie.{close}
+use Rattle.holes.proofs.+list.{statement}
+use Rattle.holes.proofs.+list.Tie.{close}
 
 abbrev measure : Measures 2 list-kinds.ps ℕ
 measure κs a = 32 - a .1 .1 .1 .1 .0

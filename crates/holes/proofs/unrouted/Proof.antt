@@ -3,9 +3,9 @@ use mathlib.Core.Path.{sym, ap, _∙_}
 use native.Mathlib.Omega.{arith}
 use borrow.Author.Needs.{needs}
 use Rattle.table.specs.Checking.{checkedSays}
-use Rattle.unrouted.proofs.Replies.{lists-refused, accepted-run, accepted-few, room-enough, room-short, lists-given, lists-short}
-use Rattle.unrouted.proofs.unrouted.Statement.{statement}
-use Rattle.unrouted.proofs.unrouted.Tie as tie
+use Rattle.holes.proofs.Replies.{lists-refused, accepted-run, accepted-few, room-enough, room-short, lists-given, lists-short}
+use Rattle.holes.proofs.unrouted.Statement.{statement}
+use Rattle.holes.proofs.unrouted.Tie as tie
 
 check-table-requires : tie.Need-check-table-requires
 check-table-requires c κs = search needs

@@ -1,4 +1,4 @@
--- `unrouted::count`, which calls itself on the halves of a position, meets its contract, by falling bits below the position. Assumes nothing.
+-- `holes::count`, which calls itself on the halves of a position, meets its contract, by falling bits below the position. Assumes nothing.
 use Prim.Native.Nat.{ℕ, _+_, _-_, _*_, _<_}
 use mathlib.Core.Path.{_≡_, sym, ap, ap₂, subst, _∙_}
 use native.Mathlib.Omega.{arith}
@@ -6,16 +6,16 @@ use lib.ListN.{length, length-append}
 use borrow.Author.Needs.{needs}
 use borrow.Fn.Kinds.{In}
 use borrow.Fn.PlainCycle.{Measures, is, falls, and}
-use Rattle.unrouted.specs.Holes.{holesAt}
-use Rattle.unrouted.specs.Kinds.{Halves, KindOf}
-use Rattle.unrouted.proofs.Most.{holes-few}
-use Rattle.unrouted.proofs.Positions.{halves-count}
-use Rattle.unrouted.proofs.count.Reads as count
-use Rattle.unrouted.proofs.count.Kinds as count-kinds
-use Rattle.unrouted.proofs.+count.Lts-count as lts
-use Rattle.unrouted.proofs.kind_of.Reads as kind-of-reads
-use Rattle.unrouted.proofs.+count.{statement}
-use Rattle.unrouted.proofs.+count.Tie.{close}
+use Rattle.holes.specs.Holes.{holesAt}
+use Rattle.holes.specs.Kinds.{Halves, KindOf}
+use Rattle.holes.proofs.Most.{holes-few}
+use Rattle.holes.proofs.Positions.{halves-count}
+use Rattle.holes.proofs.count.Reads as count
+use Rattle.holes.proofs.count.Kinds as count-kinds
+use Rattle.holes.proofs.+count.Lts-count as lts
+use Rattle.holes.proofs.kind_of.Reads as kind-of-reads
+use Rattle.holes.proofs.+count.{statement}
+use Rattle.holes.proofs.+count.Tie.{close}
 
 abbrev measure : Measures 1 count-kinds.ps ℕ
 measure κs a = 32 - a .1 .1 .1 .1 .0

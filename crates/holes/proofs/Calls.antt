@@ -31,14 +31,14 @@ use Rattle.lookup.specs.declared.answers.Lookup.{Lookup}
 use Rattle.lookup.specs.declared.answers.Lookup.the-variants.{NoRoute}
 use Rattle.lookup.proofs.Calls.{miss-held, lookup-none-exactly}
 use Rattle.calls.specs.Rewriting.{outputOf}
-use Rattle.unrouted.specs.declared.Listed.{Listed}
-use Rattle.unrouted.specs.declared.Listed.the-variants.{Records, Refused}
-use Rattle.unrouted.specs.Conditions.{UnroutedCondition, of-table, short-output}
-use Rattle.unrouted.specs.Holes.{IsHole}
-use Rattle.unrouted.specs.Listing.{holesOf, unroutedRules, listedSays, Lists}
-use Rattle.unrouted.proofs.Holes.{holes-hold, holes-table, holes-bare, holes-listed}
-use Rattle.unrouted.proofs.Most.{holes-sure}
-use Rattle.unrouted.proofs.Replies.{accepted-run, whole-holes}
+use Rattle.holes.specs.declared.Listed.{Listed}
+use Rattle.holes.specs.declared.Listed.the-variants.{Records, Refused}
+use Rattle.holes.specs.Conditions.{UnroutedCondition, of-table, short-output}
+use Rattle.holes.specs.Holes.{IsHole}
+use Rattle.holes.specs.Listing.{holesOf, unroutedRules, listedSays, Lists}
+use Rattle.holes.proofs.Holes.{holes-hold, holes-table, holes-bare, holes-listed}
+use Rattle.holes.proofs.Most.{holes-sure}
+use Rattle.holes.proofs.Replies.{accepted-run, whole-holes}
 
 -- Answers that say the same are the same.
 listed-same : (a b : Listed) → listedSays a ≡ listedSays b → a ≡ b

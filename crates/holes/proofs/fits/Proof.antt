@@ -1,14 +1,14 @@
--- `unrouted::fits` meets its contract: where the most that there can be fits, all do; else they are counted. Assumes nothing.
+-- `holes::fits` meets its contract: where the most that there can be fits, all do; else they are counted. Assumes nothing.
 use mathlib.Core.Path.{sym, ap}
 use native.Mathlib.Omega.{arith}
 use lib.Dec.{leb}
 use lib.ListN.{length}
 use borrow.Author.Needs.{needs}
 use borrow.Author.Tests.{le-leb}
-use Rattle.unrouted.specs.Holes.{holesAt}
-use Rattle.unrouted.proofs.Most.{holes-sure}
-use Rattle.unrouted.proofs.fits.Statement.{statement}
-use Rattle.unrouted.proofs.fits.Tie as tie
+use Rattle.holes.specs.Holes.{holesAt}
+use Rattle.holes.proofs.Most.{holes-sure}
+use Rattle.holes.proofs.fits.Statement.{statement}
+use Rattle.holes.proofs.fits.Tie as tie
 
 mul-if1 : tie.Need-mul-if1
 mul-if1 c = search needs

@@ -1,8 +1,8 @@
--- `unrouted::kind_of` meets its contract: each test leads to the kind that it stands for. Assumes nothing.
+-- `holes::kind_of` meets its contract: each test leads to the kind that it stands for. Assumes nothing.
 use borrow.Author.Needs.{needs}
-use Rattle.unrouted.proofs.Positions.{empty-hole, own-routed, has-halves, in-halves}
-use Rattle.unrouted.proofs.kind_of.Statement.{statement}
-use Rattle.unrouted.proofs.kind_of.Tie as tie
+use Rattle.holes.proofs.Positions.{empty-hole, own-routed, has-halves, in-halves}
+use Rattle.holes.proofs.kind_of.Statement.{statement}
+use Rattle.holes.proofs.kind_of.Tie as tie
 
 returns : tie.Need-returns
 returns c =

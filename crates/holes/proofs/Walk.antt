@@ -16,7 +16,7 @@ use Rattle.theory.proofs.LongestMatch.{lookup-held, lookup-none}
 use Rattle.theory.proofs.Maximal.{throughout-each, maximal-agree}
 use Rattle.positions.specs.Runs.{inside, Run, own}
 use Rattle.positions.proofs.Runs.{Half, half-held, one-held}
-use Rattle.unrouted.specs.Holes.{isUnrouted, holesIn}
+use Rattle.holes.specs.Holes.{isUnrouted, holesIn}
 
 -- ---- Maximal prefixes of a position.
 module _ (w : ℕ) (p : ℕ → Bool) where

@@ -16,8 +16,8 @@ use Rattle.positions.specs.Runs.{isAt, inside, Run, headHop, own}
 use Rattle.positions.proofs.Runs.{AtMostOne, at-most-one, run-one, run-splits, Half, half-run}
 use Rattle.records.proofs.Reading.{length-from}
 use Rattle.runs.specs.Runs.{run, RunAt}
-use Rattle.unrouted.specs.Holes.{holesIn, holesAt}
-use Rattle.unrouted.proofs.Walk.{holes-empty, holes-own, holes-halves}
+use Rattle.holes.specs.Holes.{holesIn, holesAt}
+use Rattle.holes.proofs.Walk.{holes-empty, holes-own, holes-halves}
 
 -- ---- The three kinds of a position, by its run.
 

@@ -14,9 +14,9 @@ use Rattle.records.specs.Wire.{routeAt, route}
 use Rattle.runs.specs.Runs.{run, RunAt, PastOwn, SplitAt}
 use Rattle.runs.proofs.Records.{run-none, run-first}
 use Rattle.runs.proofs.Halves.{record-within, past-low, past-longer, own-hop, own-none, left-is, right-is, left-run, right-run}
-use Rattle.unrouted.specs.Holes.{holesIn, holesAt}
-use Rattle.unrouted.specs.Kinds.{Halves}
-use Rattle.unrouted.proofs.Walk.{holes-empty, holes-own, holes-halves}
+use Rattle.holes.specs.Holes.{holesIn, holesAt}
+use Rattle.holes.specs.Kinds.{Halves}
+use Rattle.holes.proofs.Walk.{holes-empty, holes-own, holes-halves}
 
 -- No record lies in it.
 pub empty-hole : (t : List ℕ) (lo hi len addr : ℕ) → len ≤ 32 → lo ≡ hi → holesAt t lo hi len addr ≡ route addr len 0 ∷ []

@@ -25,11 +25,11 @@ use Rattle.calls.specs.Conditions.{Guarded}
 use Rattle.calls.specs.Rewriting.{resultOf, modeOf, outputOf, rewriteRules, RewritesBy, Rewrites}
 use Rattle.calls.proofs.Engines.{by-answerable, by-counted, by-lawful, by-keeps, by-output-accepted}
 use Rattle.calls.proofs.Refusals.{rewrite-guarded}
-use Rattle.unrouted.specs.declared.Listed.{Listed}
-use Rattle.unrouted.specs.declared.Listed.the-variants.{Records as Listing}
-use Rattle.unrouted.specs.Listing.{holesOf, unroutedRules, Lists}
-use Rattle.unrouted.proofs.Calls.{unrouted-settled, unrouted-listed, unrouted-rest}
-use Rattle.unrouted.proofs.Walk.{holes-agree, holes-none}
+use Rattle.holes.specs.declared.Listed.{Listed}
+use Rattle.holes.specs.declared.Listed.the-variants.{Records as Listing}
+use Rattle.holes.specs.Listing.{holesOf, unroutedRules, Lists}
+use Rattle.holes.proofs.Calls.{unrouted-settled, unrouted-listed, unrouted-rest}
+use Rattle.holes.proofs.Walk.{holes-agree, holes-none}
 
 -- ---- Accepted tables with the same holes are listed alike.
 

@@ -11,12 +11,12 @@ use Rattle.records.specs.Wire.{routesFrom, routes, route, bytesOf}
 use Rattle.table.specs.Conditions.{Accepted}
 use Rattle.table.proofs.Accepted.{accepted-exactly}
 use Rattle.calls.proofs.Refusals.{empty-table}
-use Rattle.unrouted.specs.declared.Listed.{Listed}
-use Rattle.unrouted.specs.declared.Listed.the-variants.{Records, Refused}
-use Rattle.unrouted.specs.Conditions.{UnroutedCondition, of-table, short-output}
-use Rattle.unrouted.specs.Listing.{holesOf, Lists}
-use Rattle.unrouted.proofs.Calls.{unrouted-listed, unrouted-refused, unrouted-written}
-use Rattle.unrouted.proofs.Walk.{holes-empty}
+use Rattle.holes.specs.declared.Listed.{Listed}
+use Rattle.holes.specs.declared.Listed.the-variants.{Records, Refused}
+use Rattle.holes.specs.Conditions.{UnroutedCondition, of-table, short-output}
+use Rattle.holes.specs.Listing.{holesOf, Lists}
+use Rattle.holes.proofs.Calls.{unrouted-listed, unrouted-refused, unrouted-written}
+use Rattle.holes.proofs.Walk.{holes-empty}
 
 -- Its holes.
 pub empty-holes : holesOf [] ≡ route 0 0 0 ∷ []

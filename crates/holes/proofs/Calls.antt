@@ -142,6 +142,17 @@ module _ (t o : List ℕ) (r : Listed) (o′ : List ℕ) (ok : Lists t o r o′)
         λ f. exactly .1 (none-exactly t (length o) .1 (f .0, f .1), f .2),
       )
 
+  -- Answered or refused, the output keeps its length.
+  pub unrouted-length : length o′ ≡ length o
+  unrouted-length = go r refl
+    where
+      go : (q : Listed) → r ≡ q → length o′ ≡ length o
+      go (Refused n i) e = ap length (refusal-changes-nothing n i e)
+      go (Records count) e =
+          let fits = unrouted-listed count .0 e .1 in
+          ap length (ok .output ∙ ap (outputOf o) (gives-any rules (length (holesOf t)) count (holesOf t) (sym (ok .answer) ∙ ap listedSays e)))
+          ∙ simp (length-append, length-drop, length-bytes) (omega arith)
+
   module _ (count : ℕ) (answered : r ≡ Records count) where
     counted : length (holesOf t) ≡ count
     counted = unrouted-listed count .0 answered .2

@@ -27,6 +27,11 @@ abbrev pub listedSays : Listed → Reply ℕ
 listedSays (Records count) = gives count
 listedSays (Refused number index) = refuses number index
 
+-- Its count, 0 in a refusal.
+abbrev pub listedCount : Listed → ℕ
+listedCount (Records count) = count
+listedCount (Refused number index) = 0
+
 -- The statement: the table t and the output o were lent, r was answered, and the output is o′ then. Where no rule is broken the holes' records stand at its
 -- start and their number is given; the rest is as it was, and after a refusal all of it is.
 pub record Lists (t o : List ℕ) (r : Listed) (o′ : List ℕ) : Type 0 where

@@ -1,107 +1,19 @@
 // Reads cases from standard input and writes the answers of the public calls, as docs/CASES.md says.
+//
+// What is kept for a case that was read is proved to be the text of the right answer (replaying, `keep_answer`). Of what reads and writes, `turn`
+// and `main`, it is proved that they are safe and end: no contract can say what was read and what was written, which runs show.
 
-use aggregate::covers;
-use aggregate::rewrite;
-use calls::Rewritten;
 use libc::STDIN_FILENO;
 use records::join4;
-use replaying::FILLED_BYTE;
-use replaying::FILLED_WORD;
 use replaying::Turn;
+use replaying::cases::keep_answer;
 use replaying::join2;
-use replaying::keep_held;
-use replaying::keep_output;
-use replaying::keep_work;
 use replaying::last_line;
-use replaying::room_for;
 use replaying::send;
 use replaying::turns_left;
-use text::answers::put_covers;
-use text::answers::put_rewritten;
 ghost use mathlib.Core.Path.{_≡_};
-ghost use Prim.Native.Nat.{_*_, _≤_};
+ghost use Prim.Native.Nat.{_≤_};
 ghost use lib.ListN.{length};
-ghost use Rattle.calls.specs.Rewriting.{countOf};
-
-// The bytes of the output that an answer's records take.
-fn written(answer: Rewritten) -> usize
-    requires { ⌜ 8 * countOf answer ≤ 65535 ⌝ }
-    ensures { λ r. ⌜ r ≡ 8 * countOf answer ⌝ }
-{
-    match answer {
-        Rewritten::Records { count, .. } => 8 * count,
-        Rewritten::Refused { .. } => 0,
-    }
-}
-
-// Keeps the answer of a rewrite.
-fn keep_rewritten(
-    mode: u8,
-    default: u8,
-    table: &[u8],
-    output: &mut [u8],
-    work: &mut [u32],
-    at: usize,
-    kept: &mut [u8],
-) -> usize
-    requires { ⌜ length (now output) ≤ 65535 ⌝ }
-    requires { ⌜ at ≤ length (now kept) ⌝ }
-    requires { ⌜ 262144 ≤ length (now kept) ⌝ }
-    ensures { λ r. ⌜ r ≤ length (now (kept .entry)) ⌝ }
-{
-    rooms::bytes::fill(output, FILLED_BYTE);
-    rooms::words::fill(work, FILLED_WORD);
-    let answer = rewrite(table, mode as u32, default as u32, output, work);
-    let begin = room_for(kept, at);
-    let end = put_rewritten(answer, output, 2 < mode, begin, kept);
-    let after = keep_work(work, end, kept);
-    keep_output(output, written(answer), after, kept)
-}
-
-// Keeps the answer of the cover query.
-fn keep_covers(
-    address: u32,
-    len: u8,
-    table: &[u8],
-    work: &mut [u32],
-    at: usize,
-    kept: &mut [u8],
-) -> usize
-    requires { ⌜ at ≤ length (now kept) ⌝ }
-    requires { ⌜ 262144 ≤ length (now kept) ⌝ }
-    ensures { λ r. ⌜ r ≤ length (now (kept .entry)) ⌝ }
-{
-    rooms::words::fill(work, FILLED_WORD);
-    let answer = covers(table, address, len as u32, work);
-    let begin = room_for(kept, at);
-    let end = put_covers(answer, begin, kept);
-    keep_work(work, end, kept)
-}
-
-// Keeps the answer of a case: its first 16 bytes, its table and the rooms that are lent.
-fn keep_answer(
-    head: &[u8; 16],
-    table: &[u8],
-    output: &mut [u8],
-    work: &mut [u32],
-    at: usize,
-    kept: &mut [u8],
-) -> usize
-    requires { ⌜ length (now output) ≤ 65535 ⌝ }
-    requires { ⌜ at ≤ length (now kept) ⌝ }
-    requires { ⌜ 262144 ≤ length (now kept) ⌝ }
-    ensures { λ r. ⌜ r ≤ length (now (kept .entry)) ⌝ }
-{
-    let call = head[0];
-    if call == 0 {
-        return keep_rewritten(head[1], head[2], table, output, work, at, kept);
-    }
-    let address = join4(head[4], head[5], head[6], head[7]);
-    if call == 1 {
-        return keep_covers(address, head[3], table, work, at, kept);
-    }
-    keep_held(call, address, table, at, kept)
-}
 
 // Reads a case and keeps its answer, or the line that ends the run.
 fn turn(table: &mut [u8], output: &mut [u8], work: &mut [u32], at: usize, kept: &mut [u8]) -> Turn
@@ -134,15 +46,7 @@ fn turn(table: &mut [u8], output: &mut [u8], work: &mut [u32], at: usize, kept: 
     if 824480 < words {
         return last_line(b"work room too large\n", at, kept);
     }
-    let room = join2(head[12], head[13]);
-    let end = keep_answer(
-        &head,
-        &table[..size],
-        &mut output[..room],
-        &mut work[..words],
-        at,
-        kept,
-    );
+    let end = keep_answer(&head, &table[..size], output, work, at, kept);
     Turn {
         at: end,
         more: true,

@@ -1,20 +1,22 @@
-// What the program replay does around the calls (docs/CASES.md): the rooms are filled before a call and looked at after it, and the text of
-// the answers is kept in a buffer until there is much of it.
+// What the program replay does around the calls (docs/CASES.md): a case's answer is kept in a buffer as text until there is much of it.
+// That what is kept is the text of the right answers is proved; what reading and writing do is not said by a contract.
+
+pub mod cases;
 
 use libc::STDOUT_FILENO;
-use lookup::addresses_held;
-use lookup::lookup;
-use text::answers::put_held;
-use text::answers::put_lookup;
 use text::put_bytes;
 ghost use mathlib.Core.Path.{_≡_};
+ghost use mathlib.Core.Bool.{true};
 ghost use Prim.Native.Nat.{_+_, _*_, _≤_, _<_};
-ghost use lib.ListN.{length};
+ghost use lib.ListN.{length, drop};
+ghost use Rattle.rooms.specs.Rooms.{allAre};
+ghost use Rattle.text.specs.Text.{Put};
+ghost use Rattle.replaying.specs.Kept.{beginOf};
 
 // What stands in the rooms before a call: no byte and no word of it is zero.
-pub const FILLED_BYTE: u8 = 165;
+const FILLED_BYTE: u8 = 165;
 
-pub const FILLED_WORD: u32 = 2779096485;
+const FILLED_WORD: u32 = 2779096485;
 
 // The bytes of text that are kept, and whether there is more to do.
 pub struct Turn {
@@ -46,9 +48,10 @@ pub fn send(kept: &[u8], at: usize)
 }
 
 // Room for any answer's text, 24 bytes for each of 8,191 records and 36 more: once there is less, the kept text is written.
-pub fn room_for(kept: &[u8], at: usize) -> usize
+fn room_for(kept: &[u8], at: usize) -> usize
     requires { ⌜ at ≤ length (now kept) ⌝ }
     requires { ⌜ 262144 ≤ length (now kept) ⌝ }
+    ensures { λ r. ⌜ r ≡ beginOf at ⌝ }
     ensures { λ r. ⌜ r + 196620 ≤ length (now (kept .entry)) ⌝ }
 {
     if at <= 65524 {
@@ -63,7 +66,7 @@ fn keep_line(line: &[u8], at: usize, kept: &mut [u8]) -> usize
     requires { ⌜ length (now line) ≤ 20 ⌝ }
     requires { ⌜ at ≤ length (now kept) ⌝ }
     requires { ⌜ 262144 ≤ length (now kept) ⌝ }
-    ensures { λ r. ⌜ r ≤ length (now (kept .entry)) ⌝ }
+    ensures { λ r. ⌜ Put (now (line .entry)) (beginOf at) r (now (kept .entry)) (now (kept .exit)) ⌝ }
 {
     let begin = room_for(kept, at);
     put_bytes(line, begin, kept)
@@ -74,7 +77,7 @@ pub fn last_line(line: &[u8], at: usize, kept: &mut [u8]) -> Turn
     requires { ⌜ length (now line) ≤ 20 ⌝ }
     requires { ⌜ at ≤ length (now kept) ⌝ }
     requires { ⌜ 262144 ≤ length (now kept) ⌝ }
-    ensures { λ r. ⌜ r .at ≤ length (now (kept .entry)) ⌝ }
+    ensures { λ r. ⌜ Put (now (line .entry)) (beginOf at) (r .at) (now (kept .entry)) (now (kept .exit)) ⌝ }
 {
     let end = keep_line(line, at, kept);
     Turn {
@@ -84,10 +87,10 @@ pub fn last_line(line: &[u8], at: usize, kept: &mut [u8]) -> Turn
 }
 
 // Keeps `work not zero`, if a word of the room is not.
-pub fn keep_work(work: &[u32], at: usize, kept: &mut [u8]) -> usize
+fn keep_work(work: &[u32], at: usize, kept: &mut [u8]) -> usize
     requires { ⌜ at ≤ length (now kept) ⌝ }
     requires { ⌜ 262144 ≤ length (now kept) ⌝ }
-    ensures { λ r. ⌜ r ≤ length (now (kept .entry)) ⌝ }
+    ensures { λ r. ⌜ (allAre 0 (now (work .entry)) ≡ true → (r ≡ at) × (now (kept .exit) ≡ now (kept .entry))) ⌝ }
 {
     if rooms::words::are(work, 0, 0) {
         return at;
@@ -96,27 +99,13 @@ pub fn keep_work(work: &[u32], at: usize, kept: &mut [u8]) -> usize
 }
 
 // Keeps `output touched`, if a byte of the output from a place on is not as it was filled.
-pub fn keep_output(output: &[u8], from: usize, at: usize, kept: &mut [u8]) -> usize
+fn keep_output(output: &[u8], from: usize, at: usize, kept: &mut [u8]) -> usize
     requires { ⌜ at ≤ length (now kept) ⌝ }
     requires { ⌜ 262144 ≤ length (now kept) ⌝ }
-    ensures { λ r. ⌜ r ≤ length (now (kept .entry)) ⌝ }
+    ensures { λ r. ⌜ (allAre 165 (drop from (now (output .entry))) ≡ true → (r ≡ at) × (now (kept .exit) ≡ now (kept .entry))) ⌝ }
 {
     if rooms::bytes::are(output, from, FILLED_BYTE) {
         return at;
     }
     keep_line(b"output touched\n", at, kept)
-}
-
-// Keeps the answer of a call that borrows no room: a lookup (2) or addresses held.
-pub fn keep_held(call: u8, address: u32, table: &[u8], at: usize, kept: &mut [u8]) -> usize
-    requires { ⌜ at ≤ length (now kept) ⌝ }
-    requires { ⌜ 262144 ≤ length (now kept) ⌝ }
-    ensures { λ r. ⌜ r ≤ length (now (kept .entry)) ⌝ }
-{
-    let begin = room_for(kept, at);
-    if call == 2 {
-        put_lookup(lookup(table, address), begin, kept)
-    } else {
-        put_held(addresses_held(table), begin, kept)
-    }
 }

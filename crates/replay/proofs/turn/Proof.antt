@@ -110,49 +110,20 @@ same-length-7 c = search needs
 returns-5 : tie.Need-returns-5
 returns-5 c = search needs
 
-array-read-join2-3 : tie.Need-array-read-join2-3
-array-read-join2-3 c = search needs
-
-array-read-join2-4 : tie.Need-array-read-join2-4
-array-read-join2-4 c = search needs
-
-join2-requires-2 : tie.Need-join2-requires-2
-join2-requires-2 c κs = search needs
-
 slice-reshare-prefix-keep-answer : tie.Need-slice-reshare-prefix-keep-answer
 slice-reshare-prefix-keep-answer c = search needs
 
 slice-aggregate-keep-answer : tie.Need-slice-aggregate-keep-answer
 slice-aggregate-keep-answer c =
-    let size = c .before .before .before .before .before .before .before .before .before .before .before .join2 .ensures .1 in
-    let read = c .before .before .before .before .before .before .before .before .before .read-full2 .kept .1 .0 in
-    let table = c .before .before .before .before .before .before .before .before .before .before .before .before .before .before .before .before .before .before .before .before .before .args .table .now in
-    let part = length-take (c .before .before .before .before .before .before .before .before .before .before .before .join2 .result) table in
-    simp (length-take, length-append, length-drop) (omega (arith, size, read, part, c .before .before .before .before .before .before .before .before .before .before .before .before .before .before .before .before .before .before .before .before .before .pre .0))
-
-slice-relend-prefix-keep-answer : tie.Need-slice-relend-prefix-keep-answer
-slice-relend-prefix-keep-answer c = search needs
-
-slice-aggregate-keep-answer-2 : tie.Need-slice-aggregate-keep-answer-2
-slice-aggregate-keep-answer-2 c =
-    let size = c .before .before .before .join22 .ensures .1 in
-    let pre = c .before .before .before .before .before .before .before .before .before .before .before .before .before .before .before .before .before .before .before .before .before .before .pre in
-    simp length-take (omega (arith, pre .1 .0))
-
-slice-relend-prefix-keep-answer-2 : tie.Need-slice-relend-prefix-keep-answer-2
-slice-relend-prefix-keep-answer-2 c = search needs
-
-slice-aggregate-keep-answer-3 : tie.Need-slice-aggregate-keep-answer-3
-slice-aggregate-keep-answer-3 c =
-    let few = c .before .before .before .before .before .if5 .left in
-    let pre = c .before .before .before .before .before .before .before .before .before .before .before .before .before .before .before .before .before .before .before .before .before .before .before .pre in
-    simp length-take (omega (arith, pre .1 .1 .0))
+    let size = c .before .before .before .before .before .before .before .before .before .before .join2 in
+    let start = c .before .before .before .before .before .before .before .before .before .before .before .before .before .before .before .before .before .before .before .before in
+    let part = length-take (size .result) (start .args .table .now) in
+    simp (length-take, length-append, length-drop) (omega (arith, size .ensures .1, c .before .before .before .before .before .before .before .before .read-full2 .kept .1 .0, part, start .pre .0))
 
 keep-answer-requires : tie.Need-keep-answer-requires
 keep-answer-requires c κs =
-    let size = c .before .before .before .before .before .join22 .ensures .1 in
-    let pre = c .before .before .before .before .before .before .before .before .before .before .before .before .before .before .before .before .before .before .before .before .before .before .before .before .pre in
-    (simp length-take (omega (arith, size)), pre .1 .1 .1)
+    let pre = c .before .before .before .before .before .before .before .before .before .before .before .before .before .before .before .before .before .before .before .before .before .before .before .pre in
+    (pre .1 .0, (pre .1 .1 .0, (omega (arith, c .before .before .before .before .before .before .join4 .ensures, c .before .before .before .before .before .if5 .left), pre .1 .1 .1)))
 
 same-length-8 : tie.Need-same-length-8
 same-length-8 c = search needs
@@ -208,15 +179,8 @@ turn-spec =
     same-length-6
     same-length-7
     returns-5
-    array-read-join2-3
-    array-read-join2-4
-    join2-requires-2
     slice-reshare-prefix-keep-answer
     slice-aggregate-keep-answer
-    slice-relend-prefix-keep-answer
-    slice-aggregate-keep-answer-2
-    slice-relend-prefix-keep-answer-2
-    slice-aggregate-keep-answer-3
     keep-answer-requires
     same-length-8
     same-length-9

@@ -1,12 +1,12 @@
--- `written` meets its contract. Assumes nothing.
+-- `cases::written` meets its contract. Assumes nothing.
 use mathlib.Core.Path.{sym, ap}
 use Prim.Native.Nat.{_*_}
 use native.Mathlib.Omega.{arith}
 use borrow.Author.Needs.{needs}
 use Rattle.calls.specs.declared.Rewritten.{Rewritten}
 use Rattle.calls.specs.Rewriting.{countOf}
-use Rattle.replay.proofs.written.Statement.{statement}
-use Rattle.replay.proofs.written.Tie as tie
+use Rattle.replaying.proofs.cases.written.Statement.{statement}
+use Rattle.replaying.proofs.cases.written.Tie as tie
 
 enum-known-answer : tie.Need-enum-known-answer
 enum-known-answer c = search needs

@@ -1,0 +1,134 @@
+-- Where text is kept, whose text it is, and what a call leaves in the rooms that were filled before it. Assumes nothing.
+use mathlib.Core.Path.{_≡_, refl, sym, ap, _∙_}
+use mathlib.Core.Bool.{true, _&&_}
+use mathlib.Core.List.{List}
+use Prim.Native.Nat.{ℕ, zero, suc, _*_, _≤_, _<_}
+use native.Mathlib.Omega.{arith}
+use borrow.Author.Tests.{le-leb, lt-leb, eq-eqb, ne-eqb}
+use lib.ListN.{length, drop, replicate}
+use lib.Seq.{drop-at}
+use Rattle.theory.specs.Routes.{Route}
+use Rattle.refusals.specs.Rules.{Reply, gives, refuses}
+use Rattle.records.specs.Wire.{records, bytesOf, laid}
+use Rattle.records.proofs.Written.{length-bytes}
+use Rattle.rooms.specs.Rooms.{allAre}
+use Rattle.lookup.specs.Calls.{lookupSays, lookupReply, heldSays, heldReply}
+use Rattle.lookup.specs.declared.answers.Lookup.{Lookup}
+use Rattle.lookup.specs.declared.answers.Lookup.the-variants.{Route as Found, NoRoute, Refused as NotLooked}
+use Rattle.lookup.specs.declared.answers.AddressesHeld.{AddressesHeld}
+use Rattle.lookup.specs.declared.answers.AddressesHeld.the-variants.{Count, Refused as NotCounted}
+use Rattle.calls.specs.Covering.{coversSays, coverReply, Queried}
+use Rattle.calls.specs.declared.Covers.{Covers}
+use Rattle.calls.specs.declared.Covers.the-variants.{Covered, Uncovered, Refused as NotAnswered}
+use Rattle.calls.specs.Rewriting.{countOf, resultOf, rewriteReply, writtenOf, outputOf, Rewrites}
+use Rattle.calls.specs.declared.Rewritten.{Rewritten}
+use Rattle.calls.specs.declared.Rewritten.the-variants.{Records, Refused}
+use Rattle.calls.proofs.Results.{rewrite-records}
+use Rattle.text.specs.Text.{Put}
+use Rattle.text.specs.Answers.{coversText, lookupText, heldText}
+use Rattle.replaying.specs.Kept.{byte, addressOf, wordsOf, roomOf, coversOf, lookupOf, heldOf, rewriteAnswer, coverAnswer, lookupAnswer, heldAnswer, answerText, beginOf}
+
+-- ---- Where text is kept.
+
+pub begin-behind : (at : ℕ) → at ≤ 65524 → at ≡ beginOf at
+unfolding beginOf
+begin-behind at small = rw (le-leb at 65524 small)
+
+pub begin-anew : (at : ℕ) → 65524 < at → 0 ≡ beginOf at
+unfolding beginOf
+begin-anew at large = rw (lt-leb at 65524 large)
+
+-- The same place, end and buffer, otherwise written.
+pub put-at : {ws : List ℕ} {at at₁ r r₁ : ℕ} {o o′ o₁ : List ℕ} → at ≡ at₁ → r₁ ≡ r → o₁ ≡ o′ → Put ws at r o o′ → Put ws at₁ r₁ o o₁
+put-at {ws} {at} {at₁} {r} {r₁} {o} {o′} {o₁} e f g p =
+    let ends = p .ends in
+    let fits = p .fits in
+    record { ends = omega arith; fits = omega arith; lays = g ∙ p .lays ∙ ap (λ (k : ℕ). laid k ws o) e }
+
+-- ---- Whose text it is: an answer that says the right reply has its text.
+
+covers-back : (r : Covers) → coversOf (coversSays r) ≡ r
+covers-back Covered = refl
+covers-back Uncovered = refl
+covers-back (NotAnswered number index) = refl
+
+pub covers-kept : (r : Covers) (t : List ℕ) (address len words : ℕ) → coversSays r ≡ coverReply t address len words
+    → coversText r ≡ coverAnswer t address len words
+covers-kept r t address len words e = ap coversText (sym (covers-back r) ∙ ap coversOf e)
+
+lookup-back : (r : Lookup) → lookupOf (lookupSays r) ≡ r
+lookup-back (Found hop len) = refl
+lookup-back NoRoute = refl
+lookup-back (NotLooked number index) = refl
+
+pub lookup-kept : (r : Lookup) (t : List ℕ) (address : ℕ) → lookupSays r ≡ lookupReply t address → lookupText r ≡ lookupAnswer t address
+lookup-kept r t address e = ap lookupText (sym (lookup-back r) ∙ ap lookupOf e)
+
+held-back : (r : AddressesHeld) → heldOf (heldSays r) ≡ r
+held-back (Count n) = refl
+held-back (NotCounted number index) = refl
+
+pub held-kept : (r : AddressesHeld) (t : List ℕ) → heldSays r ≡ heldReply t → heldText r ≡ heldAnswer t
+held-kept r t e = ap heldText (sym (held-back r) ∙ ap heldOf e)
+
+-- The text of a case is that of its call.
+module _ (head t : List ℕ) where
+  pub case-rewrite : byte head 0 ≡ 0 → rewriteAnswer t (byte head 1) (byte head 2) (roomOf head) (wordsOf head) ≡ answerText head t
+  unfolding answerText
+  case-rewrite e = rw (eq-eqb (byte head 0) 0 e)
+
+  module _ (not-rewrite : byte head 0 ≡ 0 → ⊥) where
+    pub case-cover : byte head 0 ≡ 1 → coverAnswer t (addressOf head) (byte head 3) (wordsOf head) ≡ answerText head t
+    unfolding answerText
+    case-cover e = rw (ne-eqb (byte head 0) 0 not-rewrite, eq-eqb (byte head 0) 1 e)
+
+    module _ (not-cover : byte head 0 ≡ 1 → ⊥) where
+      pub case-lookup : byte head 0 ≡ 2 → lookupAnswer t (addressOf head) ≡ answerText head t
+      unfolding answerText
+      case-lookup e = rw (ne-eqb (byte head 0) 0 not-rewrite, ne-eqb (byte head 0) 1 not-cover, eq-eqb (byte head 0) 2 e)
+
+      pub case-held : (byte head 0 ≡ 2 → ⊥) → heldAnswer t ≡ answerText head t
+      unfolding answerText
+      case-held not-lookup = rw (ne-eqb (byte head 0) 0 not-rewrite, ne-eqb (byte head 0) 1 not-cover, ne-eqb (byte head 0) 2 not-lookup)
+
+-- ---- What a call leaves in the rooms.
+
+-- A list of one value is that throughout, and so is its end.
+all-replicate : (v n : ℕ) → allAre v (replicate n v) ≡ true
+unfolding allAre
+all-replicate v zero = refl
+all-replicate v (suc n) = ap (_&& allAre v (replicate n v)) (eq-eqb v v refl) ∙ all-replicate v n
+
+all-dropped : (v k n : ℕ) → allAre v (drop k (replicate n v)) ≡ true
+unfolding allAre
+all-dropped v zero n = all-replicate v n
+all-dropped v (suc k) zero = refl
+all-dropped v (suc k) (suc n) = all-dropped v k n
+
+-- Both calls leave the room zero.
+pub rewrite-zero : {t : List ℕ} {mode default : ℕ} {o : List ℕ} {words : ℕ} {r : Rewritten} {o′ w′ : List ℕ}
+    → Rewrites t mode default o words r o′ w′ → allAre 0 w′ ≡ true
+rewrite-zero {words = words} ok = ap (allAre 0) (ok .zero) ∙ all-replicate 0 words
+
+pub covers-zero : {t : List ℕ} {address len words : ℕ} {r : Covers} {w′ : List ℕ} → Queried t address len words r w′ → allAre 0 w′ ≡ true
+covers-zero {words = words} ok = ap (allAre 0) (ok .zero) ∙ all-replicate 0 words
+
+-- A refusal leaves the output.
+output-left : (before number index : ℕ) (o : List ℕ) (q : Reply (List Route)) → refuses number index ≡ writtenOf before q → outputOf o q ≡ o
+output-left before number index o (refuses m i) e = refl
+output-left before number index o (gives rs) e = let z : _≡_ {A = ℕ} 0 1 = cc in absurd (omega arith)
+
+-- Past the records that are answered with, an output of one value is as it was.
+module _ (t : List ℕ) (mode default : ℕ) (o : List ℕ) (words : ℕ) (o′ w′ : List ℕ) (v n : ℕ) (filled : o ≡ replicate n v) where
+  pub output-filled : (r : Rewritten) → Rewrites t mode default o words r o′ w′ → allAre v (drop (8 * countOf r) o′) ≡ true
+  output-filled (Records count change) ok =
+      let f = rewrite-records t mode default o words (Records count change) o′ w′ ok count change refl in
+      let rs = resultOf t mode default in
+      ap (λ (m : ℕ). allAre v (drop (8 * m) o′)) (f .1)
+      ∙ ap (λ (l : List ℕ). allAre v (drop (8 * length rs) l)) (f .3)
+      ∙ ap (allAre v) (drop-at (bytesOf rs) (drop (8 * length rs) o) (8 * length rs) (length-bytes rs))
+      ∙ ap (λ (l : List ℕ). allAre v (drop (8 * length rs) l)) filled
+      ∙ all-dropped v (8 * length rs) n
+  output-filled (Refused number index) ok =
+      ap (allAre v) (ok .inner .output ∙ output-left (records t) number index o (rewriteReply t mode default (length o) words) (ok .inner .answer) ∙ filled)
+      ∙ all-replicate v n

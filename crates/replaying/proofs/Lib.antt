@@ -1,0 +1,2 @@
+-- Laws of what replay keeps, and of the rooms that it looks at.
+pub mod KeptLaws

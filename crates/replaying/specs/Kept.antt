@@ -1,0 +1,81 @@
+-- What the program replay keeps for a case (docs/CASES.md): the text of the right answer, and where it stands in the buffer.
+use Prim.Native.Nat.{ℕ, _+_, _*_}
+use mathlib.Core.Bool.{Bool, true, false, cond}
+use mathlib.Core.List.{List}
+use lib.Dec.{eqb, leb, ltb}
+use lib.ListN.{getD}
+use Rattle.theory.specs.Routes.{Match, miss, hit}
+use Rattle.refusals.specs.Rules.{Reply, gives, refuses}
+use Rattle.records.specs.Wire.{join, records}
+use Rattle.lookup.specs.Calls.{lookupReply, heldReply}
+use Rattle.lookup.specs.declared.answers.Lookup.{Lookup}
+use Rattle.lookup.specs.declared.answers.Lookup.the-variants.{Route as Found, NoRoute, Refused as NotLooked}
+use Rattle.lookup.specs.declared.answers.AddressesHeld.{AddressesHeld}
+use Rattle.lookup.specs.declared.answers.AddressesHeld.the-variants.{Count, Refused as NotCounted}
+use Rattle.calls.specs.Rewriting.{rewriteReply}
+use Rattle.calls.specs.Covering.{coverReply}
+use Rattle.calls.specs.declared.Covers.{Covers}
+use Rattle.calls.specs.declared.Covers.the-variants.{Covered, Uncovered, Refused as NotAnswered}
+use Rattle.text.specs.Answers.{replyText, coversText, lookupText, heldText}
+
+-- ---- A case: its first 16 bytes, and the table.
+
+-- Byte k.
+abbrev pub byte : List ℕ → ℕ → ℕ
+byte head k = getD head k 0
+
+-- The query's address.
+abbrev pub addressOf : List ℕ → ℕ
+addressOf head = join (byte head 4) (byte head 5) (byte head 6) (byte head 7)
+
+-- The words of work room that are lent.
+abbrev pub wordsOf : List ℕ → ℕ
+wordsOf head = join (byte head 8) (byte head 9) (byte head 10) (byte head 11)
+
+-- The bytes of output that are lent.
+abbrev pub roomOf : List ℕ → ℕ
+roomOf head = byte head 12 * 256 + byte head 13
+
+-- ---- The text of the right answer.
+
+-- The answers that say a reply.
+abbrev pub coversOf : Reply Bool → Covers
+coversOf (gives true) = Covered
+coversOf (gives false) = Uncovered
+coversOf (refuses number index) = NotAnswered number index
+
+abbrev pub lookupOf : Reply Match → Lookup
+lookupOf (gives miss) = NoRoute
+lookupOf (gives (hit len hop)) = Found hop len
+lookupOf (refuses number index) = NotLooked number index
+
+abbrev pub heldOf : Reply ℕ → AddressesHeld
+heldOf (gives n) = Count n
+heldOf (refuses number index) = NotCounted number index
+
+-- Of each call; the hops are left out in modes 1 and 2.
+abbrev pub rewriteAnswer : List ℕ → ℕ → ℕ → ℕ → ℕ → List ℕ
+rewriteAnswer t mode default room words = replyText (ltb 2 mode) (records t) (rewriteReply t mode default room words)
+
+abbrev pub coverAnswer : List ℕ → ℕ → ℕ → ℕ → List ℕ
+coverAnswer t address len words = coversText (coversOf (coverReply t address len words))
+
+abbrev pub lookupAnswer : List ℕ → ℕ → List ℕ
+lookupAnswer t address = lookupText (lookupOf (lookupReply t address))
+
+abbrev pub heldAnswer : List ℕ → List ℕ
+heldAnswer t = heldText (heldOf (heldReply t))
+
+-- Of a case: byte 0 is the call, 0 rewrite, 1 cover query, 2 lookup, 3 addresses held. No case has a higher one: it ends the run.
+unfoldable pub answerText : List ℕ → List ℕ → List ℕ
+answerText head t =
+    cond (eqb (byte head 0) 0) (rewriteAnswer t (byte head 1) (byte head 2) (roomOf head) (wordsOf head))
+    (cond (eqb (byte head 0) 1) (coverAnswer t (addressOf head) (byte head 3) (wordsOf head))
+    (cond (eqb (byte head 0) 2) (lookupAnswer t (addressOf head))
+    (heldAnswer t)))
+
+-- ---- Where it is kept.
+
+-- Behind the text that is kept up to `at`, or from the buffer's start once there is so much that it was written out.
+unfoldable pub beginOf : ℕ → ℕ
+beginOf at = cond (leb at 65524) at 0

@@ -1,0 +1,2 @@
+-- What the program replay keeps.
+pub mod Kept

@@ -1,0 +1,140 @@
+// The cases: each call is made on what the case lends it, and the text of its answer is kept. The rooms are filled before a call and looked at
+// after it: by the calls' statements no line about them is ever kept.
+
+use super::FILLED_BYTE;
+use super::FILLED_WORD;
+use super::join2;
+use super::keep_output;
+use super::keep_work;
+use super::room_for;
+use aggregate::covers;
+use aggregate::rewrite;
+use calls::Rewritten;
+use lookup::addresses_held;
+use lookup::lookup;
+use records::join4;
+use text::answers::put_covers;
+use text::answers::put_held;
+use text::answers::put_lookup;
+use text::answers::put_rewritten;
+ghost use mathlib.Core.Path.{_≡_};
+ghost use Prim.Native.Nat.{_*_, _≤_};
+ghost use lib.ListN.{length};
+ghost use Rattle.calls.specs.Rewriting.{countOf};
+ghost use Rattle.text.specs.Text.{Put};
+ghost use Rattle.replaying.specs.Kept.{wordsOf, rewriteAnswer, coverAnswer, lookupAnswer, heldAnswer, answerText, beginOf};
+
+// The bytes of the output that an answer's records take.
+fn written(answer: Rewritten) -> usize
+    requires { ⌜ 8 * countOf answer ≤ 65535 ⌝ }
+    ensures { λ r. ⌜ r ≡ 8 * countOf answer ⌝ }
+{
+    match answer {
+        Rewritten::Records { count, .. } => 8 * count,
+        Rewritten::Refused { .. } => 0,
+    }
+}
+
+// Keeps the answer of a rewrite.
+fn keep_rewritten(
+    mode: u8,
+    default: u8,
+    table: &[u8],
+    output: &mut [u8],
+    work: &mut [u32],
+    at: usize,
+    kept: &mut [u8],
+) -> usize
+    requires { ⌜ length (now output) ≤ 65535 ⌝ }
+    requires { ⌜ at ≤ length (now kept) ⌝ }
+    requires { ⌜ 262144 ≤ length (now kept) ⌝ }
+    ensures { λ r. ⌜ Put (rewriteAnswer (now (table .entry)) mode default (length (now (output .entry))) (length (now (work .entry)))) (beginOf at) r (now (kept .entry)) (now (kept .exit)) ⌝ }
+{
+    rooms::bytes::fill(output, FILLED_BYTE);
+    rooms::words::fill(work, FILLED_WORD);
+    let answer = rewrite(table, mode as u32, default as u32, output, work);
+    let begin = room_for(kept, at);
+    let end = put_rewritten(answer, output, 2 < mode, begin, kept);
+    let after = keep_work(work, end, kept);
+    keep_output(output, written(answer), after, kept)
+}
+
+// Keeps the answer of the cover query.
+fn keep_covers(
+    address: u32,
+    len: u8,
+    table: &[u8],
+    work: &mut [u32],
+    at: usize,
+    kept: &mut [u8],
+) -> usize
+    requires { ⌜ at ≤ length (now kept) ⌝ }
+    requires { ⌜ 262144 ≤ length (now kept) ⌝ }
+    ensures { λ r. ⌜ Put (coverAnswer (now (table .entry)) address len (length (now (work .entry)))) (beginOf at) r (now (kept .entry)) (now (kept .exit)) ⌝ }
+{
+    rooms::words::fill(work, FILLED_WORD);
+    let answer = covers(table, address, len as u32, work);
+    let begin = room_for(kept, at);
+    let end = put_covers(answer, begin, kept);
+    keep_work(work, end, kept)
+}
+
+// Keeps the answer of a lookup.
+fn keep_lookup(address: u32, table: &[u8], at: usize, kept: &mut [u8]) -> usize
+    requires { ⌜ at ≤ length (now kept) ⌝ }
+    requires { ⌜ 262144 ≤ length (now kept) ⌝ }
+    ensures { λ r. ⌜ Put (lookupAnswer (now (table .entry)) address) (beginOf at) r (now (kept .entry)) (now (kept .exit)) ⌝ }
+{
+    let begin = room_for(kept, at);
+    put_lookup(lookup(table, address), begin, kept)
+}
+
+// Keeps the answer of addresses held.
+fn keep_held(table: &[u8], at: usize, kept: &mut [u8]) -> usize
+    requires { ⌜ at ≤ length (now kept) ⌝ }
+    requires { ⌜ 262144 ≤ length (now kept) ⌝ }
+    ensures { λ r. ⌜ Put (heldAnswer (now (table .entry))) (beginOf at) r (now (kept .entry)) (now (kept .exit)) ⌝ }
+{
+    let begin = room_for(kept, at);
+    put_held(addresses_held(table), begin, kept)
+}
+
+// Keeps the answer of a case: its first 16 bytes, its table, and the rooms of which it is lent as much as it says.
+pub fn keep_answer(
+    head: &[u8; 16],
+    table: &[u8],
+    output: &mut [u8],
+    work: &mut [u32],
+    at: usize,
+    kept: &mut [u8],
+) -> usize
+    requires { ⌜ 65535 ≡ length (now output) ⌝ }
+    requires { ⌜ 824480 ≡ length (now work) ⌝ }
+    requires { ⌜ wordsOf (now head) ≤ 824480 ⌝ }
+    requires { ⌜ at ≤ length (now kept) ⌝ }
+    requires { ⌜ 262144 ≤ length (now kept) ⌝ }
+    ensures { λ r. ⌜ Put (answerText (now (head .entry)) (now (table .entry))) (beginOf at) r (now (kept .entry)) (now (kept .exit)) ⌝ }
+{
+    let call = head[0];
+    let words = join4(head[8], head[9], head[10], head[11]) as usize;
+    if call == 0 {
+        let room = join2(head[12], head[13]);
+        return keep_rewritten(
+            head[1],
+            head[2],
+            table,
+            &mut output[..room],
+            &mut work[..words],
+            at,
+            kept,
+        );
+    }
+    let address = join4(head[4], head[5], head[6], head[7]);
+    if call == 1 {
+        return keep_covers(address, head[3], table, &mut work[..words], at, kept);
+    }
+    if call == 2 {
+        return keep_lookup(address, table, at, kept);
+    }
+    keep_held(table, at, kept)
+}

@@ -143,6 +143,10 @@ module _ (s : Bool) (t : List ℕ) (k : ℕ) (valid : checkReply s t ≡ gives k
   pub checked-lawful : Bytes t → Lawful s (routes t)
   checked-lawful bytes = accepted-table (records t) k s t bytes valid .0
 
+  -- They are at most 1,024.
+  pub checked-few : Bytes t → k ≤ 1024
+  checked-few bytes = omega (arith, checked-count, checked-lawful bytes .few, length-routes t)
+
   -- Its records are those of the root.
   pub checked-node : Bytes t → Node t 0 (records t) 0 0
   checked-node bytes = root-node t (checked-lawful bytes .table) (hops-below s (checked-lawful bytes .hops))
@@ -151,6 +155,7 @@ module _ (s : Bool) (t : List ℕ) (k : ℕ) (valid : checkReply s t ≡ gives k
 pub ready : (mode : ℕ) (t : List ℕ) → Lawful (takesSet mode) (routes t) → Ready t mode
 ready mode t lawful =
     record {
+      few = omega (arith, lawful .few, length-routes t);
       node = root-node t (lawful .table) (hops-below (takesSet mode) (lawful .hops));
       bare = λ e. rw (root-run t) (all-widen spare (λ r h. h) (set-hops (rw e at (lawful .hops))));
     }

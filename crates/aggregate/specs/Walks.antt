@@ -21,8 +21,9 @@ use Rattle.calls.specs.declared.Rewritten.{Rewritten}
 abbrev pub whole : List ℕ → List Route
 whole t = run t 0 (records t)
 
--- The table keeps the rules of the mode's tables: its records are those of the root, and a set's hops are 0.
+-- The table keeps the rules of the mode's tables: it has at most 1,024 records, they are those of the root, and a set's hops are 0.
 pub record Ready (t : List ℕ) (mode : ℕ) : Type 0 where
+  pub few : records t ≤ 1024
   pub node : Node t 0 (records t) 0 0
   pub bare : takesSet mode ≡ true → All (λ r. r .hop ≡ 0) (whole t)
 

@@ -187,7 +187,7 @@ fn covers_in(table: &[u8], address: u32, len: u32, room: usize) -> Covers
                 };
             }
             let n = len as usize;
-            if covers_in_aggregate(table, 0, records, 0, 0, masked(address, n), n) {
+            if covers_in_aggregate(table, 0, records as u16, 0, 0, masked(address, n), n) {
                 Covers::Covered
             } else {
                 Covers::Uncovered

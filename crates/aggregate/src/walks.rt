@@ -19,7 +19,7 @@ pub fn prepare(table: &[u8], mode: u32, fill: u8, work: &mut [u32]) -> usize
     requires { ⌜ 160 * nodesBelow 7 0 (whole (now table)) ≤ length (now work) ⌝ }
     ensures { λ r. ⌜ Prepared (now (table .entry)) mode fill r (now (work .exit)) ⌝ }
 {
-    let records = table.len() / 8;
+    let records = (table.len() / 8) as u16;
     let size = work.len();
     if mode == 1 {
         let root = collect_coverage(table, 0, records, 0, 0, work, size);
@@ -40,7 +40,7 @@ pub fn write(table: &[u8], mode: u32, fill: u8, work: &[u32], top: usize, out: &
     requires { ⌜ Prepared (now table) mode fill top (now work) ⌝ }
     ensures { λ r. ⌜ Wrote (wideResult (now (table .entry)) mode fill) 0 r (now (out .entry)) (now (out .exit)) ⌝ }
 {
-    let records = table.len() / 8;
+    let records = (table.len() / 8) as u16;
     if mode == 1 {
         let root = aggregate_set(table, 0, records, 0, 0, false, work, top, out);
         return root.count;

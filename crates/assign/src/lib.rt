@@ -192,7 +192,6 @@ pub fn leaf_slots(covering: &[u8; 31], hops: &[u8; 31], fill: u8) -> u32
 // Writes one record, if it is by a hop and not by the one above, and says how many it wrote.
 pub fn emit(out: &mut [u8], addr: u64, len: usize, hop: u8, above: u8) -> usize
     requires { ⌜ (addr < 2 ^ wide) × (len < 256) ⌝ }
-    ensures { λ r. ⌜ r ≤ 1 ⌝ }
     ensures { λ r. ⌜ Wrote (entryOver addr len hop above) 0 r (now (out .entry)) (now (out .exit)) ⌝ }
 {
     if hop == above {

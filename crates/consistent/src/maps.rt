@@ -23,7 +23,7 @@ ghost use Rattle.nodes.specs.Output.{Wrote};
 ghost use Rattle.gather.specs.Gathered.{overAt};
 
 // The entries, with position b's if it has a record, by `hop`, and another hop covers it from above.
-fn with_entry(entries: u32, b: u32, first: usize, end: usize, hop: u8, over: u8) -> u32
+fn with_entry(entries: u32, b: u32, first: u16, end: u16, hop: u8, over: u8) -> u32
     requires { ⌜ b < 31 ⌝ }
     ensures { λ r. ⌜ ((i : ℕ) → i < 31 → bit r i ≡ ((eqb i b && (ltb first end && not (eqb hop over))) || bit entries i)) ⌝ }
 {
@@ -38,8 +38,8 @@ fn with_entry(entries: u32, b: u32, first: usize, end: usize, hop: u8, over: u8)
 // The positions of a node with a record whose hop is not the one that covers them from above.
 fn entries_of(
     present: u32,
-    first: &[usize; 63],
-    end: &[usize; 63],
+    first: &[u16; 63],
+    end: &[u16; 63],
     hops: &[u8; 31],
     inherited: u8,
 ) -> u32
@@ -65,8 +65,8 @@ fn entries_of(
 // Writes the kept entries of a node and all below it, where `inherited` covers it from above, and says how many they are.
 pub fn aggregate_consistent_map(
     table: &[u8],
-    lo: usize,
-    hi: usize,
+    lo: u16,
+    hi: u16,
     depth: usize,
     key: u64,
     inherited: u8,
@@ -76,8 +76,8 @@ pub fn aggregate_consistent_map(
     requires { ⌜ inherited ≤ noHop ⌝ }
     ensures { λ r. ⌜ Wrote (walk (consistentMapOut wide (run (now (table .entry)) lo hi)) (consistentMapNext wide (run (now (table .entry)) lo hi)) (wide - depth) key (hopOf inherited)) 0 r (now (out .entry)) (now (out .exit)) ⌝ }
 {
-    let mut first = [0usize; 63];
-    let mut end = [0usize; 63];
+    let mut first = [0u16; 63];
+    let mut end = [0u16; 63];
     let g = gather_run(table, lo, hi, depth, key, &mut first, &mut end);
     let hops = covering_hops(table, g.present, &first, &end, inherited);
     let entries = entries_of(g.present, &first, &end, &hops, inherited);

@@ -21,8 +21,8 @@ ghost use Rattle.nodes.specs.Output.{Wrote};
 // Writes the members of a node and all below it that have no member above them, where the node has none, and says how many they are: mode 2.
 pub fn aggregate_consistent_set(
     table: &[u8],
-    lo: usize,
-    hi: usize,
+    lo: u16,
+    hi: u16,
     depth: usize,
     key: u64,
     out: &mut [u8],
@@ -31,8 +31,8 @@ pub fn aggregate_consistent_set(
     requires { ⌜ All (λ r. r .hop ≡ 0) (run (now table) lo hi) ⌝ }
     ensures { λ r. ⌜ Wrote (walk (consistentSetOut wide (run (now (table .entry)) lo hi)) (consistentSetNext wide (run (now (table .entry)) lo hi)) (wide - depth) key false) 0 r (now (out .entry)) (now (out .exit)) ⌝ }
 {
-    let mut first = [0usize; 63];
-    let mut end = [0usize; 63];
+    let mut first = [0u16; 63];
+    let mut end = [0u16; 63];
     let g = gather_run(table, lo, hi, depth, key, &mut first, &mut end);
     let hops = [0u8; 31];
     let members = member_coverage(g.present);

@@ -45,13 +45,13 @@ fn child_cover_mask_for_bit(b: usize) -> u32
 }
 
 // Do the node's members cover position b? Only the slots below it are asked, and none below a member.
-pub fn bit_covered(table: &[u8], lo: usize, hi: usize, depth: usize, key: u64, b: usize) -> bool
+pub fn bit_covered(table: &[u8], lo: u16, hi: u16, depth: usize, key: u64, b: usize) -> bool
     requires { ⌜ Node (now table) lo hi depth key ⌝ }
     requires { ⌜ b < 31 ⌝ }
     ensures { λ r. ⌜ ((l j : ℕ) → l ≤ 4 → j < 2 ^ l → b ≡ position l j → r ≡ throughout (held wide (run (now (table .entry)) lo hi)) (sizeAt (slotSize depth) l) (placeAt (slotSize depth) key l j)) ⌝ }
 {
-    let mut first = [0usize; 63];
-    let mut end = [0usize; 63];
+    let mut first = [0u16; 63];
+    let mut end = [0u16; 63];
     let g = gather_run(table, lo, hi, depth, key, &mut first, &mut end);
     if has_bit(g.present, b as u32) {
         return true;
@@ -71,7 +71,7 @@ pub fn bit_covered(table: &[u8], lo: usize, hi: usize, depth: usize, key: u64, b
 }
 
 // Does a record stand at position b or above it in the node?
-fn record_over(first: &[usize; 63], end: &[usize; 63], b: usize) -> bool
+fn record_over(first: &[u16; 63], end: &[u16; 63], b: usize) -> bool
     requires { ⌜ b < 31 ⌝ }
     ensures { λ r. ⌜ ((l j : ℕ) → l ≤ 4 → j < 2 ^ l → b ≡ position l j → r ≡ recordOver (now (first .entry)) (now (end .entry)) l j) ⌝ }
 {
@@ -88,8 +88,8 @@ fn record_over(first: &[usize; 63], end: &[usize; 63], b: usize) -> bool
 // Do the node's members cover every address of the prefix `query`, of length `len`, which lies in the node?
 pub fn covers_in_aggregate(
     table: &[u8],
-    lo: usize,
-    hi: usize,
+    lo: u16,
+    hi: u16,
     depth: usize,
     key: u64,
     query: u64,
@@ -101,8 +101,8 @@ pub fn covers_in_aggregate(
     requires { ⌜ (key ≤ query) × (query < key + 2 ^ (wide - depth)) ⌝ }
     ensures { λ r. ⌜ r ≡ throughout (held wide (run (now (table .entry)) lo hi)) (wide - len) query ⌝ }
 {
-    let mut first = [0usize; 63];
-    let mut end = [0usize; 63];
+    let mut first = [0u16; 63];
+    let mut end = [0u16; 63];
     gather_run(table, lo, hi, depth, key, &mut first, &mut end);
     let b = heap_index(query, level_of(len, depth), depth, key);
     if b < 31 {

@@ -53,7 +53,7 @@ pub fn heap_index(addr: u64, level: usize, depth: usize, key: u64) -> usize
 }
 
 // Where the records of a place begin, once record i is one of them.
-pub fn first_of(first: usize, end: usize, i: usize) -> usize
+pub fn first_of(first: u16, end: u16, i: u16) -> u16
     ensures { λ r. ⌜ r ≡ firstOf first end i ⌝ }
 {
     if first < end { first } else { i }
@@ -134,12 +134,12 @@ pub struct Gathering {
 // The records of a slot follow each other, so the place is found once for all of them.
 pub fn gather_run(
     table: &[u8],
-    lo: usize,
-    hi: usize,
+    lo: u16,
+    hi: u16,
     depth: usize,
     key: u64,
-    first: &mut [usize; 63],
-    end: &mut [usize; 63],
+    first: &mut [u16; 63],
+    end: &mut [u16; 63],
 ) -> Gathering
     requires { ⌜ Node (now table) lo hi depth key ⌝ }
     requires { ⌜ (length (now first) ≡ 63) × (length (now end) ≡ 63) ⌝ }
@@ -149,13 +149,14 @@ pub fn gather_run(
 {
     let mut present: u32 = 0;
     let mut occupied: u32 = 0;
-    let mut i = lo;
-    while i < hi {
+    let upto = hi as usize;
+    let mut i = lo as usize;
+    while i < upto {
         let level = level_of(size_at(table, i), depth);
         let b = heap_index(wide_at(table, i), level, depth, key);
-        let stop = place_end(table, i, hi, b, depth, key);
-        first[b] = first_of(first[b], end[b], i);
-        end[b] = stop;
+        let stop = place_end(table, i, upto, b, depth, key);
+        first[b] = first_of(first[b], end[b], i as u16);
+        end[b] = stop as u16;
         present = marked(present, b);
         occupied = with_slot(occupied, b);
         i = stop;
@@ -172,24 +173,19 @@ pub fn over_at(hops: &[u8; 31], b: usize, above: u8) -> u8
 }
 
 // The hop of the first of the records first..end, or the one above where there is none.
-pub fn value_at(table: &[u8], first: usize, end: usize, over: u8) -> u8
+pub fn value_at(table: &[u8], first: u16, end: u16, over: u8) -> u8
     requires { ⌜ end ≤ records (now table) ⌝ }
     ensures { λ r. ⌜ r ≡ valueOf (now (table .entry)) first end over ⌝ }
 {
     if first < end {
-        hop_at(table, first)
+        hop_at(table, first as usize)
     } else {
         over
     }
 }
 
 // The hop that covers each position of a node, its own record included; `noHop` for none.
-pub fn covering_values(
-    table: &[u8],
-    first: &[usize; 63],
-    end: &[usize; 63],
-    inherited: u8,
-) -> [u8; 31]
+pub fn covering_values(table: &[u8], first: &[u16; 63], end: &[u16; 63], inherited: u8) -> [u8; 31]
     requires { ⌜ ((b : ℕ) → b < 63 → getD (now end) b 0 ≤ records (now table)) ⌝ }
     ensures { λ r. ⌜ ((l j : ℕ) → l ≤ 4 → j < 2 ^ l → getD r (position l j) 0 ≡ coveringAt (now (table .entry)) (now (first .entry)) (now (end .entry)) inherited l j) ⌝ }
 {
@@ -206,8 +202,8 @@ pub fn covering_values(
 pub fn covering_hops(
     table: &[u8],
     present: u32,
-    first: &[usize; 63],
-    end: &[usize; 63],
+    first: &[u16; 63],
+    end: &[u16; 63],
     inherited: u8,
 ) -> [u8; 31]
     requires { ⌜ ((b : ℕ) → b < 63 → getD (now end) b 0 ≤ records (now table)) ⌝ }

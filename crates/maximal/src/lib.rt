@@ -38,8 +38,8 @@ pub struct Covered {
 // The first walk of mode 1: lays the coverage of a node and of those below it, down to a member, into the room, from `top` downward.
 pub fn collect_coverage(
     table: &[u8],
-    lo: usize,
-    hi: usize,
+    lo: u16,
+    hi: u16,
     depth: usize,
     key: u64,
     work: &mut [u32],
@@ -50,8 +50,8 @@ pub fn collect_coverage(
     ensures { λ r. ⌜ IsCoverage (slotSize depth) key (run (now (table .entry)) lo hi) (r .coverage) ⌝ }
     ensures { λ r. ⌜ LaidBy uncovered coverageWord (nodesDeep depth) key (run (now (table .entry)) lo hi) top (r .top) (now (work .entry)) (now (work .exit)) ⌝ }
 {
-    let mut first = [0usize; 63];
-    let mut end = [0usize; 63];
+    let mut first = [0u16; 63];
+    let mut end = [0u16; 63];
     let g = gather_run(table, lo, hi, depth, key, &mut first, &mut end);
     let under = member_coverage(g.present).children_under_member;
     let walked = open_slots(g.occupied, under);
@@ -112,8 +112,8 @@ fn is_absorbed(above: bool, pushed: u32, c: usize) -> bool
 // the node is covered.
 pub fn aggregate_set(
     table: &[u8],
-    lo: usize,
-    hi: usize,
+    lo: u16,
+    hi: u16,
     depth: usize,
     key: u64,
     above: bool,
@@ -126,8 +126,8 @@ pub fn aggregate_set(
     ensures { λ r. ⌜ ((ws : List ℕ) → BlockBy uncovered coverageWord (nodesDeep depth) key (run (now (table .entry)) lo hi) ws → Begins ws top (now (work .entry)) → r .top ≡ top + length ws) ⌝ }
     ensures { λ r. ⌜ Wrote (walk (maximalOut wide (held wide (run (now (table .entry)) lo hi))) (maximalNext (held wide (run (now (table .entry)) lo hi))) (wide - depth) key above) 0 (r .count) (now (out .entry)) (now (out .exit)) ⌝ }
 {
-    let mut first = [0usize; 63];
-    let mut end = [0usize; 63];
+    let mut first = [0u16; 63];
+    let mut end = [0u16; 63];
     let g = gather_run(table, lo, hi, depth, key, &mut first, &mut end);
     let hops = [0u8; 31];
     let walked = open_slots(g.occupied, member_coverage(g.present).children_under_member);

@@ -37,8 +37,8 @@ pub struct Collected {
 // `fill` is the hop of what has no route; `noHop` for none.
 pub fn collect_sets(
     table: &[u8],
-    lo: usize,
-    hi: usize,
+    lo: u16,
+    hi: u16,
     depth: usize,
     key: u64,
     inherited: u8,
@@ -52,8 +52,8 @@ pub fn collect_sets(
     ensures { λ r. ⌜ ShowsSet (r .set) (sets (answerIn (run (now (table .entry)) lo hi) (hopOf inherited) (hopOf fill)) (wide - depth) key) ⌝ }
     ensures { λ r. ⌜ Laid (setWords (answerIn (run (now (table .entry)) lo hi) (hopOf inherited) (hopOf fill))) (nodesDeep depth) key (run (now (table .entry)) lo hi) top (r .top) (now (work .entry)) (now (work .exit)) ⌝ }
 {
-    let mut first = [0usize; 63];
-    let mut end = [0usize; 63];
+    let mut first = [0u16; 63];
+    let mut end = [0u16; 63];
     let g = gather_run(table, lo, hi, depth, key, &mut first, &mut end);
     let covering = covering_hops(table, g.present, &first, &end, inherited);
     let mut slots = leaf_sets(&covering, fill);
@@ -97,8 +97,8 @@ pub struct Walked {
 // have a record, at which an entry begins or that have one of their own.
 pub fn rewrite(
     table: &[u8],
-    lo: usize,
-    hi: usize,
+    lo: u16,
+    hi: u16,
     depth: usize,
     key: u64,
     inherited: u8,
@@ -114,8 +114,8 @@ pub fn rewrite(
     ensures { λ r. ⌜ ((ws : List ℕ) → Block (setWords (answerIn (run (now (table .entry)) lo hi) (hopOf inherited) (hopOf fill))) (nodesDeep depth) key (run (now (table .entry)) lo hi) ws → Begins ws top (now (work .entry)) → r .top ≡ top + length ws) ⌝ }
     ensures { λ r. ⌜ Wrote (ortc Rattle.theory.specs.Results.smallest wide (answerIn (run (now (table .entry)) lo hi) (hopOf inherited) (hopOf fill)) (wide - depth) key (hopOf above)) 0 (r .count) (now (out .entry)) (now (out .exit)) ⌝ }
 {
-    let mut first = [0usize; 63];
-    let mut end = [0usize; 63];
+    let mut first = [0u16; 63];
+    let mut end = [0u16; 63];
     let g = gather_run(table, lo, hi, depth, key, &mut first, &mut end);
     let covering = covering_hops(table, g.present, &first, &end, inherited);
     let node = assign_nodes(work, top, above);
@@ -153,8 +153,8 @@ pub fn rewrite(
 // A slot of the second walk: its node, where it has records, or else a region where all addresses have one answer.
 fn rewrite_child(
     table: &[u8],
-    lo: usize,
-    hi: usize,
+    lo: u16,
+    hi: u16,
     depth: usize,
     key: u64,
     covering: u8,

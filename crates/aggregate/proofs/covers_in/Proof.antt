@@ -13,7 +13,7 @@ use Rattle.refusals.specs.Rules.{gives}
 use Rattle.records.specs.Wire.{routes, Bytes}
 use Rattle.nodes.specs.Node.{wide, spare, run}
 use Rattle.calls.specs.Covering.{coverReply}
-use Rattle.aggregate.proofs.CallLaws.{checked-count, checked-lawful, checked-node, query-table, query-long, query-room, query-answered, query-aligned, query-within, covered-wide}
+use Rattle.aggregate.proofs.CallLaws.{checked-count, checked-lawful, checked-few, checked-node, query-table, query-long, query-room, query-answered, query-aligned, query-within, covered-wide}
 use Rattle.aggregate.proofs.covers_in.Statement.{statement}
 use Rattle.aggregate.proofs.covers_in.Tie as tie
 
@@ -36,6 +36,12 @@ returns-2 : tie.Need-returns-2
 returns-2 c =
     let short = c .if2 .taken in
     sym (query-room _ _ _ _ (sym (c .before .before .before .before .before .before .check-table .ensures) ∙ ap checkedSays (c .before .before .before .before .records .given .1)) (c .before .before .if1 .left) (omega (arith, c .before .count-nodes .ensures)))
+
+cast-covers-in-aggregate : tie.Need-cast-covers-in-aggregate
+cast-covers-in-aggregate c =
+    let valid = sym (c .before .before .before .before .before .before .check-table .ensures) ∙ ap checkedSays (c .before .before .before .before .records .given .1) in
+    let few = checked-few true _ _ valid (λ k. omega (arith, c .before .before .before .before .before .before .before .shared-slice-known .given k)) in
+    search needs
 
 masked-requires : tie.Need-masked-requires
 masked-requires c κs = search needs
@@ -87,6 +93,7 @@ covers-in-spec =
     returns
     count-nodes-requires
     returns-2
+    cast-covers-in-aggregate
     masked-requires
     covers-in-aggregate-requires
     returns-3

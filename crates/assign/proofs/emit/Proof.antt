@@ -1,6 +1,5 @@
 -- `assign::emit` meets its contract. Assumes nothing.
 use borrow.Author.Needs.{needs}
-use native.Mathlib.Omega.{arith}
 use borrow.Author.Tests.{eq-eqb, ne-eqb, lt-ltb, le-ltb}
 use Rattle.nodes.proofs.OutputLaws.{wrote-none}
 use Rattle.positions.specs.Runs.{noHop}
@@ -8,7 +7,7 @@ use Rattle.assign.proofs.emit.Statement.{statement}
 use Rattle.assign.proofs.emit.Tie as tie
 
 returns : tie.Need-returns
-returns c = (omega arith, rw (eq-eqb (c .before .before .args .hop) (c .before .before .args .above) (c .if1 .taken)) (wrote-none 0 _))
+returns c = rw (eq-eqb (c .before .before .args .hop) (c .before .before .args .above) (c .if1 .taken)) (wrote-none 0 _)
 
 put-requires : tie.Need-put-requires
 put-requires c κs = search needs
@@ -19,12 +18,12 @@ same-length c = search needs
 returns-2 : tie.Need-returns-2
 returns-2 c =
     let a = c .before .before .before .before .before .before .before .args in
-    (omega arith, rw (ne-eqb (a .hop) (a .above) (c .before .before .before .before .before .if1 .left), lt-ltb (a .hop) noHop (c .before .before .before .before .if2 .taken)) (c .before .before .put .ensures))
+    rw (ne-eqb (a .hop) (a .above) (c .before .before .before .before .before .if1 .left), lt-ltb (a .hop) noHop (c .before .before .before .before .if2 .taken)) (c .before .before .put .ensures)
 
 returns-3 : tie.Need-returns-3
 returns-3 c =
     let a = c .before .before .before .args in
-    (omega arith, rw (ne-eqb (a .hop) (a .above) (c .before .if1 .left), le-ltb (a .hop) noHop (c .if2 .left)) (wrote-none 0 _))
+    rw (ne-eqb (a .hop) (a .above) (c .before .if1 .left), le-ltb (a .hop) noHop (c .if2 .left)) (wrote-none 0 _)
 
 pub emit-spec : {M : Type 1} → statement M
 emit-spec = tie.close (tie.spec returns put-requires same-length returns-2 returns-3)

@@ -16,11 +16,11 @@ use Rattle.gather.proofs.gather_run.Statement.{statement}
 use Rattle.gather.proofs.gather_run.Tie as tie
 
 abbrev Inv-loop : tie.InvT-loop
-Inv-loop table lo hi depth key first₀ end₀ present₀ occupied₀ i₀ first end present occupied i =
+Inv-loop table lo hi depth key first₀ end₀ present₀ occupied₀ upto i₀ first end present occupied i =
     (lo ≤ i) × (i ≤ hi) × Passed table lo i depth key first end present × Slots first end occupied
 
 abbrev μ-loop : tie.MeasureT-loop
-μ-loop table lo hi depth key first₀ end₀ present₀ occupied₀ i₀ first end present occupied i = hi - i
+μ-loop table lo hi depth key first₀ end₀ present₀ occupied₀ upto i₀ first end present occupied i = hi - i
 
 loop-holds : tie.Need-loop-holds Inv-loop μ-loop
 loop-holds c =
@@ -95,6 +95,9 @@ mul-first-of-2 c = omega (arith, is-small (c .before .before))
 element-copy-out-first-of-2 : tie.Need-element-copy-out-first-of-2 Inv-loop μ-loop
 element-copy-out-first-of-2 c = is-small (c .before .before)
 
+cast-first-of : tie.Need-cast-first-of Inv-loop μ-loop
+cast-first-of c = omega (arith, c .before .before .before .before .before .before .before .loop-test .taken, c .before .before .before .before .before .before .before .before .before .before .good .1 .1 .0)
+
 first-of-requires : tie.Need-first-of-requires Inv-loop μ-loop
 first-of-requires c κs = search needs
 
@@ -103,6 +106,9 @@ mul-first c = omega (arith, is-small (c .before .before .before .before))
 
 element-write-first : tie.Need-element-write-first Inv-loop μ-loop
 element-write-first c = is-small (c .before .before .before .before)
+
+cast-end : tie.Need-cast-end Inv-loop μ-loop
+cast-end c = omega (arith, c .before .before .before .place-end .ensures .0, c .before .before .before .before .before .before .before .before .before .before .before .good .1 .1 .0)
 
 mul-end : tie.Need-mul-end Inv-loop μ-loop
 mul-end c = omega (arith, is-small (c .before .before .before .before))
@@ -173,9 +179,11 @@ gather-run-spec =
     element-copy-out-first-of
     mul-first-of-2
     element-copy-out-first-of-2
+    cast-first-of
     first-of-requires
     mul-first
     element-write-first
+    cast-end
     mul-end
     element-write-end
     marked-requires

@@ -5,6 +5,9 @@ use Rattle.aggregate.proofs.WalkLaws.{fill-le, laid-stored}
 use Rattle.aggregate.proofs.walks.prepare.Statement.{statement}
 use Rattle.aggregate.proofs.walks.prepare.Tie as tie
 
+cast-records : tie.Need-cast-records
+cast-records c = search needs
+
 collect-coverage-requires : tie.Need-collect-coverage-requires
 collect-coverage-requires c κs = search needs
 
@@ -40,6 +43,7 @@ pub prepare-spec : {M : Type 1} → statement M
 prepare-spec =
     tie.close
     (tie.spec
+    cast-records
     collect-coverage-requires
     same-length
     returns

@@ -7,6 +7,9 @@ use Rattle.aggregate.proofs.WalkLaws.{fill-le, set-is, consistent-set-i
 use Rattle.aggregate.proofs.walks.write.Statement.{statement}
 use Rattle.aggregate.proofs.walks.write.Tie as tie
 
+cast-records : tie.Need-cast-records
+cast-records c = search needs
+
 aggregate-set-requires : tie.Need-aggregate-set-requires
 aggregate-set-requires c κs =
     let pre = c .before .before .before .before .before .pre in
@@ -65,6 +68,7 @@ pub write-spec : {M : Type 1} → statement M
 write-spec =
     tie.close
     (tie.spec
+    cast-records
     aggregate-set-requires
     same-length
     returns

@@ -162,10 +162,9 @@ started t c =
 
 rewrite-add-n : (t : ℕ) → rewrite-lts.Need-add-n (rewrite-claims t) (rewrite-at t) rewrite.Post Inv-loop μ-loop
 rewrite-add-n t c =
-    let o = c .before .before .before .before .before .before .before .before .loop .inv .0 in
     let few = begun-few (started t c) in
-    let most = opened-most o in
-    omega (arith, o .node .high, c .before .before .before .before .before .before .before .before .before .before .before .before .before .before .before .before .before .before .before .before .before .before .before .before .before .before .good .0)
+    let most = opened-most (c .before .before .before .before .before .before .before .before .loop .inv .0) in
+    omega (arith, c .before .before .before .before .before .before .before .before .before .before .before .before .before .before .before .before .before .before .before .before .before .before .before .before .before .before .good)
 
 rewrite-past-requires-2 : (t : ℕ) → rewrite-lts.Need-past-requires-2 (rewrite-claims t) (rewrite-at t) rewrite.Post Inv-loop μ-loop
 rewrite-past-requires-2 t c κs = search needs
@@ -233,11 +232,10 @@ rewrite-rewrite-child-requires t c κs =
 
 rewrite-add-n-2 : (t : ℕ) → rewrite-lts.Need-add-n-2 (rewrite-claims t) (rewrite-at t) rewrite.Post Inv-loop μ-loop
 rewrite-add-n-2 t c =
-    let o = c .before .before .before .before .before .before .before .before .before .before .before .before .before .before .loop .inv .0 in
     let few = begun-few (started t (c .before .before .before .before .before .before)) in
     let own = wrote-count (rw (c .before .before .before .before .before .before .before .before .before .before .before .before .slot-key .ensures) at (c .before .before .before .rewrite-child .ensures .1 .1)) in
-    let most = opened-most o in
-    omega (arith, o .node .high, c .before .before .before .before .before .before .before .before .before .before .before .before .before .before .before .before .before .before .before .before .before .before .before .before .before .before .before .before .before .before .before .before .good .0)
+    let most = opened-most (c .before .before .before .before .before .before .before .before .before .before .before .before .before .before .loop .inv .0) in
+    omega (arith, c .before .before .before .before .before .before .before .before .before .before .before .before .before .before .before .before .before .before .before .before .before .before .before .before .before .before .before .before .before .before .before .before .good)
 
 rewrite-add-next-bit : (t : ℕ) → rewrite-lts.Need-add-next-bit (rewrite-claims t) (rewrite-at t) rewrite.Post Inv-loop μ-loop
 rewrite-add-next-bit t c = search needs
@@ -303,7 +301,7 @@ child-returns-2 t c =
     let e =
     leaf-rewrite (p .table .now) (p .lo) (p .hi) (p .depth) (p .key) (p .covering) (p .fill) (v .result) (p .above) none (c .before .before .before .before .before .before .before .before .before .pre .1 .1 .0 .0)
     (v .ensures .1 (low .0) (low .1 .0)) (low .1 .1) (v .ensures .0) in
-    (λ le. refl, (λ has. absurd (omega arith), rw e (c .before .before .emit .ensures .1)))
+    (λ le. refl, (λ has. absurd (omega arith), rw e (c .before .before .emit .ensures)))
 
 pub +rewrite+rewrite-child-spec : {M : Type 1} → statement M
 +rewrite+rewrite-child-spec =

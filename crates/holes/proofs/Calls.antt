@@ -41,7 +41,7 @@ use Rattle.holes.proofs.Most.{holes-sure}
 use Rattle.holes.proofs.Replies.{accepted-run, whole-holes}
 
 -- Answers that say the same are the same.
-listed-same : (a b : Listed) → listedSays a ≡ listedSays b → a ≡ b
+pub listed-same : (a b : Listed) → listedSays a ≡ listedSays b → a ≡ b
 listed-same (Records m) (Records n) e = cc
 listed-same (Records m) (Refused n i) e = let z : _≡_ {A = ℕ} 0 1 = cc in absurd (omega arith)
 listed-same (Refused n i) (Records m) e = let z : _≡_ {A = ℕ} 0 1 = cc in absurd (omega arith)

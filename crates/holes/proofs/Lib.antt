@@ -8,3 +8,4 @@ pub mod Holes
 pub mod Calls
 pub mod Rewritten
 pub mod Empty
+pub mod Held

@@ -1,7 +1,7 @@
 /*
  * Suovvamet for C: a table of IPv4 routes made shorter without changing where any routed address is sent.
  *
- * What is said here of the five functions of the library is proved of them for every input (crates/suovvamet; docs/C.md has the theorems' names
+ * What is said here of the functions of the library is proved of them for every input (crates/suovvamet; docs/C.md has the theorems' names
  * and how to build and link). They take no memory of their own but stack, keep nothing between calls and never fail to return. The header is
  * the same for every processor (docs/CORES.md).
  *
@@ -38,7 +38,7 @@ extern "C" {
 #endif
 
 /* One more whenever something that is declared or promised here changes. */
-#define SUOVVAMET_VERSION 2
+#define SUOVVAMET_VERSION 3
 
 /* The refusals, in the order in which they are checked, but that 5 to 8 go record by record: the first bad record, its lowest number. */
 enum suovvamet_refusal {
@@ -53,7 +53,7 @@ enum suovvamet_refusal {
     SUOVVAMET_ORDER = 8,          /* a record is not strictly after the one before it */
     SUOVVAMET_QUERY_LENGTH = 9,   /* the cover query's length is above 32 */
     SUOVVAMET_WORK_ROOM = 10,     /* the work room has fewer than 160 words for each node of the table */
-    SUOVVAMET_OUTPUT = 11         /* the output has fewer than 8 bytes for each record of the result */
+    SUOVVAMET_OUTPUT = 11         /* the output has fewer than 8 bytes for each record of the result or the list */
 };
 
 /* The modes of a rewrite. The first two take a set, the others a map. */
@@ -72,6 +72,9 @@ enum suovvamet_mode {
  */
 #define SUOVVAMET_MOST_WORK 824480u /* words: 160 for each of 5,153 nodes */
 #define SUOVVAMET_MOST_OUTPUT 8200u /* bytes: 8 for each of 1,025 records */
+
+/* An output for every list of what has no route: of a table of n records it has at most 21 * n + 1,024 prefixes. */
+#define SUOVVAMET_MOST_UNROUTED 180224u /* bytes: 8 for each of 22,528 prefixes */
 
 /*
  * Rewrites the table in a mode: the records of the mode's result stand in the output from its start, *count is their number and *change is
@@ -104,6 +107,14 @@ uint32_t suovvamet_addresses_held(const uint8_t *table, uint64_t table_length, u
  */
 uint32_t suovvamet_work_words(const uint8_t *table, uint64_t table_length, uint32_t is_set, uint64_t *words, uint64_t *index);
 
+/*
+ * Lists what has no route in a map: the widest prefixes none of whose addresses has one, as records with hop 0 in the order of a table, in the
+ * output from its start; *count is their number. The bytes of the output after these records stay as they were, and after a refusal all of
+ * them. Refusals 3 to 8 and 11.
+ */
+uint32_t suovvamet_unrouted(const uint8_t *table, uint64_t table_length, uint8_t *output, uint64_t output_length, uint64_t *count,
+                            uint64_t *index);
+
 /* A refusal in words, for a person to read. It is C, no function of the library, and proved by nothing. */
 static inline const char *suovvamet_refusal_text(uint32_t refusal)
 {
@@ -119,7 +130,7 @@ static inline const char *suovvamet_refusal_text(uint32_t refusal)
     case SUOVVAMET_ORDER: return "the record does not stand strictly after the one before it";
     case SUOVVAMET_QUERY_LENGTH: return "the query's length is above 32";
     case SUOVVAMET_WORK_ROOM: return "the work room is shorter than the table needs";
-    case SUOVVAMET_OUTPUT: return "the output is shorter than the result";
+    case SUOVVAMET_OUTPUT: return "the output is shorter than the result or the list";
     default: return "no call gives this number";
     }
 }

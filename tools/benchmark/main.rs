@@ -12,6 +12,9 @@ use std::process::{exit, Command, Stdio};
 
 type Route = (u32, u8, u8);
 
+/// What stands for the list of what has no route where `bench` is told a mode.
+const LIST: u8 = 0;
+
 /// A table, and what it is called.
 struct Table {
     name: &'static str,
@@ -94,7 +97,7 @@ fn input(times: u32, mode: u8, words: usize, routes: &[Route]) -> Vec<u8> {
     bytes.extend(&(words as u32).to_be_bytes()[1..]);
     for &(address, length, hop) in routes {
         bytes.extend(address.to_be_bytes());
-        bytes.extend([length, if mode <= 2 { 0 } else { hop }, 0, 0]);
+        bytes.extend([length, if mode == 1 || mode == 2 { 0 } else { hop }, 0, 0]);
     }
     bytes
 }
@@ -230,6 +233,30 @@ impl Bench {
         println!("|---|--:|--:|--:|--:|--:|--:|--:|{}", if counts { "--:|--:|--:|" } else { "" });
     }
 
+    /// The list of what has no route, which the crate does not have, in an output that is always enough.
+    fn lists(&self, tables: &[Table]) {
+        let counts = self.has_counts();
+        println!("\n| table | records | prefixes without a route | library, µs |{}", if counts { " instr. |" } else { "" });
+        println!("|---|--:|--:|--:|{}", if counts { "--:|" } else { "" });
+        for table in tables {
+            let answer = run(&self.ours, &input(1, LIST, 0, &table.routes)).0;
+            let Some(count) = answer.strip_prefix("unrouted ").and_then(|count| count.parse().ok()) else {
+                fail(&format!("{}: this library answers '{answer}'", table.name))
+            };
+            print!(
+                "| {} | {} | {} | {:.0} |",
+                table.name,
+                thousands_of(table.routes.len() as i64),
+                thousands_of(count),
+                self.time(&self.ours, LIST, 0, &table.routes)
+            );
+            if counts {
+                print!(" {} |", thousands(self.instructions(&self.ours, LIST, 0, &table.routes)));
+            }
+            println!();
+        }
+    }
+
     /// The instructions that clearing a word of the room takes: by a small table in the room that it needs and in the whole one.
     fn clearing(&self, yard: &[Route]) -> f64 {
         let (needed, whole) = (160 * nodes(yard), 824_480);
@@ -360,6 +387,8 @@ fn main() {
             bench.line(table.name, mode, &table.routes);
         }
     }
+    println!("\nThe list of what has no route, in an output of 180,224 bytes: the holes are not counted first.");
+    bench.lists(&tables);
     println!("\nHow it grows: scattered records of mixed lengths.\n");
     bench.head();
     for mode in [1, 3, 4] {

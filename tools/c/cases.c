@@ -6,9 +6,9 @@
 #include "platform.h"
 #include "suovvamet.h"
 
-enum { HEADER = 16, MOST_BYTES = 65535, EDGE = 64, SHIFTS = 4 };
+enum { HEADER = 16, MOST_BYTES = 65535, MOST_LIST = 262144, EDGE = 64, SHIFTS = 4 };
 
-static uint8_t table_room[EDGE + SHIFTS + MOST_BYTES + EDGE], kept[sizeof table_room], output_room[sizeof table_room];
+static uint8_t table_room[EDGE + SHIFTS + MOST_BYTES + EDGE], kept[sizeof table_room], output_room[EDGE + SHIFTS + MOST_LIST + EDGE];
 static uint32_t work_room[EDGE + SHIFTS + SUOVVAMET_MOST_WORK + EDGE];
 
 /* Where the rooms of this case begin. */
@@ -130,42 +130,60 @@ static void promise_words(size_t length, int is_set, size_t words, uint32_t refu
         promise(words >= needed.value, "more words needed than were enough");
 }
 
+/* ---- The output: its bytes and those round it before a call, its records, and what stays as it was. */
+static void fill_output(size_t room)
+{
+    size_t all = (size_t)(output - output_room) + room + EDGE;
+    for (size_t i = 0; i < all; i++)
+        output_room[i] = pattern(i);
+}
+
+static void print_records(size_t count, int hops)
+{
+    for (size_t i = 0; i < count; i++) {
+        const uint8_t *record = output + 8 * i;
+        for (int octet = 0; octet < 4; octet++) {
+            print_number(record[octet]);
+            print(octet < 3 ? "." : "/");
+        }
+        print_number(record[4]);
+        if (hops) {
+            print(" ");
+            print_number(record[5]);
+        } else
+            promise(record[5] == 0, " and a hop");
+        print(record[6] == 0 && record[7] == 0 ? "\n" : " and bytes that are not zero\n");
+    }
+}
+
+static void promise_output(size_t count, size_t room)
+{
+    int touched = 0;
+    const uint8_t *end = output + 8 * count;
+    size_t all = (size_t)(output - output_room) + room + EDGE;
+    for (size_t i = 0; i < all; i++)
+        if (output_room + i < output || output_room + i >= end)
+            touched |= output_room[i] != pattern(i);
+    promise(!touched, "output touched");
+}
+
 static void rewrite(size_t length, uint32_t mode, uint32_t default_hop, size_t room, size_t words)
 {
     struct guarded count = unset, index = unset, change_room = unset;
     int64_t *change = (int64_t *)&change_room.value;
-    size_t all = (size_t)(output - output_room) + room + EDGE;
-    for (size_t i = 0; i < all; i++)
-        output_room[i] = pattern(i);
+    fill_output(room);
     uint32_t refusal =
         suovvamet_rewrite(table, length, mode, default_hop, output, room, work, words, &count.value, change, &index.value);
     promise_guards(&count);
     promise_guards(&change_room);
     promise_words(length, mode <= SUOVVAMET_CONSISTENT_SET, words, refusal, index.value);
     if (answered(refusal, &index, count.value == 0 && *change == 0)) {
-        for (size_t i = 0; i < count.value; i++) {
-            const uint8_t *record = output + 8 * i;
-            for (int octet = 0; octet < 4; octet++) {
-                print_number(record[octet]);
-                print(octet < 3 ? "." : "/");
-            }
-            print_number(record[4]);
-            if (mode > SUOVVAMET_CONSISTENT_SET) {
-                print(" ");
-                print_number(record[5]);
-            }
-            print(record[6] == 0 && record[7] == 0 ? "\n" : " and bytes that are not zero\n");
-        }
+        print_records((size_t)count.value, mode > SUOVVAMET_CONSISTENT_SET);
         print(*change < 0 ? "change -" : "change ");
         print_number(*change < 0 ? 0 - (uint64_t)*change : (uint64_t)*change);
         print("\n");
     }
-    int touched = 0;
-    const uint8_t *end = output + 8 * (size_t)count.value;
-    for (size_t i = 0; i < all; i++)
-        if (output_room + i < output || output_room + i >= end)
-            touched |= output_room[i] != pattern(i);
-    promise(!touched, "output touched");
+    promise_output((size_t)count.value, room);
 }
 
 static void covers(size_t length, uint32_t address, uint32_t query, size_t words)
@@ -216,6 +234,21 @@ static void addresses_held(size_t length)
     }
 }
 
+static void unrouted(size_t length, size_t room)
+{
+    struct guarded count = unset, index = unset;
+    fill_output(room);
+    uint32_t refusal = suovvamet_unrouted(table, length, output, room, &count.value, &index.value);
+    promise_guards(&count);
+    if (answered(refusal, &index, count.value == 0)) {
+        print_records((size_t)count.value, 0);
+        print("unrouted ");
+        print_number(count.value);
+        print("\n");
+    }
+    promise_output((size_t)count.value, room);
+}
+
 /* ---- The cases. */
 static uint32_t number(const uint8_t *bytes, int size)
 {
@@ -241,9 +274,11 @@ static const char *run(void)
             table_room[i] = pattern(i);
         if (got < HEADER || platform_read(table, length) < length)
             return "case cut short";
-        if (header[0] > 3)
+        if (header[0] > 4)
             return "no such call";
         size_t words = number(header + 8, 4), room = number(header + 12, 2);
+        if (header[0] == 4 && words > MOST_LIST)
+            return "output too large";
         if (words > SUOVVAMET_MOST_WORK)
             return "work room too large";
         for (size_t i = 0; i < around; i++)
@@ -257,6 +292,7 @@ static const char *run(void)
         case 1: covers(length, number(header + 4, 4), header[3], words); break;
         case 2: lookup(length, number(header + 4, 4)); break;
         case 3: addresses_held(length); break;
+        case 4: unrouted(length, words); break;
         }
         uint32_t left = 0, round = 0;
         for (size_t i = 0; borrows && i < all; i++)

@@ -9,9 +9,13 @@ pub const REWRITE: u8 = 0;
 pub const COVER: u8 = 1;
 pub const LOOKUP: u8 = 2;
 pub const HELD: u8 = 3;
+pub const UNROUTED: u8 = 4;
 
 /// The most words of work room that a case asks for: 160 for each of 5,153 nodes.
 pub const MOST_WORK: u32 = 824_480;
+
+/// The most bytes of output that a list of what has no route asks for.
+pub const MOST_LIST: u32 = 262_144;
 
 #[derive(Clone)]
 pub struct Case {
@@ -20,6 +24,7 @@ pub struct Case {
     pub default: u8,
     pub query_length: u8,
     pub query: u32,
+    /// Words of work room; bytes of output for a list of what has no route.
     pub work: u32,
     pub room: u16,
     pub table: Vec<u8>,
@@ -56,8 +61,11 @@ impl Case {
             room: (word(12) >> 16) as u16,
             table: rest[..length].to_vec(),
         };
-        if case.call > HELD {
+        if case.call > UNROUTED {
             return Err("no such call");
+        }
+        if case.call == UNROUTED && case.work > MOST_LIST {
+            return Err("output too large");
         }
         if case.work > MOST_WORK {
             return Err("work room too large");
@@ -72,10 +80,19 @@ impl Case {
             REWRITE => format!("rewrite, mode {}", self.mode),
             COVER => format!("cover query of {}/{}", dotted(self.query), self.query_length),
             LOOKUP => format!("lookup of {}", dotted(self.query)),
-            _ => "addresses held".to_string(),
+            HELD => "addresses held".to_string(),
+            _ => "list of what has no route".to_string(),
         };
-        let _ =
-            writeln!(text, "; {} words of work room, {} bytes of output, {} bytes of table", self.work, self.room, self.table.len());
+        let _ = match self.call {
+            UNROUTED => writeln!(text, "; {} bytes of output, {} bytes of table", self.work, self.table.len()),
+            _ => writeln!(
+                text,
+                "; {} words of work room, {} bytes of output, {} bytes of table",
+                self.work,
+                self.room,
+                self.table.len()
+            ),
+        };
         for record in self.table.chunks(8) {
             if let [a, b, c, d, length, hop, 0, 0] = record {
                 let _ = writeln!(text, "  {a}.{b}.{c}.{d}/{length} {hop}");
@@ -94,6 +111,8 @@ pub enum Answer {
     Covered(bool),
     Match(Option<(u8, u8)>),
     Addresses(u64),
+    /// The prefixes without a route.
+    Unrouted(Vec<Route>),
 }
 
 impl Answer {
@@ -115,6 +134,12 @@ impl Answer {
             Answer::Match(Some((hop, length))) => writeln!(text, "hop {hop} length {length}"),
             Answer::Match(None) => writeln!(text, "no route"),
             Answer::Addresses(n) => writeln!(text, "addresses {n}"),
+            Answer::Unrouted(list) => {
+                for &(address, length, _) in list {
+                    let _ = writeln!(text, "{}/{length}", dotted(address));
+                }
+                writeln!(text, "unrouted {}", list.len())
+            }
         };
         text
     }

@@ -3,7 +3,7 @@
 
 use std::collections::BTreeMap;
 
-use crate::case::{table_of, Case, Route, COVER, HELD, LOOKUP, MOST_WORK, REWRITE};
+use crate::case::{table_of, Answer, Case, Route, COVER, HELD, LOOKUP, MOST_LIST, MOST_WORK, REWRITE, UNROUTED};
 use crate::model::{self, Fault};
 
 /// A case, what it is, and the refusal that its damage was planned to give.
@@ -300,11 +300,23 @@ fn make_room(random: &mut Random, case: &mut Case, rooms: usize) {
         case.room = 0;
         return;
     }
+    if case.call == UNROUTED {
+        case.work = MOST_LIST;
+        let Answer::Unrouted(list) = model::answer(case, Fault::None) else { unreachable!("every list fits") };
+        let room = 8 * list.len() as u32;
+        case.work = match rooms {
+            0 => room,
+            1 => room + random.within(1, 100) as u32,
+            3 => room.saturating_sub(1),
+            _ => 0,
+        };
+        return;
+    }
     let work = 160 * model::nodes(&routes, Fault::None) as u32;
     case.work = MOST_WORK;
     case.room = u16::MAX;
     let room = match model::answer(case, Fault::None) {
-        crate::case::Answer::Rewritten(out, _) => 8 * out.len() as u16,
+        Answer::Rewritten(out, _) => 8 * out.len() as u16,
         _ => 0,
     };
     (case.work, case.room) = match rooms {
@@ -327,6 +339,8 @@ fn whole(random: &mut Random, call: u8, mode: u8, shape: usize, rooms: usize) ->
     let rooms = match (call, rooms) {
         (COVER, 3 | 6) => 0,
         (COVER, 4) => 2,
+        (UNROUTED, 2 | 5) => 0,
+        (UNROUTED, 4) => 3,
         _ => rooms,
     };
     let hop_count = if shape == 18 && random.chance(50) { 64 } else { random.pick(&[1, 2, 2, 3, 4, 5, 8, 16, 63, 64]) };
@@ -352,6 +366,7 @@ pub fn numbers(call: u8) -> &'static [u8] {
     match call {
         REWRITE => &[1, 2, 3, 4, 5, 6, 7, 8, 10, 11],
         COVER => &[3, 4, 5, 6, 7, 8, 9, 10],
+        UNROUTED => &[3, 4, 5, 6, 7, 8, 11],
         _ => &[3, 4, 5, 6, 7, 8],
     }
 }
@@ -443,7 +458,17 @@ fn damaged(random: &mut Random, call: u8, first: u8, second: u8, order: Order, s
     case.table = table_of(&routes);
     ask(random, &mut case, &routes);
     case.query_length = if has(9) { random.pick(&[33, 33, 34, 64, 255]) } else { random.pick(&[0, 8, 31, 32]) };
-    if has(1) || has(2) || has(4) || has(9) {
+    if call == UNROUTED {
+        case.work = MOST_LIST;
+        if has(4) {
+            case.work = if has(11) { 0 } else { MOST_LIST };
+        } else {
+            make_room(random, &mut case, 0);
+            if has(11) {
+                case.work = if random.chance(70) { case.work - 1 } else { 0 };
+            }
+        }
+    } else if has(1) || has(2) || has(4) || has(9) {
         // The need of work room or output is not defined here, or does not matter: none, or plenty.
         case.work = if has(10) { 0 } else { 16_384 };
         case.room = if has(11) { 0 } else { 8 * (count as u16 + 1) };
@@ -496,10 +521,11 @@ fn damaged(random: &mut Random, call: u8, first: u8, second: u8, order: Order, s
 pub fn seeded(seed: u64, index: u64) -> Made {
     let random = &mut Random::new(seed, index);
     let call = match random.below(100) {
-        0..=64 => REWRITE,
-        65..=82 => COVER,
-        83..=93 => LOOKUP,
-        _ => HELD,
+        0..=59 => REWRITE,
+        60..=76 => COVER,
+        77..=86 => LOOKUP,
+        87..=91 => HELD,
+        _ => UNROUTED,
     };
     if random.chance(20) {
         // Damage by number 4 needs a long table, and comes less often.
@@ -649,6 +675,24 @@ pub fn fixed() -> Vec<Made> {
     // Addresses held: document 02's nested routes; all addresses by one record, and by two with one inside; the last address.
     for text in ["10.0.0.0/8>1 10.1.0.0/16>2", "0.0.0.0/0>1", "0.0.0.0/1>1 128.0.0.0/1>1 128.0.0.0/9>2", "255.255.255.255/32>1"] {
         list.push(edge(HELD, 0, 0, 0, &table_of(&prefixes(text))));
+    }
+    // The list of what has no route: every shape, with just enough output and one byte less; of the large ones those whose list is short, and a
+    // list of 22,528 prefixes that does not fit.
+    for shape in 0..LARGE {
+        for rooms in [0, 1, 3] {
+            list.push(small(random, UNROUTED, 0, shape, rooms));
+        }
+    }
+    for (shape, rooms) in [(19, 3), (20, 0), (21, 0), (22, 3), (23, 0)] {
+        list.push(small(random, UNROUTED, 0, shape, rooms));
+    }
+    for &number in numbers(UNROUTED) {
+        list.push(damaged(random, UNROUTED, number, 0, Order::Same, size(number, 0)));
+    }
+    for (first, second, order) in pairs(UNROUTED) {
+        if second == 11 && first != 4 {
+            list.push(damaged(random, UNROUTED, first, second, order, Size::Few));
+        }
     }
     list
 }

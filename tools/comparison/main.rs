@@ -15,7 +15,7 @@ use std::process::{exit, Command, Stdio};
 use std::sync::{Mutex, OnceLock};
 use std::thread;
 
-use case::{Answer, Case, COVER, LOOKUP, REWRITE};
+use case::{Answer, Case, Route, COVER, HELD, LOOKUP, REWRITE, UNROUTED};
 use generate::Made;
 use model::Fault;
 
@@ -25,7 +25,34 @@ const QUICK_CASES: u64 = 20_000;
 const QUICK_REPLAY_CASES: u64 = 2_000;
 const QUICK_WORDS: u64 = 100_000;
 
-/// The answer that is expected: refusals 1 to 9 by the model, all else by the crate.
+/// The last address of a prefix.
+fn last_of(&(address, length, _): &Route) -> u64 {
+    address as u64 + (1 << (32 - length as u64)) - 1
+}
+
+/// Is the list one of all that has no route, as far as the crate can be asked? Its longest match finds none at the first and the last address
+/// of each prefix, and at the addresses before and after just where a prefix beside it has them; and its mode 1 leaves the list as it is, so that
+/// no two of the prefixes make a wider one.
+fn listed_by_crate(routes: &[Route], list: &[Route]) -> bool {
+    let (mut asked, mut none) = (Vec::new(), Vec::new());
+    for (i, prefix) in list.iter().enumerate() {
+        let (first, last) = (prefix.0 as u64, last_of(prefix));
+        asked.extend([first as u32, last as u32]);
+        none.extend([true, true]);
+        if first > 0 {
+            asked.push(first as u32 - 1);
+            none.push(i > 0 && last_of(&list[i - 1]) + 1 == first);
+        }
+        if last < u32::MAX as u64 {
+            asked.push(last as u32 + 1);
+            none.push(list.get(i + 1).is_some_and(|next| next.0 as u64 == last + 1));
+        }
+    }
+    let found = oracle::lookups(routes, &asked);
+    found.iter().zip(&none).all(|(found, none)| found.is_none() == *none) && oracle::rewrite(1, 0, list) == (list.to_vec(), 0)
+}
+
+/// The answer that is expected: refusals 1 to 9 and the list of what has no route by the model, all else by the crate.
 fn expected(case: &Case) -> Answer {
     let routes = match model::accepted(case, Fault::None) {
         Err((number, at)) => return Answer::Refused(number, at),
@@ -45,7 +72,14 @@ fn expected(case: &Case) -> Answer {
         COVER if work_short() => Answer::Refused(10, 0),
         COVER => Answer::Covered(oracle::covers(&routes, case.query, case.query_length)),
         LOOKUP => Answer::Match(oracle::lookup(&routes, case.query)),
-        _ => Answer::Addresses(oracle::addresses(&routes).map_or(1 << 32, u64::from)),
+        HELD => Answer::Addresses(oracle::addresses(&routes).map_or(1 << 32, u64::from)),
+        _ => {
+            let answer = model::answer(case, Fault::None);
+            if let Answer::Unrouted(list) = &answer {
+                assert!(listed_by_crate(&routes, list), "the crate finds another list of what has no route");
+            }
+            answer
+        }
     }
 }
 
@@ -107,7 +141,8 @@ impl Counts {
             REWRITE => format!("rewrite, mode {}", made.case.mode),
             COVER => "cover query".to_string(),
             LOOKUP => "lookup".to_string(),
-            _ => "addresses held".to_string(),
+            HELD => "addresses held".to_string(),
+            _ => "list of what has no route".to_string(),
         };
         let outcome = match answer {
             Answer::Rewritten(_, change) if *change < 0 => "shorter",
@@ -119,6 +154,9 @@ impl Counts {
             Answer::Match(Some(_)) => "a hop",
             Answer::Match(None) => "no route",
             Answer::Addresses(_) => "a total",
+            Answer::Unrouted(list) if list.is_empty() => "nothing",
+            Answer::Unrouted(list) if list.len() > 1_024 => "more than 1,024",
+            Answer::Unrouted(_) => "at most 1,024",
         };
         self.add(format!("call     {call}: {outcome}"));
         if let Answer::Refused(number, _) = answer {
@@ -327,7 +365,7 @@ fn write_fixed(stdin: &str, stdout: &str) {
     println!("compare: {} cases, {} bytes, in {stdin}; their answers in {stdout}", list.len(), bytes.len());
 }
 
-/// How a run ends: input cut in a header or in a table, a call that there is not, a work room over the bound.
+/// How a run ends: input cut in a header or in a table, a call that there is not, a work room or a list's output over the bound.
 fn check_ends(command: &str) {
     let (case, _, _) = generate::worked(1);
     let mut good = Vec::new();
@@ -338,9 +376,9 @@ fn check_ends(command: &str) {
         tries.push((good[..cut].to_vec(), String::new()));
         tries.push(([&good[..], &good[..cut]].concat(), text.clone()));
     }
-    for (at, byte) in [(0, 4), (0, 255), (8, 1)] {
+    for bytes in [&[(0, UNROUTED + 1)][..], &[(0, 255)], &[(8, 1)], &[(0, UNROUTED), (8, 0), (9, 4), (10, 0), (11, 1)]] {
         let mut odd = good.clone();
-        odd[at] = byte;
+        bytes.iter().for_each(|&(at, byte)| odd[at] = byte);
         tries.push(([&good[..], &odd].concat(), text.clone()));
     }
     for (bytes, mut expect) in tries {

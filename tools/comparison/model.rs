@@ -4,7 +4,7 @@
 //! A call of the model can be given a fault, a planted mistake: `tools/compare --self-test` shows with them that the comparison
 //! finds mistakes. `Fault::None` is the model itself.
 
-use crate::case::{Answer, Case, Route, COVER, HELD, LOOKUP, REWRITE};
+use crate::case::{Answer, Case, Route, COVER, HELD, LOOKUP, REWRITE, UNROUTED};
 
 #[derive(Clone, Copy, PartialEq, Eq, Debug)]
 pub enum Fault {
@@ -36,10 +36,13 @@ pub enum Fault {
     DefaultAlwaysRead,
     SetTakesHops,
     OctetsBackwards,
+    HoleOverRecord,
+    HoleNotWidest,
+    HolesByLength,
 }
 
 /// Each planted mistake and what it does wrong.
-pub const FAULTS: [(Fault, &str); 27] = [
+pub const FAULTS: [(Fault, &str); 30] = [
     (Fault::LargestHop, "modes 4, 5: the largest hop of a set instead of the smallest"),
     (Fault::HoleIsEmptySet, "mode 4: a hole taken as an empty set"),
     (Fault::AlwaysSmallest, "modes 4, 5: the smallest hop even where the hop above is in the set"),
@@ -67,6 +70,9 @@ pub const FAULTS: [(Fault, &str); 27] = [
     (Fault::DefaultAlwaysRead, "number 2: given in every mode"),
     (Fault::SetTakesHops, "number 7: a set may have hops"),
     (Fault::OctetsBackwards, "the wire: the octets of an address read backwards"),
+    (Fault::HoleOverRecord, "list of what has no route: a /32 overlooked"),
+    (Fault::HoleNotWidest, "list of what has no route: a prefix listed as its halves"),
+    (Fault::HolesByLength, "list of what has no route: in the order of the lengths"),
 ];
 
 /// The first `length` bits set.
@@ -368,6 +374,42 @@ fn addresses(routes: &[Route], fault: Fault) -> u64 {
     }
 }
 
+/// The widest prefixes without a route: what lies between the records, cut into blocks as large as their first address and the gap allow.
+fn unrouted(routes: &[Route], fault: Fault) -> Vec<Route> {
+    let mut list = Vec::new();
+    let mut from = 0u64;
+    let gap = |list: &mut Vec<Route>, mut from: u64, to: u64| {
+        while from < to {
+            let aligned = from.trailing_zeros().min(32);
+            let size = aligned.min((to - from).ilog2());
+            list.push((from as u32, 32 - size as u8, 0));
+            from += 1 << size;
+        }
+    };
+    for &(address, length, _) in routes {
+        if fault == Fault::HoleOverRecord && length == 32 {
+            continue;
+        }
+        gap(&mut list, from, address as u64);
+        from = from.max(address as u64 + (1 << (32 - length as u64)));
+    }
+    gap(&mut list, from, 1 << 32);
+    match fault {
+        Fault::HoleNotWidest => {
+            let halves = |&(address, length, hop): &Route| match length {
+                32 => vec![(address, 32, hop)],
+                _ => vec![(address, length + 1, hop), (address | 1 << (31 - length), length + 1, hop)],
+            };
+            list.iter().flat_map(halves).collect()
+        }
+        Fault::HolesByLength => {
+            list.sort_by_key(|route| route.1);
+            list
+        }
+        _ => list,
+    }
+}
+
 /// The model's answer to a case.
 pub fn answer(case: &Case, fault: Fault) -> Answer {
     let routes = match accepted(case, fault) {
@@ -395,6 +437,13 @@ pub fn answer(case: &Case, fault: Fault) -> Answer {
         COVER => Answer::Covered(covers(&routes, case.query, case.query_length, fault)),
         LOOKUP => Answer::Match(lookup(&routes, case.query, fault)),
         HELD => Answer::Addresses(addresses(&routes, fault)),
+        UNROUTED => {
+            let list = unrouted(&routes, fault);
+            if (case.work as usize) < 8 * list.len() {
+                return Answer::Refused(11, 0);
+            }
+            Answer::Unrouted(list)
+        }
         _ => unreachable!("a case names a call"),
     }
 }

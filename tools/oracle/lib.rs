@@ -191,10 +191,18 @@ pub fn covers(routes: &[Route], address: u32, length: u8) -> bool {
 
 /// The crate's longest match of an address: hop and length.
 pub fn lookup(routes: &[Route], address: u32) -> Option<(u8, u8)> {
+    lookups(routes, &[address])[0]
+}
+
+/// The same of several addresses.
+pub fn lookups(routes: &[Route], addresses: &[u32]) -> Vec<Option<(u8, u8)>> {
     let table = filled(routes.iter().copied(), |hop| hop);
-    let present = table.find_lpm(address, 32)?;
-    let (_, length): (u32, u8) = present.prefix(address);
-    Some((*present.get(), length))
+    let longest = |&address: &u32| {
+        let present = table.find_lpm(address, 32)?;
+        let (_, length): (u32, u8) = present.prefix(address);
+        Some((*present.get(), length))
+    };
+    addresses.iter().map(longest).collect()
 }
 
 /// The crate's count of the addresses that the prefixes cover. It gives none where they are all 2^32: a /0, or a sum that 32 bits do not hold.

@@ -1,15 +1,18 @@
-// Rewrites one table again and again, so that the time of a rewrite can be measured (tools/bench).
+// Rewrites one table again and again, or lists what has no route in it, so that the time of a call can be measured (tools/bench).
 //
 // Reads from standard input 8 bytes and then a table, at most 8,200 bytes of it. Numbers stand most significant byte first.
 //
-//   bytes 0 to 2   how many times the table is rewritten
-//   byte 3         the mode
+//   bytes 0 to 2   how many times the call is made
+//   byte 3         the mode of a rewrite; 0 for a list of what has no route
 //   byte 4         the default, which mode 5 reads
 //   bytes 5 to 7   how many words of the work room are lent; more than 824,480 are taken as 824,480
 //
-// The output has 8,200 bytes. Prints the last answer: `records N change C`, or `refused N at I`; `not run` where the number of times is 0.
+// The output of a rewrite has 8,200 bytes, that of a list 180,224. Prints the last answer: `records N change C`, `unrouted N` or `refused N at I`;
+// `not run` where the number of times is 0.
 use aggregate::rewrite;
 use calls::Rewritten;
+use holes::Listed;
+use holes::unrouted;
 use libc::STDIN_FILENO;
 use libc::STDOUT_FILENO;
 ghost use Prim.Native.Nat.{_≤_};
@@ -34,6 +37,14 @@ fn print_change(count: usize, before: usize) {
     }
 }
 
+// Writes a refusal.
+fn print_refused(number: u8, index: usize) {
+    print(b"refused ");
+    io::print_decimal(STDOUT_FILENO, number as u64);
+    print(b" at ");
+    io::print_decimal(STDOUT_FILENO, index as u64);
+}
+
 // Writes an answer for a table of so many records as a line. Its change is had from the two counts, whose difference it is by contract.
 fn print_answer(answer: Rewritten, before: usize) {
     match answer {
@@ -43,12 +54,7 @@ fn print_answer(answer: Rewritten, before: usize) {
             print(b" change ");
             print_change(count, before);
         }
-        Rewritten::Refused { number, index } => {
-            print(b"refused ");
-            io::print_decimal(STDOUT_FILENO, number as u64);
-            print(b" at ");
-            io::print_decimal(STDOUT_FILENO, index as u64);
-        }
+        Rewritten::Refused { number, index } => print_refused(number, index),
     }
     print(b"\n");
 }
@@ -92,6 +98,29 @@ fn repeat_in(
     repeat(more, table, mode, default, output, &mut work[..words])
 }
 
+// Lists what has no route so many times and once more, and says the last answer.
+fn repeat_list(more: u32, table: &[u8], output: &mut [u8]) -> Listed {
+    let mut left = more;
+    while 0 < left {
+        unrouted(table, output);
+        left -= 1;
+    }
+    unrouted(table, output)
+}
+
+// The same in an output of its own, and the last answer as a line.
+fn run_list(more: u32, table: &[u8]) {
+    let mut output = [0u8; 180224];
+    match repeat_list(more, table, &mut output) {
+        Listed::Records(count) => {
+            print(b"unrouted ");
+            io::print_decimal(STDOUT_FILENO, count as u64);
+        }
+        Listed::Refused { number, index } => print_refused(number, index),
+    }
+    print(b"\n");
+}
+
 // The work room. Made by a call, it is to the caller an array of that length and no list of that many zeros. Compiled without optimisation,
 // as `rt try` does it too, it is copied, and then the usual 8 MiB of stack are too few.
 fn room() -> [u32; 824480] {
@@ -104,6 +133,10 @@ fn run(times: u32, mode: u8, default: u8, asked: u32, table: &[u8]) {
     let mut work = room();
     if times == 0 {
         print(b"not run\n");
+        return;
+    }
+    if mode == 0 {
+        run_list(times - 1, table);
         return;
     }
     let answer = repeat_in(

@@ -20,9 +20,9 @@ use Rattle.records.specs.Wire.{records, routeAt, routes}
 use Rattle.words.specs.Bits.{bit}
 use Rattle.words.specs.Positions.{position}
 use Rattle.words.proofs.PositionLaws.{placed}
-use Rattle.positions.specs.Runs.{isAt, inside, headHop, own, orElse, sizeAt, placeAt, cover, noHop, hopOf}
+use Rattle.positions.specs.Runs.{isAt, inside, Run, headHop, own, orElse, sizeAt, placeAt, cover, noHop, hopOf}
 use Rattle.positions.specs.Wide.{widened}
-use Rattle.positions.proofs.Runs.{Run, inside-within}
+use Rattle.positions.proofs.Runs.{inside-within}
 use Rattle.positions.proofs.RunsNode.{size-slot, place-aligned, above-lt}
 use Rattle.positions.proofs.Wide.{all-widen, table-widen, short-widen}
 use Rattle.nodes.specs.Node.{wide, spare, wideAt, run, slotSize, Node}

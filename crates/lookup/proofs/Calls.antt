@@ -43,7 +43,7 @@ count-same (NotCounted m i) (NotCounted n j) e = cc
 -- ---- Lookup.
 module _ (t : List ℕ) (x : ℕ) where
   -- There is no match exactly where no member matches.
-  miss-held : lookup 32 (routes t) x ≡ miss ↔ held 32 (routes t) x ≡ false
+  pub miss-held : lookup 32 (routes t) x ≡ miss ↔ held 32 (routes t) x ≡ false
   miss-held = go (lookup 32 (routes t) x) (held 32 (routes t) x) (lookup-held 32 (routes t) x)
     where
       go : (m : Match) (h : Bool) → isMiss m ≡ not h → m ≡ miss ↔ h ≡ false

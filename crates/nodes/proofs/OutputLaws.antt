@@ -8,13 +8,12 @@ use native.Mathlib.Omega.{arith}
 use native.Mathlib.Nat.{add-zero, mul-comm, mul-assoc, div-add-mod'}
 use native.Mathlib.Numerals.{add-one}
 use lib.Dec.{eqb}
-use lib.ListN.{length, take, drop, length-append, length-drop, drop-of-length-le}
+use lib.ListN.{length, take, drop, length-append, length-take, length-drop}
 use lib.Pow.{pow-pos, pow-add}
-use lib.Seq.{take-all}
 use borrow.Author.Tests.{eqb-true}
 use Rattle.theory.specs.Routes.{Route}
 use Rattle.records.specs.Wire.{recordOf, bytesOf, laid}
-use Rattle.records.proofs.Laid.{laid-none, laid-then, laid-tail, bytes-append}
+use Rattle.records.proofs.Laid.{laid-none, laid-then, laid-lent, bytes-append}
 use Rattle.records.proofs.Written.{length-bytes}
 use Rattle.positions.specs.Runs.{sizeAt, placeAt}
 use Rattle.positions.specs.Walk.{headsOf, slotsOf, startsAt, heads, slots}
@@ -75,11 +74,8 @@ wrote-tail {rs} {done} {k} o ys at here within p =
     let a = p .counted in
     wrote-from (omega arith) (λ fits.
     let s : at ≡ done * 8 = here (omega arith) in
-    let n : length (drop at o) ≡ length o - at = length-drop at o in
-    let w : take (length o - at) (drop at o) ≡ drop at o = take-all (length o - at) (drop at o) (omega arith) in
-    let z : drop (length o - at) (drop at o) ≡ [] = drop-of-length-le (drop at o) {i = length o - at} (omega arith) in
-    let y : ys ≡ laid 0 (wireOf rs) (drop at o) = wrote-laid p (rw w (omega arith)) ∙ rw w in
-    rw (z, append-nil, y) (laid-tail at 0 (wireOf rs) o ∙ rw (add-zero at, s)))
+    let n : length (take (length o - at) (drop at o)) ≡ length o - at = simp (length-take, length-drop) (omega arith) in
+    rw (wrote-laid p (omega arith)) (laid-lent at 0 (wireOf rs) o within ∙ rw (add-zero at, s)))
 
 -- One record at the start of the output.
 pub wrote-record : (r : Route) (o o′ : List ℕ) → o′ ≡ laid 0 (recordOf (narrow spare r)) o → Wrote (r ∷ []) 0 1 o o′

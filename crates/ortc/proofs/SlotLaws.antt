@@ -7,8 +7,8 @@ use native.Mathlib.Omega.{arith}
 use lib.ListN.{length, getD}
 use Rattle.theory.specs.Routes.{Route, Answer}
 use Rattle.theory.proofs.Agree.{Agree, sets-agree}
-use Rattle.positions.specs.Runs.{inside, hopOf, orElse, sizeAt, placeAt, cover}
-use Rattle.positions.proofs.Runs.{Nested, nested-self, inside-nested, Run}
+use Rattle.positions.specs.Runs.{inside, Run, hopOf, orElse, sizeAt, placeAt, cover}
+use Rattle.positions.proofs.Runs.{Nested, nested-self, inside-nested}
 use Rattle.positions.proofs.RunsNode.{place-nested, slot-answer}
 use Rattle.nodes.specs.Node.{wide, run, slotSize, Node}
 use Rattle.nodes.specs.Room.{Block, nodesDeep}

@@ -17,11 +17,11 @@ use Rattle.theory.proofs.Least.{least}
 use Rattle.theory.proofs.Lengths.{length-unhopped}
 use Rattle.theory.proofs.Maximal.{maximal-is-ortc}
 use Rattle.theory.proofs.Routed.{marked, answer-bare, all-unhopped, held-unhopped}
-use Rattle.positions.specs.Runs.{isAt, headHop, orElse}
+use Rattle.positions.specs.Runs.{isAt, Run, headHop, orElse}
 use Rattle.positions.specs.Walk.{walk, slotsOf}
 use Rattle.positions.specs.Walks.{maximalOut, maximalNext, entryUnless, keptOut, keptNext}
 use Rattle.positions.proofs.Modes.{maximal-covered, maximal-walk}
-use Rattle.positions.proofs.Runs.{Run, inside-all, inside-walk}
+use Rattle.positions.proofs.Runs.{inside-all, inside-walk}
 
 -- ---- Any walk.
 

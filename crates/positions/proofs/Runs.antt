@@ -19,7 +19,7 @@ use Rattle.theory.proofs.Maximal.{throughout-each, throughout-agree}
 use Rattle.theory.proofs.Parts.{all-part, under-longer, ascending-part, table-part, part-whole, part-twice, part-either}
 use Rattle.theory.proofs.Preserve.{Deep, lookup-outside, lookup-deep, lookup-append-left, lookup-append-right}
 use Rattle.theory.proofs.Routed.{held-answer}
-use Rattle.positions.specs.Runs.{isAt, isIn, inside, headHop, own, orElse}
+use Rattle.positions.specs.Runs.{isAt, isIn, inside, Run, headHop, own, orElse}
 use Rattle.positions.specs.Walk.{walk}
 
 -- ---- The two tests, by the facts that they stand for.
@@ -78,13 +78,6 @@ nested-start m b n a le c d i =
     record { smaller = le; from = i .0; upto = next-block m b (a + 2 ^ n) c (aligned-down m n (a + 2 ^ n) le (aligned-next n a d)) (i .1) }
 
 -- ---- Runs.
-
--- The routes t are a run of the position (n, a): a table, all of it in the position.
-pub record Run (w n a : ℕ) (t : List Route) : Type 0 where
-  pub fits : n ≤ w
-  pub aligned : Aligned n a
-  pub table : Table w t
-  pub within : All (Within w n a) t
 
 -- The routes inside a position are a table.
 pub inside-table : (w n a : ℕ) {t : List Route} → Table w t → Table w (inside w n a t)
@@ -237,7 +230,8 @@ throughout-under p q true n a h = throughout-each p n a .1 h
 throughout-under p q false n a h = throughout-agree p q n a h
 
 module _ {w n a : ℕ} {t : List Route} (run : Run w (suc n) a t) where
-  half-run : (b : ℕ) → Half n a b → Run w n b (inside w n b t)
+  -- The routes inside a half are its run.
+  pub half-run : (b : ℕ) → Half n a b → Run w n b (inside w n b t)
   half-run b h = inside-run w n b (omega (arith, run .fits)) (half-aligned n a b (run .aligned) h) (run .table)
 
   -- An address of one half is matched in that half's run only.

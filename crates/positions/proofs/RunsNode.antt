@@ -13,8 +13,8 @@ use Rattle.theory.specs.Results.{In, throughout}
 use Rattle.theory.specs.Routes.{Route, held, lookup, Answer, none, under, Aligned}
 use Rattle.theory.proofs.Blocks.{aligned-down}
 use Rattle.theory.proofs.Routed.{held-answer}
-use Rattle.positions.specs.Runs.{inside, own, orElse, sizeAt, placeAt, cover, coverOver, memberOver}
-use Rattle.positions.proofs.Runs.{Nested, Run, inside-run, inside-all, Half, half-nested, routed-under, routed-else, throughout-under, inside-answer, inside-covered}
+use Rattle.positions.specs.Runs.{inside, Run, own, orElse, sizeAt, placeAt, cover, coverOver, memberOver}
+use Rattle.positions.proofs.Runs.{Nested, inside-run, inside-all, Half, half-nested, routed-under, routed-else, throughout-under, inside-answer, inside-covered}
 
 -- ---- Where the positions stand.
 

@@ -1,12 +1,12 @@
 -- The routes of a table at a position and inside it, and the hops that cover the positions of a node.
 -- A node (m + 5, a) has five levels of positions, position j of level l standing at (m + 5 - l, a + j * 2 ^ (m + 5 - l)), and 32 slots, its level 5.
-use Prim.Native.Nat.{ℕ, zero, suc, _+_, _-_, _*_, _/_, _^_}
+use Prim.Native.Nat.{ℕ, zero, suc, _+_, _-_, _*_, _/_, _^_, _≤_}
 use mathlib.Core.Bool.{Bool, false, _&&_, _||_, cond}
 use mathlib.Core.List.{List, [], _∷_}
 use lib.Dec.{eqb, leb, ltb}
-use Rattle.theory.specs.Routes.{Route, Answer, none, via}
+use Rattle.theory.specs.Routes.{Route, Answer, none, via, Aligned, All, Table}
 use Rattle.theory.specs.Results.{part}
-use Rattle.theory.specs.Shapes.{routed}
+use Rattle.theory.specs.Shapes.{Within, routed}
 
 -- Does the route stand at the position: is it the position's own?
 abbrev pub isAt : ℕ → ℕ → ℕ → Route → Bool
@@ -19,6 +19,13 @@ isIn w n a r = leb (w - n) (r .len) && (leb a (r .addr) && ltb (r .addr) (a + 2 
 -- The routes that lie in the position.
 abbrev pub inside : ℕ → ℕ → ℕ → List Route → List Route
 inside w n a t = part (isIn w n a) t
+
+-- The routes t are a run of the position (n, a): a table, all of it in the position.
+pub record Run (w n a : ℕ) (t : List Route) : Type 0 where
+  pub fits : n ≤ w
+  pub aligned : Aligned n a
+  pub table : Table w t
+  pub within : All (Within w n a) t
 
 -- The hop of the first route, if there is one.
 abbrev pub headHop : List Route → Answer

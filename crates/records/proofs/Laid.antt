@@ -1,11 +1,11 @@
 -- Laws of laying bytes over a list: records that are written one after another are the bytes of their routes. Assumes nothing.
 use mathlib.Core.Path.{_≡_, refl, sym, ap, ap₂, _∙_}
-use mathlib.Core.List.{List, [], _∷_, _++_, append-assoc}
-use Prim.Native.Nat.{ℕ, suc, _+_, _*_, _≤_}
+use mathlib.Core.List.{List, [], _∷_, _++_, append-nil, append-assoc}
+use Prim.Native.Nat.{ℕ, suc, _+_, _-_, _*_, _≤_}
 use native.Mathlib.Nat.{add-assoc}
 use native.Mathlib.Omega.{arith}
-use lib.ListN.{length, take, drop, set, length-append, length-drop, take-append-drop}
-use lib.Seq.{sets-eq, length-take-le, take-at, drop-at, drop-drop, take-add}
+use lib.ListN.{length, take, drop, set, length-append, length-drop, take-append-drop, drop-of-length-le}
+use lib.Seq.{sets-eq, length-take-le, take-all, take-at, drop-at, drop-drop, take-add}
 use Rattle.theory.specs.Routes.{Route}
 use Rattle.records.specs.Wire.{recordOf, bytesOf, laid}
 use Rattle.records.proofs.Written.{length-bytes}
@@ -79,6 +79,15 @@ laid-tail j k bs o =
     ∙ sym (append-assoc (take j o) (take k (drop j o)) (bs ++ drop (j + k + length bs) o))
     ∙ ap (λ (l : List ℕ). l ++ (bs ++ drop (j + k + length bs) o)) (sym (take-add j k o))
 
+-- What is laid on the part from place j on, as a call is lent it, is laid on the whole once the part is back.
+pub laid-lent : (j k : ℕ) (bs o : List ℕ) → j ≤ length o
+    → take j o ++ (laid k bs (take (length o - j) (drop j o)) ++ drop (length o - j) (drop j o)) ≡ laid (j + k) bs o
+laid-lent j k bs o le =
+    let n : length (drop j o) ≡ length o - j = length-drop j o in
+    let all : take (length o - j) (drop j o) ≡ drop j o = take-all (length o - j) (drop j o) (omega arith) in
+    let none : drop (length o - j) (drop j o) ≡ [] = drop-of-length-le (drop j o) {i = length o - j} (omega arith) in
+    rw (all, none, append-nil) (laid-tail j k bs o)
+
 -- The records of two lists of routes, one after the other.
 pub bytes-append : (rs qs : List Route) → bytesOf (rs ++ qs) ≡ bytesOf rs ++ bytesOf qs
 unfolding bytesOf
@@ -95,3 +104,22 @@ laid-record at rs r o fits =
     ap (λ (k : ℕ). laid k (recordOf r) (laid (8 * at) (bytesOf rs) o)) e
     ∙ laid-then (8 * at) (bytesOf rs) (recordOf r) o (omega arith)
     ∙ ap (λ (l : List ℕ). laid (8 * at) l o) (sym (bytes-append rs (r ∷ [])))
+
+-- Records that fit leave the length.
+pub length-records : (rs : List Route) (o : List ℕ) → 8 * length rs ≤ length o → length (laid 0 (bytesOf rs) o) ≡ length o
+length-records rs o fits = let n = length-bytes rs in length-laid 0 (bytesOf rs) o (omega arith)
+
+-- The records of some routes, and then those of others on the part behind them, as a call is lent it.
+pub records-lent : (rs qs : List Route) (o : List ℕ) → 8 * (length rs + length qs) ≤ length o
+    → let p = laid 0 (bytesOf rs) o in
+    take (8 * length rs) p ++ (laid 0 (bytesOf qs) (take (length p - 8 * length rs) (drop (8 * length rs) p)) ++ drop (length p - 8 * length rs) (drop (8 * length rs) p))
+    ≡ laid 0 (bytesOf (rs ++ qs)) o
+records-lent rs qs o fits =
+    let m = length-bytes rs in
+    let n = length-bytes qs in
+    let size = length-records rs o (omega arith) in
+    let at : 8 * length rs + 0 ≡ 0 + length (bytesOf rs) = omega arith in
+    laid-lent (8 * length rs) 0 (bytesOf qs) (laid 0 (bytesOf rs) o) (omega arith)
+    ∙ ap (λ (k : ℕ). laid k (bytesOf qs) (laid 0 (bytesOf rs) o)) at
+    ∙ laid-then 0 (bytesOf rs) (bytesOf qs) o (omega arith)
+    ∙ ap (λ (l : List ℕ). laid 0 l o) (sym (bytes-append rs qs))

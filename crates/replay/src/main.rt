@@ -7,6 +7,7 @@ use libc::STDIN_FILENO;
 use records::join4;
 use replaying::Turn;
 use replaying::cases::keep_answer;
+use replaying::cases::listed_turn;
 use replaying::join2;
 use replaying::last_line;
 use replaying::send;
@@ -18,10 +19,10 @@ ghost use lib.ListN.{length};
 // Reads a case and keeps its answer, or the line that ends the run.
 fn turn(table: &mut [u8], output: &mut [u8], work: &mut [u32], at: usize, kept: &mut [u8]) -> Turn
     requires { ⌜ 65535 ≡ length (now table) ⌝ }
-    requires { ⌜ 65535 ≡ length (now output) ⌝ }
+    requires { ⌜ 262144 ≡ length (now output) ⌝ }
     requires { ⌜ 824480 ≡ length (now work) ⌝ }
     requires { ⌜ at ≤ length (now kept) ⌝ }
-    requires { ⌜ 262144 ≤ length (now kept) ⌝ }
+    requires { ⌜ 1048576 ≤ length (now kept) ⌝ }
     ensures { λ r. ⌜ r .at ≤ length (now (kept .entry)) ⌝ }
 {
     let mut head = [0u8; 16];
@@ -39,11 +40,14 @@ fn turn(table: &mut [u8], output: &mut [u8], work: &mut [u32], at: usize, kept: 
     if io::read_full(STDIN_FILENO, &mut table[..size]) < size {
         return last_line(b"case cut short\n", at, kept);
     }
-    if 3 < head[0] {
+    if 4 < head[0] {
         return last_line(b"no such call\n", at, kept);
     }
-    let words = join4(head[8], head[9], head[10], head[11]) as usize;
-    if 824480 < words {
+    let asked = join4(head[8], head[9], head[10], head[11]) as usize;
+    if head[0] == 4 {
+        return listed_turn(asked, &table[..size], output, at, kept);
+    }
+    if 824480 < asked {
         return last_line(b"work room too large\n", at, kept);
     }
     let end = keep_answer(&head, &table[..size], output, work, at, kept);
@@ -56,9 +60,9 @@ fn turn(table: &mut [u8], output: &mut [u8], work: &mut [u32], at: usize, kept: 
 // A proved loop has to end, so the turns are counted down from a number that no input uses up.
 fn main() {
     let mut table = [0u8; 65535];
-    let mut output = [0u8; 65535];
+    let mut output = [0u8; 262144];
     let mut work = [0u32; 824480];
-    let mut kept = [0u8; 262144];
+    let mut kept = [0u8; 1048576];
     let mut at: usize = 0;
     let mut turns = u64::MAX;
     while turns > 0 {

@@ -24,19 +24,23 @@ use Rattle.calls.specs.Rewriting.{countOf, resultOf, rewriteReply, writtenOf, o
 use Rattle.calls.specs.declared.Rewritten.{Rewritten}
 use Rattle.calls.specs.declared.Rewritten.the-variants.{Records, Refused}
 use Rattle.calls.proofs.Results.{rewrite-records}
+use Rattle.holes.specs.Listing.{listedCount, Lists}
+use Rattle.holes.specs.declared.Listed.{Listed}
+use Rattle.holes.specs.declared.Listed.the-variants.{Records as Listing, Refused as NotListed}
+use Rattle.holes.proofs.Calls.{refusal-changes-nothing, unrouted-rest}
 use Rattle.text.specs.Text.{Put}
 use Rattle.text.specs.Answers.{coversText, lookupText, heldText}
 use Rattle.replaying.specs.Kept.{byte, addressOf, wordsOf, roomOf, coversOf, lookupOf, heldOf, rewriteAnswer, coverAnswer, lookupAnswer, heldAnswer, answerText, beginOf}
 
 -- ---- Where text is kept.
 
-pub begin-behind : (at : ℕ) → at ≤ 65524 → at ≡ beginOf at
+pub begin-behind : (at : ℕ) → at ≤ 262108 → at ≡ beginOf at
 unfolding beginOf
-begin-behind at small = rw (le-leb at 65524 small)
+begin-behind at small = rw (le-leb at 262108 small)
 
-pub begin-anew : (at : ℕ) → 65524 < at → 0 ≡ beginOf at
+pub begin-anew : (at : ℕ) → 262108 < at → 0 ≡ beginOf at
 unfolding beginOf
-begin-anew at large = rw (lt-leb at 65524 large)
+begin-anew at large = rw (lt-leb at 262108 large)
 
 -- The same place, end and buffer, otherwise written.
 pub put-at : {ws : List ℕ} {at at₁ r r₁ : ℕ} {o o′ o₁ : List ℕ} → at ≡ at₁ → r₁ ≡ r → o₁ ≡ o′ → Put ws at r o o′ → Put ws at₁ r₁ o o₁
@@ -132,3 +136,13 @@ module _ (t : List ℕ) (mode default : ℕ) (o : List ℕ) (words : ℕ) (o′ 
   output-filled (Refused number index) ok =
       ap (allAre v) (ok .inner .output ∙ output-left (records t) number index o (rewriteReply t mode default (length o) words) (ok .inner .answer) ∙ filled)
       ∙ all-replicate v n
+
+-- The same of a list of what has no route.
+module _ (t o o′ : List ℕ) (v n : ℕ) (filled : o ≡ replicate n v) where
+  pub list-filled : (r : Listed) → Lists t o r o′ → allAre v (drop (8 * listedCount r) o′) ≡ true
+  list-filled (Listing count) ok =
+      ap (allAre v) (unrouted-rest t o (Listing count) o′ ok count refl)
+      ∙ ap (λ (l : List ℕ). allAre v (drop (8 * count) l)) filled
+      ∙ all-dropped v (8 * count) n
+  list-filled (NotListed number index) ok =
+      ap (allAre v) (refusal-changes-nothing t o (NotListed number index) o′ ok number index refl ∙ filled) ∙ all-replicate v n

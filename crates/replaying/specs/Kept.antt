@@ -5,7 +5,7 @@ use mathlib.Core.List.{List}
 use lib.Dec.{eqb, leb, ltb}
 use lib.ListN.{getD}
 use Rattle.theory.specs.Routes.{Match, miss, hit}
-use Rattle.refusals.specs.Rules.{Reply, gives, refuses}
+use Rattle.refusals.specs.Rules.{Reply, gives, refuses, judge}
 use Rattle.records.specs.Wire.{join, records}
 use Rattle.lookup.specs.Calls.{lookupReply, heldReply}
 use Rattle.lookup.specs.declared.answers.Lookup.{Lookup}
@@ -16,7 +16,8 @@ use Rattle.calls.specs.Rewriting.{rewriteReply}
 use Rattle.calls.specs.Covering.{coverReply}
 use Rattle.calls.specs.declared.Covers.{Covers}
 use Rattle.calls.specs.declared.Covers.the-variants.{Covered, Uncovered, Refused as NotAnswered}
-use Rattle.text.specs.Answers.{replyText, coversText, lookupText, heldText}
+use Rattle.holes.specs.Listing.{holesOf, unroutedRules}
+use Rattle.text.specs.Answers.{replyText, coversText, lookupText, heldText, listText}
 
 -- ---- A case: its first 16 bytes, and the table.
 
@@ -66,7 +67,11 @@ lookupAnswer t address = lookupText (lookupOf (lookupReply t address))
 abbrev pub heldAnswer : List ℕ → List ℕ
 heldAnswer t = heldText (heldOf (heldReply t))
 
--- Of a case: byte 0 is the call, 0 rewrite, 1 cover query, 2 lookup, 3 addresses held. No case has a higher one: it ends the run.
+abbrev pub listAnswer : List ℕ → ℕ → List ℕ
+listAnswer t room = listText true (judge (unroutedRules t room) (holesOf t))
+
+-- Of a case: byte 0 is the call, 0 rewrite, 1 cover query, 2 lookup, 3 addresses held. Call 4, a list of what has no route, has
+-- `listAnswer` for an output of as many bytes as `wordsOf` says. No case has a higher one: it ends the run.
 unfoldable pub answerText : List ℕ → List ℕ → List ℕ
 answerText head t =
     cond (eqb (byte head 0) 0) (rewriteAnswer t (byte head 1) (byte head 2) (roomOf head) (wordsOf head))
@@ -78,4 +83,4 @@ answerText head t =
 
 -- Behind the text that is kept up to `at`, or from the buffer's start once there is so much that it was written out.
 unfoldable pub beginOf : ℕ → ℕ
-beginOf at = cond (leb at 65524) at 0
+beginOf at = cond (leb at 262108) at 0

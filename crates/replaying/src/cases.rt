@@ -3,26 +3,32 @@
 
 use super::FILLED_BYTE;
 use super::FILLED_WORD;
+use super::Turn;
 use super::join2;
 use super::keep_output;
 use super::keep_work;
+use super::last_line;
 use super::room_for;
 use aggregate::covers;
 use aggregate::rewrite;
 use calls::Rewritten;
+use holes::Listed;
+use holes::unrouted;
 use lookup::addresses_held;
 use lookup::lookup;
 use records::join4;
 use text::answers::put_covers;
 use text::answers::put_held;
+use text::answers::put_listed;
 use text::answers::put_lookup;
 use text::answers::put_rewritten;
 ghost use mathlib.Core.Path.{_≡_};
 ghost use Prim.Native.Nat.{_*_, _≤_};
 ghost use lib.ListN.{length};
 ghost use Rattle.calls.specs.Rewriting.{countOf};
+ghost use Rattle.holes.specs.Listing.{listedCount};
 ghost use Rattle.text.specs.Text.{Put};
-ghost use Rattle.replaying.specs.Kept.{wordsOf, rewriteAnswer, coverAnswer, lookupAnswer, heldAnswer, answerText, beginOf};
+ghost use Rattle.replaying.specs.Kept.{wordsOf, rewriteAnswer, coverAnswer, lookupAnswer, heldAnswer, listAnswer, answerText, beginOf};
 
 // The bytes of the output that an answer's records take.
 fn written(answer: Rewritten) -> usize
@@ -47,7 +53,7 @@ fn keep_rewritten(
 ) -> usize
     requires { ⌜ length (now output) ≤ 65535 ⌝ }
     requires { ⌜ at ≤ length (now kept) ⌝ }
-    requires { ⌜ 262144 ≤ length (now kept) ⌝ }
+    requires { ⌜ 1048576 ≤ length (now kept) ⌝ }
     ensures { λ r. ⌜ Put (rewriteAnswer (now (table .entry)) mode default (length (now (output .entry))) (length (now (work .entry)))) (beginOf at) r (now (kept .entry)) (now (kept .exit)) ⌝ }
 {
     rooms::bytes::fill(output, FILLED_BYTE);
@@ -69,7 +75,7 @@ fn keep_covers(
     kept: &mut [u8],
 ) -> usize
     requires { ⌜ at ≤ length (now kept) ⌝ }
-    requires { ⌜ 262144 ≤ length (now kept) ⌝ }
+    requires { ⌜ 1048576 ≤ length (now kept) ⌝ }
     ensures { λ r. ⌜ Put (coverAnswer (now (table .entry)) address len (length (now (work .entry)))) (beginOf at) r (now (kept .entry)) (now (kept .exit)) ⌝ }
 {
     rooms::words::fill(work, FILLED_WORD);
@@ -82,7 +88,7 @@ fn keep_covers(
 // Keeps the answer of a lookup.
 fn keep_lookup(address: u32, table: &[u8], at: usize, kept: &mut [u8]) -> usize
     requires { ⌜ at ≤ length (now kept) ⌝ }
-    requires { ⌜ 262144 ≤ length (now kept) ⌝ }
+    requires { ⌜ 1048576 ≤ length (now kept) ⌝ }
     ensures { λ r. ⌜ Put (lookupAnswer (now (table .entry)) address) (beginOf at) r (now (kept .entry)) (now (kept .exit)) ⌝ }
 {
     let begin = room_for(kept, at);
@@ -92,14 +98,63 @@ fn keep_lookup(address: u32, table: &[u8], at: usize, kept: &mut [u8]) -> usize
 // Keeps the answer of addresses held.
 fn keep_held(table: &[u8], at: usize, kept: &mut [u8]) -> usize
     requires { ⌜ at ≤ length (now kept) ⌝ }
-    requires { ⌜ 262144 ≤ length (now kept) ⌝ }
+    requires { ⌜ 1048576 ≤ length (now kept) ⌝ }
     ensures { λ r. ⌜ Put (heldAnswer (now (table .entry))) (beginOf at) r (now (kept .entry)) (now (kept .exit)) ⌝ }
 {
     let begin = room_for(kept, at);
     put_held(addresses_held(table), begin, kept)
 }
 
-// Keeps the answer of a case: its first 16 bytes, its table, and the rooms of which it is lent as much as it says.
+// The bytes of the output that a list's records take.
+fn listed(answer: Listed) -> usize
+    requires { ⌜ 8 * listedCount answer ≤ 262144 ⌝ }
+    ensures { λ r. ⌜ r ≡ 8 * listedCount answer ⌝ }
+{
+    match answer {
+        Listed::Records(count) => 8 * count,
+        Listed::Refused { .. } => 0,
+    }
+}
+
+// Keeps the answer of a list of what has no route.
+fn keep_listed(table: &[u8], output: &mut [u8], at: usize, kept: &mut [u8]) -> usize
+    requires { ⌜ length (now output) ≤ 262144 ⌝ }
+    requires { ⌜ at ≤ length (now kept) ⌝ }
+    requires { ⌜ 1048576 ≤ length (now kept) ⌝ }
+    ensures { λ r. ⌜ Put (listAnswer (now (table .entry)) (length (now (output .entry)))) (beginOf at) r (now (kept .entry)) (now (kept .exit)) ⌝ }
+{
+    rooms::bytes::fill(output, FILLED_BYTE);
+    let answer = unrouted(table, output);
+    let begin = room_for(kept, at);
+    let end = put_listed(answer, output, true, begin, kept);
+    keep_output(output, listed(answer), end, kept)
+}
+
+// The turn of such a list: as many bytes of the output are lent as are asked for, if there are so many; else the line that ends the run.
+pub fn listed_turn(
+    asked: usize,
+    table: &[u8],
+    output: &mut [u8],
+    at: usize,
+    kept: &mut [u8],
+) -> Turn
+    requires { ⌜ 262144 ≡ length (now output) ⌝ }
+    requires { ⌜ at ≤ length (now kept) ⌝ }
+    requires { ⌜ 1048576 ≤ length (now kept) ⌝ }
+    ensures { λ r. ⌜ (asked ≤ 262144 → Put (listAnswer (now (table .entry)) asked) (beginOf at) (r .at) (now (kept .entry)) (now (kept .exit))) ⌝ }
+    ensures { λ r. ⌜ r .at ≤ length (now (kept .entry)) ⌝ }
+{
+    if output.len() < asked {
+        return last_line(b"output too large\n", at, kept);
+    }
+    let end = keep_listed(table, &mut output[..asked], at, kept);
+    Turn {
+        at: end,
+        more: true,
+    }
+}
+
+// Keeps the answer of a case but for call 4: its first 16 bytes, its table, and the rooms of which it is lent as much as it says.
 pub fn keep_answer(
     head: &[u8; 16],
     table: &[u8],
@@ -108,11 +163,11 @@ pub fn keep_answer(
     at: usize,
     kept: &mut [u8],
 ) -> usize
-    requires { ⌜ 65535 ≡ length (now output) ⌝ }
+    requires { ⌜ 262144 ≡ length (now output) ⌝ }
     requires { ⌜ 824480 ≡ length (now work) ⌝ }
     requires { ⌜ wordsOf (now head) ≤ 824480 ⌝ }
     requires { ⌜ at ≤ length (now kept) ⌝ }
-    requires { ⌜ 262144 ≤ length (now kept) ⌝ }
+    requires { ⌜ 1048576 ≤ length (now kept) ⌝ }
     ensures { λ r. ⌜ Put (answerText (now (head .entry)) (now (table .entry))) (beginOf at) r (now (kept .entry)) (now (kept .exit)) ⌝ }
 {
     let call = head[0];

@@ -47,14 +47,14 @@ pub fn send(kept: &[u8], at: usize)
     io::write_all(STDOUT_FILENO, &kept[..at]);
 }
 
-// Room for any answer's text, 24 bytes for each of 8,191 records and 36 more: once there is less, the kept text is written.
+// Room for any answer's text, 24 bytes for each of 32,768 records and 36 more: once there is less, the kept text is written.
 fn room_for(kept: &[u8], at: usize) -> usize
     requires { ⌜ at ≤ length (now kept) ⌝ }
-    requires { ⌜ 262144 ≤ length (now kept) ⌝ }
+    requires { ⌜ 1048576 ≤ length (now kept) ⌝ }
     ensures { λ r. ⌜ r ≡ beginOf at ⌝ }
-    ensures { λ r. ⌜ r + 196620 ≤ length (now (kept .entry)) ⌝ }
+    ensures { λ r. ⌜ r + 786468 ≤ length (now (kept .entry)) ⌝ }
 {
-    if at <= 65524 {
+    if at <= 262108 {
         return at;
     }
     send(kept, at);
@@ -65,7 +65,7 @@ fn room_for(kept: &[u8], at: usize) -> usize
 fn keep_line(line: &[u8], at: usize, kept: &mut [u8]) -> usize
     requires { ⌜ length (now line) ≤ 20 ⌝ }
     requires { ⌜ at ≤ length (now kept) ⌝ }
-    requires { ⌜ 262144 ≤ length (now kept) ⌝ }
+    requires { ⌜ 1048576 ≤ length (now kept) ⌝ }
     ensures { λ r. ⌜ Put (now (line .entry)) (beginOf at) r (now (kept .entry)) (now (kept .exit)) ⌝ }
 {
     let begin = room_for(kept, at);
@@ -76,7 +76,7 @@ fn keep_line(line: &[u8], at: usize, kept: &mut [u8]) -> usize
 pub fn last_line(line: &[u8], at: usize, kept: &mut [u8]) -> Turn
     requires { ⌜ length (now line) ≤ 20 ⌝ }
     requires { ⌜ at ≤ length (now kept) ⌝ }
-    requires { ⌜ 262144 ≤ length (now kept) ⌝ }
+    requires { ⌜ 1048576 ≤ length (now kept) ⌝ }
     ensures { λ r. ⌜ Put (now (line .entry)) (beginOf at) (r .at) (now (kept .entry)) (now (kept .exit)) ⌝ }
 {
     let end = keep_line(line, at, kept);
@@ -89,7 +89,7 @@ pub fn last_line(line: &[u8], at: usize, kept: &mut [u8]) -> Turn
 // Keeps `work not zero`, if a word of the room is not.
 fn keep_work(work: &[u32], at: usize, kept: &mut [u8]) -> usize
     requires { ⌜ at ≤ length (now kept) ⌝ }
-    requires { ⌜ 262144 ≤ length (now kept) ⌝ }
+    requires { ⌜ 1048576 ≤ length (now kept) ⌝ }
     ensures { λ r. ⌜ (allAre 0 (now (work .entry)) ≡ true → (r ≡ at) × (now (kept .exit) ≡ now (kept .entry))) ⌝ }
 {
     if rooms::words::are(work, 0, 0) {
@@ -101,7 +101,7 @@ fn keep_work(work: &[u32], at: usize, kept: &mut [u8]) -> usize
 // Keeps `output touched`, if a byte of the output from a place on is not as it was filled.
 fn keep_output(output: &[u8], from: usize, at: usize, kept: &mut [u8]) -> usize
     requires { ⌜ at ≤ length (now kept) ⌝ }
-    requires { ⌜ 262144 ≤ length (now kept) ⌝ }
+    requires { ⌜ 1048576 ≤ length (now kept) ⌝ }
     ensures { λ r. ⌜ (allAre 165 (drop from (now (output .entry))) ≡ true → (r ≡ at) × (now (kept .exit) ≡ now (kept .entry))) ⌝ }
 {
     if rooms::bytes::are(output, from, FILLED_BYTE) {

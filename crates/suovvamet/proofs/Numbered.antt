@@ -29,8 +29,12 @@ use Rattle.calls.specs.declared.Rewritten.the-variants.{Records, Refused}
 use Rattle.calls.specs.declared.Covers.the-variants.{Refused as NotAnswered}
 use Rattle.calls.proofs.Refusals.{rewrite-refused, rewrite-accepted, covers-refused, covers-answered}
 use Rattle.calls.proofs.Settled.{rewritten-same, covers-same}
+use Rattle.holes.specs.Conditions.{UnroutedCondition, of-table as of-map, short-output as short-list}
+use Rattle.holes.specs.Listing.{holesOf, listedSays}
+use Rattle.holes.specs.declared.Listed.the-variants.{Records as Listing, Refused as NotListed}
+use Rattle.holes.proofs.Calls.{listed-same, none-exactly, unrouted-listed, unrouted-refused}
 use Rattle.suovvamet.specs.Numbers.{numberOf, indexOf, isSetBy, wordsOf}
-use Rattle.suovvamet.specs.Calls.{RewriteInC, CoversInC, LookupInC, HeldInC, WordsInC}
+use Rattle.suovvamet.specs.Calls.{RewriteInC, CoversInC, LookupInC, HeldInC, WordsInC, UnroutedInC}
 
 -- ---- No condition has the number 0.
 table-number : {s : Bool} {t : List ℕ} {n i : ℕ} → TableCondition s t n i → 1 ≤ n
@@ -47,6 +51,10 @@ cover-number : {t : List ℕ} {len words n i : ℕ} → CoverCondition t len wor
 cover-number (of-set c) = table-number c
 cover-number (long-query h) = omega arith
 cover-number (short-room h) = omega arith
+
+unrouted-number : {t : List ℕ} {room n i : ℕ} → UnroutedCondition t room n i → 1 ≤ n
+unrouted-number (of-map c) = table-number c
+unrouted-number (short-list h) = omega arith
 
 -- ---- Number 10 is the work room's alone.
 table-below : {s : Bool} {t : List ℕ} {n i : ℕ} → TableCondition s t n i → n ≤ 8
@@ -213,3 +221,26 @@ module _ (t : List ℕ) (isSet : ℕ) {number needed index : ℕ} (ok : WordsInC
     words-in-c-cover len words =
         let is = needed-is (ok .answer) refl in
         (λ h. short-room (omega arith), λ c. let h = cover-ten c refl in omega arith)
+
+-- ---- A list of what has no route.
+module _ (t o : List ℕ) {number count index : ℕ} {o′ : List ℕ} (ok : UnroutedInC t o number count index o′) where
+  given-list : ((n : ℕ) × (listedSays (ok .answer) ≡ gives n)) ↔ None (UnroutedCondition t (length o))
+  given-list =
+      let exactly = unrouted-listed t o (ok .answer) o′ (ok .lists) in
+      let none = none-exactly t (length o) in (
+        λ (n, e). let f = exactly n .0 (listed-same (ok .answer) (Listing n) e) in none .1 (f .0, f .1),
+        λ no. let f = none .0 no in (length (holesOf t), ap listedSays (exactly (length (holesOf t)) .1 (f .0, f .1, refl))),
+      )
+
+  refused-list : (n i : ℕ) → listedSays (ok .answer) ≡ refuses n i ↔ First (UnroutedCondition t (length o)) n i
+  refused-list n i =
+      let exactly = unrouted-refused t o (ok .answer) o′ (ok .lists) n i in
+      (λ e. exactly .0 (listed-same (ok .answer) (NotListed n i) e), λ f. ap listedSays (exactly .1 f))
+
+  -- The result is 0 exactly when no condition for a refusal holds.
+  pub unrouted-in-c-answered : number ≡ 0 ↔ None (UnroutedCondition t (length o))
+  unrouted-in-c-answered = answered (listedSays (ok .answer)) given-list refused-list (λ n i f. unrouted-number (f .0)) (ok .number-is) (ok .index-is)
+
+  -- Else it is, with the index, the first that holds.
+  pub unrouted-in-c-refused : (n i : ℕ) → ((1 ≤ n) × (number ≡ n) × (index ≡ i)) ↔ First (UnroutedCondition t (length o)) n i
+  unrouted-in-c-refused = numbered (listedSays (ok .answer)) given-list refused-list (λ n i f. unrouted-number (f .0)) (ok .number-is) (ok .index-is)

@@ -16,8 +16,11 @@ use Rattle.calls.specs.Covering.{coversSays}
 use Rattle.calls.specs.declared.Rewritten.{Rewritten}
 use Rattle.calls.specs.declared.Covers.{Covers}
 use Rattle.calls.proofs.Settled.{rewrite-settled, covers-settled}
+use Rattle.holes.specs.Listing.{listedSays, listedCount}
+use Rattle.holes.specs.declared.Listed.{Listed}
+use Rattle.holes.proofs.Calls.{unrouted-settled}
 use Rattle.suovvamet.specs.Numbers.{numberOf, indexOf, coveredOf, foundOf, hopOf, lengthOf, addressesOf, isSetBy, wordsOf}
-use Rattle.suovvamet.specs.Calls.{RewriteInC, CoversInC, LookupInC, HeldInC, WordsInC}
+use Rattle.suovvamet.specs.Calls.{RewriteInC, CoversInC, LookupInC, HeldInC, WordsInC, UnroutedInC}
 
 -- Parts of two answers that are the same are the same.
 same-part : {R N : Type 0} (part : R → N) {a b : R} {m n : N} → a ≡ b → m ≡ part a → n ≡ part b → m ≡ n
@@ -82,4 +85,16 @@ words-in-c-settled t isSet a b =
       same-part (λ (r : WorkWords). numberOf (wordsSays r)) e (a .number-is) (b .number-is),
       same-part wordsOf e (a .words-is) (b .words-is),
       same-part (λ (r : WorkWords). indexOf (wordsSays r)) e (a .index-is) (b .index-is),
+    )
+
+-- Of a list of what has no route: the number, the count, the index and the output.
+pub unrouted-in-c-settled : (t o : List ℕ) {number number₁ count count₁ index index₁ : ℕ} {o′ o₁ : List ℕ}
+    → UnroutedInC t o number count index o′ → UnroutedInC t o number₁ count₁ index₁ o₁
+    → (number ≡ number₁) × (count ≡ count₁) × (index ≡ index₁) × (o′ ≡ o₁)
+unrouted-in-c-settled t o {o′ = o′} {o₁ = o₁} a b =
+    let s = unrouted-settled t o (a .answer) (b .answer) o′ o₁ (a .lists) (b .lists) in (
+      same-part (λ (r : Listed). numberOf (listedSays r)) (s .0) (a .number-is) (b .number-is),
+      same-part listedCount (s .0) (a .count-is) (b .count-is),
+      same-part (λ (r : Listed). indexOf (listedSays r)) (s .0) (a .index-is) (b .index-is),
+      s .1,
     )

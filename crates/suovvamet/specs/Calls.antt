@@ -13,6 +13,8 @@ use Rattle.calls.specs.Rewriting.{rewrittenSays, countOf, changeOf, Rewrites}
 use Rattle.calls.specs.Covering.{coversSays, Queried}
 use Rattle.calls.specs.declared.Rewritten.{Rewritten}
 use Rattle.calls.specs.declared.Covers.{Covers}
+use Rattle.holes.specs.Listing.{listedSays, listedCount, Lists}
+use Rattle.holes.specs.declared.Listed.{Listed}
 use Rattle.suovvamet.specs.Numbers.{numberOf, indexOf, coveredOf, foundOf, hopOf, lengthOf, addressesOf, isSetBy, wordsOf}
 
 -- Of a rewrite: the table t, the output o and the room work were lent; the output is o′ then and the room work′.
@@ -57,3 +59,11 @@ pub record WordsInC (t : List ℕ) (isSet number needed index : ℕ) : Type 0 wh
   pub number-is : number ≡ numberOf (wordsSays answer)
   pub index-is : index ≡ indexOf (wordsSays answer)
   pub words-is : needed ≡ wordsOf answer
+
+-- Of a list of what has no route: the table t and the output o were lent, and the output is o′ then.
+pub record UnroutedInC (t o : List ℕ) (number count index : ℕ) (o′ : List ℕ) : Type 0 where
+  pub answer : Listed
+  pub lists : Lists t o answer o′
+  pub number-is : number ≡ numberOf (listedSays answer)
+  pub index-is : index ≡ indexOf (listedSays answer)
+  pub count-is : count ≡ listedCount answer

@@ -1,4 +1,5 @@
--- The answers of the calls in numbers. The count and the change of a rewrite are `countOf` and `changeOf` of the crate calls.
+-- The answers of the calls in numbers. The count and the change of a rewrite are `countOf` and `changeOf` of the crate calls, the count of a list of what
+-- has no route is `listedCount` of the crate holes.
 use Prim.Native.Nat.{ℕ}
 use Rattle.refusals.specs.Rules.{Reply, gives, refuses}
 use Rattle.lookup.specs.declared.answers.Lookup.{Lookup}

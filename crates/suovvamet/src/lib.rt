@@ -3,6 +3,7 @@
 
 use calls::Covers;
 use calls::Rewritten;
+use holes::Listed;
 use lookup::answers::AddressesHeld;
 use lookup::answers::Lookup;
 use workroom::WorkWords;
@@ -11,8 +12,9 @@ ghost use Rattle.lookup.specs.Calls.{lookupSays, heldSays};
 ghost use Rattle.workroom.specs.Needed.{wordsSays};
 ghost use Rattle.calls.specs.Covering.{coversSays};
 ghost use Rattle.calls.specs.Rewriting.{rewrittenSays, countOf, changeOf};
+ghost use Rattle.holes.specs.Listing.{listedSays, listedCount};
 ghost use Rattle.suovvamet.specs.Numbers.{numberOf, indexOf, coveredOf, foundOf, hopOf, lengthOf, addressesOf, wordsOf};
-ghost use Rattle.suovvamet.specs.Calls.{RewriteInC, CoversInC, LookupInC, HeldInC, WordsInC};
+ghost use Rattle.suovvamet.specs.Calls.{RewriteInC, CoversInC, LookupInC, HeldInC, WordsInC, UnroutedInC};
 
 // A refusal in numbers, both 0 for an answer.
 struct Refusal {
@@ -284,6 +286,45 @@ pub extern "C" fn suovvamet_work_words(
     let answer = workroom::work_words(table, is_set != 0);
     *needed = words_needed(answer);
     let refused = words_refusal(answer);
+    *index = refused.index;
+    refused.number
+}
+
+// The parts of the answer of a list of what has no route.
+fn listed_refusal(r: Listed) -> Refusal
+    ensures { λ f. ⌜ (f .number ≡ numberOf (listedSays r)) × (f .index ≡ indexOf (listedSays r)) ⌝ }
+{
+    match r {
+        Listed::Records(_) => no_refusal(),
+        Listed::Refused { number, index } => in_numbers(number, index),
+    }
+}
+
+fn listed_count(r: Listed) -> u64
+    ensures { λ n. ⌜ n ≡ listedCount r ⌝ }
+{
+    match r {
+        Listed::Records(count) => count as u64,
+        Listed::Refused {
+            number: _,
+            index: _,
+        } => 0,
+    }
+}
+
+// The widest prefixes without a route, into the output: their number.
+#[no_mangle]
+pub extern "C" fn suovvamet_unrouted(
+    table: &[u8],
+    output: &mut [u8],
+    count: &mut u64,
+    index: &mut u64,
+) -> u32
+    ensures { λ n. ⌜ UnroutedInC (now (table .entry)) (now (output .entry)) n (now (count .exit)) (now (index .exit)) (now (output .exit)) ⌝ }
+{
+    let answer = holes::unrouted(table, output);
+    *count = listed_count(answer);
+    let refused = listed_refusal(answer);
     *index = refused.index;
     refused.number
 }

@@ -1,21 +1,26 @@
 -- The text of an answer that meets its statement is the text of the right reply. Assumes of the table that its elements are bytes.
 use mathlib.Core.Path.{_≡_, refl, sym, ap, ap₂, _∙_}
-use mathlib.Core.Bool.{Bool}
+use mathlib.Core.Bool.{Bool, false}
 use mathlib.Core.List.{List, _++_}
 use Prim.Native.Nat.{ℕ, _*_, _≤_}
 use native.Mathlib.Omega.{arith}
 use lib.IntN.{ℤ}
 use lib.ListN.{length}
 use Rattle.theory.specs.Routes.{Route}
-use Rattle.refusals.specs.Rules.{Reply, refuses}
+use Rattle.refusals.specs.Rules.{Reply, refuses, judge}
+use Rattle.refusals.proofs.Judged.{gives-any, refuses-any}
 use Rattle.records.specs.Wire.{records, Bytes}
 use Rattle.calls.specs.declared.Rewritten.{Rewritten}
 use Rattle.calls.specs.declared.Rewritten.the-variants.{Records, Refused}
 use Rattle.calls.specs.Rewriting.{countOf, resultOf, rewriteReply, writtenOf, Rewrites}
 use Rattle.calls.proofs.Refusals.{answerable-exactly, reply-gives}
 use Rattle.calls.proofs.Results.{rewrite-records, rewrite-length, rewrite-reads}
-use Rattle.text.specs.Text.{linesOf, changeLine}
-use Rattle.text.specs.Answers.{rewrittenText, replyText}
+use Rattle.holes.specs.declared.Listed.{Listed}
+use Rattle.holes.specs.declared.Listed.the-variants.{Records as Listing, Refused as NotListed}
+use Rattle.holes.specs.Listing.{holesOf, unroutedRules, listedCount, Lists}
+use Rattle.holes.proofs.Calls.{unrouted-listed, unrouted-length, unrouted-reads}
+use Rattle.text.specs.Text.{linesOf, changeLine, totalEnd}
+use Rattle.text.specs.Answers.{rewrittenText, replyText, listedText, listText}
 
 -- A reply that is said as a refusal is that refusal.
 said-refused : (before number index : ℕ) (q : Reply (List Route)) → refuses number index ≡ writtenOf before q → q ≡ refuses number index
@@ -47,3 +52,21 @@ module _ (t : List ℕ) (mode default : ℕ) (o : List ℕ) (words : ℕ) (o′ 
       let room = answerable-exactly t mode default (length o) words .0 (f .0) .0 .enough-output in
       omega (arith, rewrite-length t mode default o words (Records count change) o′ w′ ok)
   rewritten-fits (Refused number index) ok = omega arith
+
+-- ---- A list of what has no route.
+module _ (t o o′ : List ℕ) where
+  pub listed-text : (total : Bool) (r : Listed) → Lists t o r o′ → listedText total r o′ ≡ listText total (judge (unroutedRules t (length o)) (holesOf t))
+  unfolding listedText listText
+  listed-text total (Listing count) ok =
+      ap₂ (λ (rs : List Route) (n : ℕ). linesOf false rs ++ totalEnd total n) (unrouted-reads t o (Listing count) o′ ok count refl)
+      (sym (unrouted-listed t o (Listing count) o′ ok count .0 refl .2))
+      ∙ sym (ap (listText total) (gives-any (unroutedRules t (length o)) (length (holesOf t)) count (holesOf t) (sym (ok .answer))))
+  listed-text total (NotListed number index) ok =
+      sym (ap (listText total) (refuses-any (unroutedRules t (length o)) (length (holesOf t)) (holesOf t) number index (sym (ok .answer))))
+
+  -- The records that are answered with stand in the output.
+  pub listed-fits : (r : Listed) → Lists t o r o′ → 8 * listedCount r ≤ length o′
+  listed-fits (Listing count) ok =
+      let f = unrouted-listed t o (Listing count) o′ ok count .0 refl in
+      omega (arith, f .1, f .2, unrouted-length t o (Listing count) o′ ok)
+  listed-fits (NotListed number index) ok = omega arith

@@ -1,6 +1,6 @@
 -- The text of each call's answer, and of the reply to a rewrite.
 use Prim.Native.Nat.{ℕ, _*_}
-use mathlib.Core.Bool.{Bool}
+use mathlib.Core.Bool.{Bool, false}
 use mathlib.Core.List.{List, [], _∷_, _++_}
 use lib.IntN.{pos, _-ℤ_}
 use lib.ListN.{length, take}
@@ -15,7 +15,9 @@ use Rattle.calls.specs.declared.Rewritten.{Rewritten}
 use Rattle.calls.specs.declared.Rewritten.the-variants.{Records, Refused as NotWritten}
 use Rattle.calls.specs.declared.Covers.{Covers}
 use Rattle.calls.specs.declared.Covers.the-variants.{Covered, Uncovered, Refused as NotAnswered}
-use Rattle.text.specs.Text.{linesOf, changeLine, refusedLine, foundLine, addressesLine}
+use Rattle.holes.specs.declared.Listed.{Listed}
+use Rattle.holes.specs.declared.Listed.the-variants.{Records as Listing, Refused as NotListed}
+use Rattle.text.specs.Text.{linesOf, changeLine, refusedLine, foundLine, addressesLine, totalEnd}
 
 -- Of a rewrite that left the output o: the records' lines, then the change; or the refusal.
 unfoldable pub rewrittenText : Bool → Rewritten → List ℕ → List ℕ
@@ -43,3 +45,13 @@ lookupText (NotLooked number index) = refusedLine number index
 unfoldable pub heldText : AddressesHeld → List ℕ
 heldText (Count n) = addressesLine n
 heldText (NotCounted number index) = refusedLine number index
+
+-- Of a list of what has no route, in the output o: a prefix a line, then the total, if it is wanted; or the refusal.
+unfoldable pub listedText : Bool → Listed → List ℕ → List ℕ
+listedText total (Listing count) o = linesOf false (routes (take (8 * count) o)) ++ totalEnd total count
+listedText total (NotListed number index) o = refusedLine number index
+
+-- Of the reply to that call.
+unfoldable pub listText : Bool → Reply (List Route) → List ℕ
+listText total (gives rs) = linesOf false rs ++ totalEnd total (length rs)
+listText total (refuses number index) = refusedLine number index

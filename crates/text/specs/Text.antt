@@ -71,6 +71,14 @@ foundLine hop len =
 unfoldable pub addressesLine : ℕ → List ℕ
 addressesLine n = 97 ∷ 100 ∷ 100 ∷ 114 ∷ 101 ∷ 115 ∷ 115 ∷ 101 ∷ 115 ∷ 32 ∷ decimal n ++ (10 ∷ [])
 
+-- The line `unrouted N`.
+unfoldable pub unroutedLine : ℕ → List ℕ
+unroutedLine n = 117 ∷ 110 ∷ 114 ∷ 111 ∷ 117 ∷ 116 ∷ 101 ∷ 100 ∷ 32 ∷ decimal n ++ (10 ∷ [])
+
+-- The end of a list of n prefixes: that line, where `total` says so.
+unfoldable pub totalEnd : Bool → ℕ → List ℕ
+totalEnd total n = cond total (unroutedLine n) []
+
 -- ---- Where text is put.
 
 -- o′ is o with the text ws laid from `at` on, up to r, which o has room for.

@@ -6,15 +6,30 @@ use super::put_change;
 use super::put_found;
 use super::put_records;
 use super::put_refused;
+use super::put_total;
 use calls::Covers;
 use calls::Rewritten;
+use holes::Listed;
 use lookup::answers::AddressesHeld;
 use lookup::answers::Lookup;
 ghost use Prim.Native.Nat.{_+_, _*_, _≤_};
-ghost use lib.ListN.{length};
+ghost use lib.ListN.{length, take};
+ghost use Rattle.records.specs.Wire.{routes};
 ghost use Rattle.calls.specs.Rewriting.{countOf};
-ghost use Rattle.text.specs.Text.{Put};
-ghost use Rattle.text.specs.Answers.{rewrittenText, coversText, lookupText, heldText};
+ghost use Rattle.holes.specs.Listing.{listedCount};
+ghost use Rattle.text.specs.Text.{Put, linesOf};
+ghost use Rattle.text.specs.Answers.{rewrittenText, coversText, lookupText, heldText, listedText};
+
+// The lines of the first records of an output.
+fn put_written(output: &[u8], count: usize, hops: bool, at: usize, out: &mut [u8]) -> usize
+    requires { ⌜ 8 * count ≤ length (now output) ⌝ }
+    requires { ⌜ at + 24 * count ≤ length (now out) ⌝ }
+    ensures { λ r. ⌜ Put (linesOf hops (routes (take (8 * count) (now (output .entry))))) at r (now (out .entry)) (now (out .exit)) ⌝ }
+    ensures { λ r. ⌜ r ≤ at + 24 * count ⌝ }
+{
+    let size = 8 * count;
+    put_records(&output[..size], hops, at, out)
+}
 
 // Of a rewrite, from the output that it left.
 pub fn put_rewritten(
@@ -30,8 +45,7 @@ pub fn put_rewritten(
 {
     match answer {
         Rewritten::Records { count, change } => {
-            let size = 8 * count;
-            let end = put_records(&output[..size], hops, at, out);
+            let end = put_written(output, count, hops, at, out);
             put_change(change, end, out)
         }
         Rewritten::Refused { number, index } => put_refused(number, index, at, out),
@@ -70,5 +84,20 @@ pub fn put_held(answer: AddressesHeld, at: usize, out: &mut [u8]) -> usize
     match answer {
         AddressesHeld::Count(n) => put_addresses(n, at, out),
         AddressesHeld::Refused { number, index } => put_refused(number, index, at, out),
+    }
+}
+
+// Of a list of what has no route, from the output that it left, with the total where that is wanted.
+pub fn put_listed(answer: Listed, output: &[u8], total: bool, at: usize, out: &mut [u8]) -> usize
+    requires { ⌜ 8 * listedCount answer ≤ length (now output) ⌝ }
+    requires { ⌜ at + 24 * listedCount answer + 36 ≤ length (now out) ⌝ }
+    ensures { λ r. ⌜ Put (listedText total answer (now (output .entry))) at r (now (out .entry)) (now (out .exit)) ⌝ }
+{
+    match answer {
+        Listed::Records(count) => {
+            let end = put_written(output, count, false, at, out);
+            put_total(count as u64, total, end, out)
+        }
+        Listed::Refused { number, index } => put_refused(number, index, at, out),
     }
 }

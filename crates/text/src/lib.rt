@@ -11,7 +11,7 @@ ghost use Prim.Native.Nat.{_+_, _*_, _≤_, _<_};
 ghost use lib.IntN.{natAbs};
 ghost use lib.ListN.{length};
 ghost use Rattle.records.specs.Wire.{records, routeAt, routes};
-ghost use Rattle.text.specs.Text.{Put, decimal, signed, dotted, hopEnd, lineOf, linesOf, changeLine, refusedLine, foundLine, addressesLine};
+ghost use Rattle.text.specs.Text.{Put, decimal, signed, dotted, hopEnd, lineOf, linesOf, changeLine, refusedLine, foundLine, addressesLine, unroutedLine, totalEnd};
 
 // One byte.
 fn put_byte(b: u8, at: usize, out: &mut [u8]) -> usize
@@ -179,4 +179,21 @@ pub fn put_addresses(n: u64, at: usize, out: &mut [u8]) -> usize
 {
     let word = put_bytes(b"addresses ", at, out);
     put_last(n, word, out)
+}
+
+// The line `unrouted N`.
+fn put_unrouted(n: u64, at: usize, out: &mut [u8]) -> usize
+    requires { ⌜ at + 30 ≤ length (now out) ⌝ }
+    ensures { λ r. ⌜ Put (unroutedLine n) at r (now (out .entry)) (now (out .exit)) ⌝ }
+{
+    let word = put_bytes(b"unrouted ", at, out);
+    put_last(n, word, out)
+}
+
+// The same where `total` says so, else nothing.
+pub fn put_total(n: u64, total: bool, at: usize, out: &mut [u8]) -> usize
+    requires { ⌜ at + 30 ≤ length (now out) ⌝ }
+    ensures { λ r. ⌜ Put (totalEnd total n) at r (now (out .entry)) (now (out .exit)) ⌝ }
+{
+    if total { put_unrouted(n, at, out) } else { at }
 }

@@ -8,14 +8,14 @@ use Rattle.replay.proofs.main.Tie as tie
 
 abbrev Inv-loop : tie.InvT-loop
 Inv-loop table₀ output₀ work₀ kept₀ at₀ turns₀ table output work kept at turns =
-    (length table ≡ 65535) × (length output ≡ 65535) × (length work ≡ 824480) × (length kept ≡ 262144) × (at ≤ 262144)
+    (length table ≡ 65535) × (length output ≡ 262144) × (length work ≡ 824480) × (length kept ≡ 1048576) × (at ≤ 1048576)
 
 abbrev μ-loop : tie.MeasureT-loop
 μ-loop table₀ output₀ work₀ kept₀ at₀ turns₀ table output work kept at turns = turns
 
 loop-holds : tie.Need-loop-holds Inv-loop μ-loop
 loop-holds c =
-    (length-replicate {A = ℕ} 65535 0, length-replicate {A = ℕ} 65535 0, length-replicate {A = ℕ} 824480 0, length-replicate {A = ℕ} 262144 0, omega arith)
+    (length-replicate {A = ℕ} 65535 0, length-replicate {A = ℕ} 262144 0, length-replicate {A = ℕ} 824480 0, length-replicate {A = ℕ} 1048576 0, omega arith)
 
 slice-aggregate-turn : tie.Need-slice-aggregate-turn Inv-loop μ-loop
 slice-aggregate-turn c = sym (c .before .before .loop .inv .0)
@@ -33,7 +33,7 @@ turn-requires : tie.Need-turn-requires Inv-loop μ-loop
 turn-requires c κs =
     let inv = c .before .before .before .before .before .loop .inv in
     let fits : c .before .before .before .before .before .loop .at ≤ length (c .before .before .before .before .before .loop .kept) = omega (arith, inv .3, inv .4) in
-    let large : 262144 ≤ length (c .before .before .before .before .before .loop .kept) = omega (arith, inv .3) in
+    let large : 1048576 ≤ length (c .before .before .before .before .before .loop .kept) = omega (arith, inv .3) in
     (sym (inv .0), (sym (inv .1), (sym (inv .2), (fits, large))))
 
 turns-left-requires : tie.Need-turns-left-requires Inv-loop μ-loop

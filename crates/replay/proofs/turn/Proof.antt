@@ -1,9 +1,18 @@
 -- `turn` is safe and ends. Assumes nothing.
+use Prim.Native.Nat.{ℕ, _≤_}
+use mathlib.Core.Path.{_≡_}
+use mathlib.Core.List.{List, _++_}
 use native.Mathlib.Omega.{arith}
-use lib.ListN.{length-append, length-take, length-drop}
+use lib.ListN.{length, take, drop, length-append, length-take, length-drop}
 use borrow.Author.Needs.{needs}
 use Rattle.replay.proofs.turn.Statement.{statement}
 use Rattle.replay.proofs.turn.Tie as tie
+
+-- The part of a table that was read has as many bytes as were asked for.
+read-part : (n : ℕ) (table part : List ℕ) → n ≤ length table → length part ≡ length (take n table) → n ≡ length (take n (part ++ drop n table))
+read-part n table part fits same =
+    let size = length-take n table in
+    simp (length-take, length-append, length-drop) (omega arith)
 
 slice-aggregate-read-full : tie.Need-slice-aggregate-read-full
 slice-aggregate-read-full c = search needs
@@ -92,14 +101,24 @@ array-read-join4-4 c = search needs
 join4-requires : tie.Need-join4-requires
 join4-requires c κs = search needs
 
-cast-words : tie.Need-cast-words
-cast-words c = search needs
+cast-asked : tie.Need-cast-asked
+cast-asked c = search needs
 
-slice-aggregate-last-line-4 : tie.Need-slice-aggregate-last-line-4
-slice-aggregate-last-line-4 c = search needs
+array-read-if5 : tie.Need-array-read-if5
+array-read-if5 c = search needs
 
-last-line-requires-4 : tie.Need-last-line-requires-4
-last-line-requires-4 c κs = search needs
+slice-reshare-prefix-listed-turn : tie.Need-slice-reshare-prefix-listed-turn
+slice-reshare-prefix-listed-turn c = search needs
+
+slice-aggregate-listed-turn : tie.Need-slice-aggregate-listed-turn
+slice-aggregate-listed-turn c =
+    let start = c .before .before .before .before .before .before .before .before .before .before .before .before .before .before .before .before .before .before .before in
+    let size = c .before .before .before .before .before .before .before .before .before .join2 .ensures .1 in
+    read-part (c .before .before .before .before .before .before .before .before .before .join2 .result) (start .args .table .now) (c .before .before .before .before .before .before .before .read-full2 .last .1 .0) (omega (arith, size, start .pre .0))
+    (c .before .before .before .before .before .before .before .read-full2 .kept .1 .0)
+
+listed-turn-requires : tie.Need-listed-turn-requires
+listed-turn-requires c κs = search needs
 
 same-length-6 : tie.Need-same-length-6
 same-length-6 c = search needs
@@ -107,26 +126,17 @@ same-length-6 c = search needs
 same-length-7 : tie.Need-same-length-7
 same-length-7 c = search needs
 
+same-length-8 : tie.Need-same-length-8
+same-length-8 c = search needs
+
 returns-5 : tie.Need-returns-5
 returns-5 c = search needs
 
-slice-reshare-prefix-keep-answer : tie.Need-slice-reshare-prefix-keep-answer
-slice-reshare-prefix-keep-answer c = search needs
+slice-aggregate-last-line-4 : tie.Need-slice-aggregate-last-line-4
+slice-aggregate-last-line-4 c = search needs
 
-slice-aggregate-keep-answer : tie.Need-slice-aggregate-keep-answer
-slice-aggregate-keep-answer c =
-    let size = c .before .before .before .before .before .before .before .before .before .before .join2 in
-    let start = c .before .before .before .before .before .before .before .before .before .before .before .before .before .before .before .before .before .before .before .before in
-    let part = length-take (size .result) (start .args .table .now) in
-    simp (length-take, length-append, length-drop) (omega (arith, size .ensures .1, c .before .before .before .before .before .before .before .before .read-full2 .kept .1 .0, part, start .pre .0))
-
-keep-answer-requires : tie.Need-keep-answer-requires
-keep-answer-requires c κs =
-    let pre = c .before .before .before .before .before .before .before .before .before .before .before .before .before .before .before .before .before .before .before .before .before .before .before .pre in
-    (pre .1 .0, (pre .1 .1 .0, (omega (arith, c .before .before .before .before .before .before .join4 .ensures, c .before .before .before .before .before .if5 .left), pre .1 .1 .1)))
-
-same-length-8 : tie.Need-same-length-8
-same-length-8 c = search needs
+last-line-requires-4 : tie.Need-last-line-requires-4
+last-line-requires-4 c κs = search needs
 
 same-length-9 : tie.Need-same-length-9
 same-length-9 c = search needs
@@ -134,11 +144,36 @@ same-length-9 c = search needs
 same-length-10 : tie.Need-same-length-10
 same-length-10 c = search needs
 
+returns-6 : tie.Need-returns-6
+returns-6 c = search needs
+
+slice-reshare-prefix-keep-answer : tie.Need-slice-reshare-prefix-keep-answer
+slice-reshare-prefix-keep-answer c = search needs
+
+slice-aggregate-keep-answer : tie.Need-slice-aggregate-keep-answer
+slice-aggregate-keep-answer c =
+    let start = c .before .before .before .before .before .before .before .before .before .before .before .before .before .before .before .before .before .before .before .before .before in
+    let size = c .before .before .before .before .before .before .before .before .before .before .before .join2 .ensures .1 in
+    read-part (c .before .before .before .before .before .before .before .before .before .before .before .join2 .result) (start .args .table .now) (c .before .before .before .before .before .before .before .before .before .read-full2 .last .1 .0) (omega (arith, size, start .pre .0))
+    (c .before .before .before .before .before .before .before .before .before .read-full2 .kept .1 .0)
+
+keep-answer-requires : tie.Need-keep-answer-requires
+keep-answer-requires c κs = search needs
+
 same-length-11 : tie.Need-same-length-11
 same-length-11 c = search needs
 
-returns-6 : tie.Need-returns-6
-returns-6 c = search needs
+same-length-12 : tie.Need-same-length-12
+same-length-12 c = search needs
+
+same-length-13 : tie.Need-same-length-13
+same-length-13 c = search needs
+
+same-length-14 : tie.Need-same-length-14
+same-length-14 c = search needs
+
+returns-7 : tie.Need-returns-7
+returns-7 c = search needs
 
 pub turn-spec : {M : Type 1} → statement M
 turn-spec =
@@ -173,17 +208,25 @@ turn-spec =
     array-read-join4-3
     array-read-join4-4
     join4-requires
-    cast-words
-    slice-aggregate-last-line-4
-    last-line-requires-4
+    cast-asked
+    array-read-if5
+    slice-reshare-prefix-listed-turn
+    slice-aggregate-listed-turn
+    listed-turn-requires
     same-length-6
     same-length-7
+    same-length-8
     returns-5
+    slice-aggregate-last-line-4
+    last-line-requires-4
+    same-length-9
+    same-length-10
+    returns-6
     slice-reshare-prefix-keep-answer
     slice-aggregate-keep-answer
     keep-answer-requires
-    same-length-8
-    same-length-9
-    same-length-10
     same-length-11
-    returns-6)
+    same-length-12
+    same-length-13
+    same-length-14
+    returns-7)

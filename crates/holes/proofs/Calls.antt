@@ -1,0 +1,213 @@
+-- What the call's statement settles: no second answer satisfies it, each case of an answer stands for exactly these facts, and what is written is the
+-- list. The answer of a call is any r, and the output o′, of which the call's `ensures` holds. Assumes nothing.
+use Prim.{tt}
+use Prim.Native.Nat.{ℕ, _+_, _*_, _^_, _≤_, _<_}
+use mathlib.Core.Path.{_≡_, refl, sym, ap, subst, _∙_}
+use mathlib.Core.Bool.{Bool, true, false}
+use mathlib.Core.List.{List, [], _∷_, _++_}
+use mathlib.Core.Logic.{_⊎_, inl, inr, _↔_}
+use native.Mathlib.Decide.{decLe}
+use native.Mathlib.Omega.{arith}
+use lib.Dec.{leb}
+use lib.ListN.{length, take, drop, length-append, length-drop}
+use lib.Seq.{take-at, drop-at}
+use borrow.Author.Tests.{leb-false, lt-leb}
+use Rattle.theory.specs.Routes.{Route, held, miss, lookup, All, Table, Member}
+use Rattle.theory.proofs.Routed.{Bare}
+use Rattle.refusals.specs.Rules.{Rule, rule, Reply, gives, refuses, judge}
+use Rattle.refusals.specs.Order.{rank, First, None}
+use Rattle.refusals.proofs.Answered.{unique, given-exactly, refused-exactly}
+use Rattle.refusals.proofs.Judged.{Broken, gives-any, refuses-any}
+use Rattle.refusals.proofs.Ranked.{broken-left, broken-right, sound-each, sound-append, singles, ranked-append, Ranked}
+use Rattle.records.specs.Wire.{records, routes, Bytes, bytesOf}
+use Rattle.records.proofs.Reading.{length-routes}
+use Rattle.records.proofs.Written.{length-bytes, routes-bytes}
+use Rattle.table.specs.Conditions.{TableCondition, Accepted}
+use Rattle.table.specs.TableRules.{tableRules}
+use Rattle.table.proofs.Accepted.{accepted-exactly, not-refused}
+use Rattle.table.proofs.Tested.{table-tests, table-ranked, table-numbers}
+use Rattle.lookup.specs.Calls.{lookupSays, lookupReply}
+use Rattle.lookup.specs.declared.answers.Lookup.{Lookup}
+use Rattle.lookup.specs.declared.answers.Lookup.the-variants.{NoRoute}
+use Rattle.lookup.proofs.Calls.{miss-held, lookup-none-exactly}
+use Rattle.calls.specs.Rewriting.{outputOf}
+use Rattle.holes.specs.declared.Listed.{Listed}
+use Rattle.holes.specs.declared.Listed.the-variants.{Records, Refused}
+use Rattle.holes.specs.Conditions.{UnroutedCondition, of-table, short-output}
+use Rattle.holes.specs.Holes.{IsHole}
+use Rattle.holes.specs.Listing.{holesOf, unroutedRules, listedSays, Lists}
+use Rattle.holes.proofs.Holes.{holes-hold, holes-table, holes-bare, holes-listed}
+use Rattle.holes.proofs.Most.{holes-sure}
+use Rattle.holes.proofs.Replies.{accepted-run, whole-holes}
+
+-- Answers that say the same are the same.
+pub listed-same : (a b : Listed) → listedSays a ≡ listedSays b → a ≡ b
+listed-same (Records m) (Records n) e = cc
+listed-same (Records m) (Refused n i) e = let z : _≡_ {A = ℕ} 0 1 = cc in absurd (omega arith)
+listed-same (Refused n i) (Records m) e = let z : _≡_ {A = ℕ} 0 1 = cc in absurd (omega arith)
+listed-same (Refused m i) (Refused n j) e = cc
+
+-- ---- The rules test the conditions, and stand in the order of the checks.
+module _ (t : List ℕ) (room : ℕ) where
+  abbrev Holds : ℕ → ℕ → Type 0
+  Holds = UnroutedCondition t room
+
+  abbrev last : List Rule
+  last = rule 11 0 (leb (8 * length (holesOf t)) room) ∷ []
+
+  pub unrouted-ranked : Ranked 4 11 (unroutedRules t room)
+  unfolding unroutedRules rank
+  unrouted-ranked = ranked-append 4 7 11 (tableRules false t) last (omega arith) (omega arith) (table-ranked false t) (singles 7 11 last refl .1)
+
+  unrouted-broken : (n i : ℕ) → Broken (unroutedRules t room) n i → Holds n i
+  unfolding unroutedRules
+  unrouted-broken =
+      sound-append Holds (tableRules false t) last (λ n i b. of-table (table-tests false t n i .0 b))
+      (sound-each Holds last (λ e. short-output (leb-false (8 * length (holesOf t)) room e), tt))
+
+  unrouted-breaks : (n i : ℕ) → Holds n i → Broken (unroutedRules t room) n i
+  unfolding unroutedRules
+  unrouted-breaks n i (of-table c) = broken-left (tableRules false t) last n i (table-tests false t n i .1 c)
+  unrouted-breaks n i (short-output h) = broken-right (tableRules false t) last n i (inl (lt-leb (8 * length (holesOf t)) room h, refl, refl))
+
+  pub unrouted-tests : (n i : ℕ) → Broken (unroutedRules t room) n i ↔ UnroutedCondition t room n i
+  unrouted-tests n i = (unrouted-broken n i, unrouted-breaks n i)
+
+  -- What can be decided holds if its contrary is impossible.
+  holds : {P : Type 0} → Dec P → ((P → ⊥) → ⊥) → P
+  holds (yes p) n = p
+  holds (no p) n = absurd (n p)
+
+  -- None holds exactly for an accepted table whose list fits the output.
+  pub none-exactly : None (UnroutedCondition t room) ↔ (Accepted false t × (8 * length (holesOf t) ≤ room))
+  none-exactly = (
+    λ none. (
+      accepted-exactly false t .1 (λ n i c. none n i (of-table c)),
+      holds (decLe (8 * length (holesOf t)) room) (λ f. none 11 0 (short-output (omega arith))),
+    ),
+    λ (ok, fits) n i c. go ok fits n i c,
+  )
+    where
+      go : Accepted false t → 8 * length (holesOf t) ≤ room → (n i : ℕ) → Holds n i → ⊥
+      go ok fits n i (of-table c) = accepted-exactly false t .0 ok n i c
+      go ok fits n i (short-output h) = omega arith
+
+-- ---- No second answer and no second output satisfies the statement, and for every input some do.
+pub unrouted-settled : (t o : List ℕ) (r r₁ : Listed) (o′ o₁ : List ℕ) → Lists t o r o′ → Lists t o r₁ o₁ → (r ≡ r₁) × (o′ ≡ o₁)
+unrouted-settled t o r r₁ o′ o₁ a b = (listed-same r r₁ (a .answer ∙ sym (b .answer)), a .output ∙ sym (b .output))
+
+listed-of : (q : Reply ℕ) → (r : Listed) × (listedSays r ≡ q)
+listed-of (gives n) = (Records n, refl)
+listed-of (refuses n i) = (Refused n i, refl)
+
+pub unrouted-met : (t o : List ℕ) → (r : Listed) × ((o′ : List ℕ) × Lists t o r o′)
+unrouted-met t o =
+    let a = listed-of (judge (unroutedRules t (length o)) (length (holesOf t))) in
+    (a .0, (outputOf o (judge (unroutedRules t (length o)) (holesOf t)), record { answer = a .1; output = refl }))
+
+module _ (t o : List ℕ) (r : Listed) (o′ : List ℕ) (ok : Lists t o r o′) where
+  abbrev rules : List Rule
+  rules = unroutedRules t (length o)
+
+  -- ---- Refusals.
+
+  -- It is refused with a number and an index exactly when they are those of the first condition that holds: of 3 to 8, then 11.
+  pub unrouted-refused : (n i : ℕ) → r ≡ Refused n i ↔ First (UnroutedCondition t (length o)) n i
+  unrouted-refused n i =
+      refused-exactly listedSays listed-same rules (unrouted-tests t (length o)) (unrouted-ranked t (length o) .order) (length (holesOf t)) r (ok .answer)
+      (Refused n i) n i refl
+
+  -- A refusal leaves the output as it was.
+  pub refusal-changes-nothing : (n i : ℕ) → r ≡ Refused n i → o′ ≡ o
+  refusal-changes-nothing n i e =
+      ok .output ∙ ap (outputOf o) (refuses-any rules (length (holesOf t)) (holesOf t) n i (sym (ok .answer) ∙ ap listedSays e))
+
+  -- It gives the numbers 3 to 8 and 11 alone.
+  pub unrouted-numbers : (n i : ℕ) → r ≡ Refused n i → ((3 ≤ n) × (n ≤ 8)) ⊎ (n ≡ 11)
+  unrouted-numbers n i e = go n i (unrouted-refused n i .0 e .0)
+    where
+      go : (n i : ℕ) → UnroutedCondition t (length o) n i → ((3 ≤ n) × (n ≤ 8)) ⊎ (n ≡ 11)
+      go n i (of-table c) = inl (table-numbers false t n i c)
+      go n i (short-output h) = inr refl
+
+  -- ---- Answers.
+
+  -- It answers with a number exactly for an accepted table whose list has so many records and fits the output.
+  pub unrouted-listed : (count : ℕ) → r ≡ Records count ↔ (Accepted false t × (8 * length (holesOf t) ≤ length o) × (length (holesOf t) ≡ count))
+  unrouted-listed count =
+      let exactly =
+      given-exactly listedSays listed-same rules (unrouted-tests t (length o)) (unrouted-ranked t (length o) .order) (length (holesOf t)) r (ok .answer)
+      (Records count) count refl in (
+        λ e. let f = exactly .0 e in let k = none-exactly t (length o) .0 (f .0) in (k .0, k .1, f .1),
+        λ f. exactly .1 (none-exactly t (length o) .1 (f .0, f .1), f .2),
+      )
+
+  -- Answered or refused, the output keeps its length.
+  pub unrouted-length : length o′ ≡ length o
+  unrouted-length = go r refl
+    where
+      go : (q : Listed) → r ≡ q → length o′ ≡ length o
+      go (Refused n i) e = ap length (refusal-changes-nothing n i e)
+      go (Records count) e =
+          let fits = unrouted-listed count .0 e .1 in
+          ap length (ok .output ∙ ap (outputOf o) (gives-any rules (length (holesOf t)) count (holesOf t) (sym (ok .answer) ∙ ap listedSays e)))
+          ∙ simp (length-append, length-drop, length-bytes) (omega arith)
+
+  module _ (count : ℕ) (answered : r ≡ Records count) where
+    counted : length (holesOf t) ≡ count
+    counted = unrouted-listed count .0 answered .2
+
+    whole-output : o′ ≡ bytesOf (holesOf t) ++ drop (8 * length (holesOf t)) o
+    whole-output =
+        ok .output ∙ ap (outputOf o) (gives-any rules (length (holesOf t)) count (holesOf t) (sym (ok .answer) ∙ ap listedSays answered))
+
+    -- The list's records stand at the output's start, and behind them the output is as it was.
+    pub unrouted-written : take (8 * count) o′ ≡ bytesOf (holesOf t)
+    unrouted-written =
+        let size = length-bytes (holesOf t) in
+        ap (take (8 * count)) whole-output
+        ∙ take-at (bytesOf (holesOf t)) (drop (8 * length (holesOf t)) o) (8 * count) (omega (arith, counted))
+
+    pub unrouted-rest : drop (8 * count) o′ ≡ drop (8 * count) o
+    unrouted-rest =
+        let size = length-bytes (holesOf t) in
+        ap (drop (8 * count)) whole-output
+        ∙ drop-at (bytesOf (holesOf t)) (drop (8 * length (holesOf t)) o) (8 * count) (omega (arith, counted))
+        ∙ ap (λ (n : ℕ). drop (8 * n) o) counted
+
+    -- Read back they are the list.
+    pub unrouted-reads : routes (take (8 * count) o′) ≡ holesOf t
+    unrouted-reads = ap routes unrouted-written ∙ routes-bytes (holesOf t) (holes-table 32 (routes t) .valid)
+
+    -- An address lies in a listed prefix exactly when lookup, in whatever way it is called, finds no route for it.
+    pub unrouted-addresses : (x : ℕ) → x < 2 ^ 32 → (a : Lookup) → lookupSays a ≡ lookupReply t x
+        → (held 32 (routes (take (8 * count) o′)) x ≡ true) ↔ (a ≡ NoRoute)
+    unrouted-addresses x lt a said =
+        let none = lookup-none-exactly t x a said in
+        let hold = holes-hold 32 (routes t) x lt in
+        let miss-is = miss-held t x in (
+          λ h. none .1 (unrouted-listed count .0 answered .0, miss-is .0 (hold .0 (ap (λ (u : List Route). held 32 u x) (sym unrouted-reads) ∙ h))),
+          λ e. ap (λ (u : List Route). held 32 u x) unrouted-reads ∙ hold .1 (miss-is .1 (none .0 e .1)),
+        )
+
+    -- The listed prefixes are exactly the holes,
+    pub unrouted-holes : (q : Route) → Member q (routes (take (8 * count) o′)) ↔ IsHole 32 (routes t) q
+    unrouted-holes q =
+        let listed = holes-listed 32 (routes t) q in (
+          λ m. listed .0 (subst (Member q) unrouted-reads m),
+          λ h. subst (Member q) (sym unrouted-reads) (listed .1 h),
+        )
+
+    -- each once and in table order,
+    pub unrouted-order : Table 32 (routes (take (8 * count) o′))
+    unrouted-order = subst (Table 32) (sym unrouted-reads) (holes-table 32 (routes t))
+
+    -- with byte 5 zero.
+    pub unrouted-bare : All Bare (routes (take (8 * count) o′))
+    unrouted-bare = subst (All Bare) (sym unrouted-reads) (holes-bare 32 (routes t))
+
+    -- They are at most 22,528, and fewer for fewer records.
+    pub unrouted-most : Bytes t → count ≤ 21 * records t + 1024
+    unrouted-most bytes =
+        let valid = not-refused false t (records t) (unrouted-listed count .0 answered .0) in
+        omega (arith, counted, holes-sure (accepted-run t valid bytes), ap length (whole-holes t valid))

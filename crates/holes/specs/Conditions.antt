@@ -1,0 +1,12 @@
+-- The conditions for a refusal of the call, as facts. No contract cites these; theorems of proofs/ say that the answers are these facts.
+use Prim.Native.Nat.{ℕ, _*_, _<_}
+use mathlib.Core.Bool.{false}
+use mathlib.Core.List.{List}
+use lib.ListN.{length}
+use Rattle.table.specs.Conditions.{TableCondition}
+use Rattle.holes.specs.Listing.{holesOf}
+
+-- 3 to 8: the table's, as a map. 11: the output has fewer bytes than 8 times the holes.
+pub data UnroutedCondition (t : List ℕ) (room : ℕ) : ℕ → ℕ → Type 0 where
+  of-table : {n i : ℕ} → TableCondition false t n i → UnroutedCondition t room n i
+  short-output : room < 8 * length (holesOf t) → UnroutedCondition t room 11 0

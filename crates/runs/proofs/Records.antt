@@ -1,0 +1,66 @@
+-- The records lo..hi of a table are the routes of these numbers. Assumes nothing.
+use Prim.Native.Nat.{ℕ, zero, suc, _-_, _≤_, _<_}
+use mathlib.Core.Path.{_≡_, refl, ap, _∙_}
+use mathlib.Core.Bool.{Bool, true, false}
+use mathlib.Core.List.{List, [], _∷_, _++_}
+use mathlib.Core.Logic.{_⊎_, inl, inr}
+use native.Mathlib.Nat.{sub-zero, eq-or-lt-of-le}
+use native.Mathlib.Omega.{arith}
+use Rattle.theory.specs.Results.{part}
+use Rattle.theory.specs.Routes.{Route, Before, Ascending, first}
+use Rattle.records.specs.Wire.{records, routeAt, routesFrom, routes}
+use Rattle.runs.specs.Runs.{run}
+use Rattle.runs.proofs.Numbered.{counted, numbered, before-numbered, none-numbered, first-numbered, split-numbered, part-numbered}
+
+module _ (t : List ℕ) where
+  from-counted : (lo k : ℕ) → routesFrom t lo k ≡ counted (routeAt t) lo k
+  unfolding routesFrom
+  from-counted lo zero = refl
+  from-counted lo (suc k) = ap (λ (u : List Route). routeAt t lo ∷ u) (from-counted (suc lo) k)
+
+  -- So they have the laws of lists by number.
+  pub run-numbered : (lo hi : ℕ) → run t lo hi ≡ numbered (routeAt t) lo hi
+  run-numbered lo hi = from-counted lo (hi - lo)
+
+  -- The run of all records is the table's routes.
+  pub run-whole : run t 0 (records t) ≡ routes t
+  unfolding routes
+  run-whole = ap (routesFrom t 0) (sub-zero (records t))
+
+  -- A run that ends where it starts is empty, and one that does not has its first record.
+  pub run-none : (lo hi : ℕ) → hi ≤ lo → run t lo hi ≡ []
+  run-none lo hi le = run-numbered lo hi ∙ none-numbered (routeAt t) lo hi le
+
+  pub run-first : (lo hi : ℕ) → lo < hi → run t lo hi ≡ routeAt t lo ∷ run t (suc lo) hi
+  run-first lo hi lt = rw (run-numbered lo hi, run-numbered (suc lo) hi) (first-numbered (routeAt t) lo hi lt)
+
+  -- The records of an ascending run stand in the order of their numbers, and their addresses do not fall.
+  pub run-before : (lo hi i j : ℕ) → Ascending (run t lo hi) → lo ≤ i → i < j → j < hi → Before (routeAt t i) (routeAt t j)
+  run-before lo hi i j o = before-numbered (routeAt t) lo hi i j (rw (run-numbered lo hi) at o)
+
+  pub run-rises : (lo hi i j : ℕ) → Ascending (run t lo hi) → lo ≤ i → i ≤ j → j < hi → routeAt t i .addr ≤ routeAt t j .addr
+  run-rises lo hi i j o le ge lt = go (eq-or-lt-of-le ge)
+    where
+      not-after : Before (routeAt t i) (routeAt t j) → routeAt t i .addr ≤ routeAt t j .addr
+      not-after (inl h) = omega arith
+      not-after (inr h) = omega arith
+
+      go : (i ≡ j) ⊎ (i < j) → routeAt t i .addr ≤ routeAt t j .addr
+      go (inl e) = let q : routeAt t i .addr ≡ routeAt t j .addr = ap (λ (k : ℕ). routeAt t k .addr) e in omega arith
+      go (inr h) = not-after (run-before lo hi i j o le h lt)
+
+  -- The records from one on of an ascending run ascend.
+  pub run-suffix : (lo i hi : ℕ) → lo ≤ i → i ≤ hi → Ascending (run t lo hi) → Ascending (run t i hi)
+  run-suffix lo i hi le ge o = suffix (run t lo i) (rw (split) at o)
+    where
+      split : run t lo hi ≡ run t lo i ++ run t i hi
+      split = rw (run-numbered lo hi, run-numbered lo i, run-numbered i hi) (split-numbered (routeAt t) lo i hi le ge)
+
+      suffix : (s : List Route) {u : List Route} → Ascending (s ++ u) → Ascending u
+      suffix [] a = a
+      suffix (r ∷ s) (first b a) = suffix s a
+
+  -- A test that the records i..j pass, and no others of the run.
+  pub run-part : (p : Route → Bool) (lo i j hi : ℕ) → lo ≤ i → i ≤ j → j ≤ hi → ((k : ℕ) → i ≤ k → k < j → p (routeAt t k) ≡ true)
+      → ((k : ℕ) → lo ≤ k → k < hi → ((i ≤ k) × (k < j) → ⊥) → p (routeAt t k) ≡ false) → part p (run t lo hi) ≡ run t i j
+  run-part p lo i j hi a b c pass fail = rw (run-numbered lo hi, run-numbered i j) (part-numbered (routeAt t) p lo i j hi a b c pass fail)

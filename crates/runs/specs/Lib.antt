@@ -1,0 +1,2 @@
+-- Runs of a table's records.
+pub mod Runs

@@ -59,13 +59,17 @@ hop-kept (suc (suc (suc (suc (suc (suc n)))))) d m f hops h from = absurd (omega
 module _ (rules : List Rule) (t : List ℕ) (mode default : ℕ) (o : List ℕ) (guarded : Guarded rules t mode default (length o)) (r : Rewritten) (o′ : List ℕ)
     (ok : RewritesBy rules t mode default o r o′) where
   -- ---- Demand 2.
-  -- An answer with records is the number of the result's records and the change, and the output has them from its start.
+  -- An answer with records says that the reply is the result.
+  pub by-reply : (count : ℕ) (change : ℤ) → r ≡ Records count change → replyBy rules t mode default ≡ gives (resultOf t mode default)
+  by-reply count change e = reply-result rules t mode default (records t) (sym (ok .answer) ∙ ap rewrittenSays e)
+
+  -- It is the number of the result's records and the change, and the output has them from its start.
   pub by-records : (count : ℕ) (change : ℤ) → r ≡ Records count change
       → Answerable t mode default (length o) × (count ≡ length (resultOf t mode default))
       × (change ≡ pos (length (resultOf t mode default)) -ℤ pos (records t))
       × (o′ ≡ bytesOf (resultOf t mode default) ++ drop (8 * length (resultOf t mode default)) o)
   by-records count change e =
-      let f = reply-result rules t mode default (records t) (sym (ok .answer) ∙ ap rewrittenSays e) in
+      let f = by-reply count change e in
       let said : r ≡ Records (length (resultOf t mode default)) (pos (length (resultOf t mode default)) -ℤ pos (records t)) =
       rewritten-same r (Records _ _) (ok .answer ∙ ap (writtenOf (records t)) f) in
       let same : Records count change ≡ Records (length (resultOf t mode default)) (pos (length (resultOf t mode default)) -ℤ pos (records t)) = sym e ∙ said in

@@ -1,0 +1,35 @@
+-- What is put at the start of an output: nothing, one record, and some routes and then others on the part behind them. Assumes nothing.
+use Prim.Native.Nat.{ℕ, _+_, _-_, _*_, _≤_}
+use mathlib.Core.Path.{_≡_, refl, sym, ap, _∙_}
+use mathlib.Core.List.{List, [], _∷_, _++_}
+use native.Mathlib.Omega.{arith}
+use lib.ListN.{length, take, drop, length-append, length-take, length-drop}
+use Rattle.theory.specs.Routes.{Route}
+use Rattle.records.specs.Wire.{recordOf, bytesOf, laid}
+use Rattle.records.proofs.Laid.{laid-none, length-records, records-lent}
+use Rattle.plain.specs.Output.{Put}
+
+-- Nothing.
+pub put-none : (o : List ℕ) → Put [] 0 o o
+unfolding bytesOf
+put-none o = record { counted = refl; written = λ fits. sym (laid-none 0 o) }
+
+-- One record.
+pub put-one : (r : Route) (o o′ : List ℕ) → (8 ≤ length o → o′ ≡ laid 0 (recordOf r) o) → Put (r ∷ []) 1 o o′
+unfolding bytesOf
+put-one r o o′ e = record { counted = refl; written = λ fits. e (omega arith) }
+
+-- Some routes, and then others on the part of the output from `at` on, as a call is lent it.
+pub put-then : {rs qs : List Route} {k m at : ℕ} {o p ys : List ℕ} → Put rs k o p → length p ≡ length o → (k * 8 ≤ length p → at ≡ k * 8)
+    → Put qs m (take (length p - at) (drop at p)) ys → Put (rs ++ qs) (k + m) o (take at p ++ (ys ++ drop (length p - at) (drop at p)))
+put-then {rs} {qs} {k} {m} {at} {o} {p} {ys} first same here second =
+    let a = first .counted in
+    let b = second .counted in
+    record {
+      counted = omega (arith, length-append rs qs);
+      written = λ fits.
+          let start : at ≡ 8 * length rs = here (omega arith) ∙ omega arith in
+          let room : length (take (length p - at) (drop at p)) ≡ length p - at = simp (length-take, length-drop) (omega arith) in
+          let before : p ≡ laid 0 (bytesOf rs) o = first .written (omega arith) in
+          rw (second .written (omega arith), start, before) (records-lent rs qs o (omega arith));
+    }

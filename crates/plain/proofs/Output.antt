@@ -10,14 +10,14 @@ use Rattle.records.proofs.Laid.{laid-none, length-records, records-lent}
 use Rattle.plain.specs.Output.{Put}
 
 -- Nothing.
-pub put-none : (o : List ℕ) → Put [] 0 o o
+pub put-none : {rs : List Route} (o : List ℕ) → rs ≡ [] → Put rs 0 o o
 unfolding bytesOf
-put-none o = record { counted = refl; written = λ fits. sym (laid-none 0 o) }
+put-none o e = rw e (record { counted = refl; written = λ fits. sym (laid-none 0 o) })
 
 -- One record.
-pub put-one : (r : Route) (o o′ : List ℕ) → (8 ≤ length o → o′ ≡ laid 0 (recordOf r) o) → Put (r ∷ []) 1 o o′
+pub put-one : {rs : List Route} (r : Route) (o o′ : List ℕ) → rs ≡ r ∷ [] → (8 ≤ length o → o′ ≡ laid 0 (recordOf r) o) → Put rs 1 o o′
 unfolding bytesOf
-put-one r o o′ e = record { counted = refl; written = λ fits. e (omega arith) }
+put-one r o o′ e f = rw e (record { counted = refl; written = λ fits. f (omega arith) })
 
 -- Some routes, and then others on the part of the output from `at` on, as a call is lent it.
 pub put-then : {rs qs : List Route} {k m at : ℕ} {o p ys : List ℕ} → Put rs k o p → length p ≡ length o → (k * 8 ≤ length p → at ≡ k * 8)

@@ -14,7 +14,10 @@ use Rattle.theory.proofs.Blocks.{pow-pos}
 use Rattle.theory.proofs.Chosen.{smallest-chooses}
 use Rattle.theory.proofs.Quick.{ortc-uniform}
 use Rattle.theory.proofs.Uniform.{sets-uniform}
+use Rattle.records.specs.Wire.{route}
 use Rattle.positions.specs.Runs.{hopOf}
+use Rattle.hops.specs.Sets.{ShowsHops, ShowsSet}
+use Rattle.hops.proofs.SetLaws.{zero-shows-hole}
 use Rattle.plain.specs.Positions.{answerAt, setAt, entryAt, entriesAt, OneAnswer, Halved}
 
 -- ---- One answer throughout.
@@ -30,28 +33,56 @@ module _ {w : ℕ} {t : List ℕ} {lo hi cover n a hop : ℕ} (one : OneAnswer w
       ortc-uniform smallest w smallest-chooses (answerAt w t lo hi cover) (hopOf hop) n a (hopOf above) (one .answers)
       ∙ ap (λ (S : Cand). entryAt w S n a above) (sym set-uniform)
 
--- ---- Two halves.
-module _ {w : ℕ} {t : List ℕ} {lo hi cover n a hop first mid right : ℕ} (halves : Halved w t lo hi cover n a hop first mid right) where
-  pub set-halves : setAt w t lo hi cover (suc n) a ≡ combine (setAt w t first mid hop n a) (setAt w t mid hi hop n right)
+-- ---- Two halves, of a position of N bits.
+module _ {w : ℕ} {t : List ℕ} {lo hi cover n a hop first mid right : ℕ} (halves : Halved w t lo hi cover n a hop first mid right) {N : ℕ} (e : N ≡ suc n) where
+  pub set-halves : setAt w t lo hi cover N a ≡ combine (setAt w t first mid hop n a) (setAt w t mid hi hop n right)
   unfolding setAt sets
   set-halves =
-      ap₂ combine (sets-agree (answerAt w t lo hi cover) (answerAt w t first mid hop) n a (halves .left-answers))
+      ap (λ (m : ℕ). sets (answerAt w t lo hi cover) m a) e
+      ∙ ap₂ combine (sets-agree (answerAt w t lo hi cover) (answerAt w t first mid hop) n a (halves .left-answers))
       (ap (λ (b : ℕ). sets (answerAt w t lo hi cover) n b) (sym (halves .begins))
       ∙ sets-agree (answerAt w t lo hi cover) (answerAt w t mid hi hop) n right (halves .right-answers))
 
   -- Its own entry, then theirs, under the hop that it is assigned.
-  pub entries-halves : (above given : ℕ) → hopOf given ≡ assigned smallest (setAt w t lo hi cover (suc n) a) (hopOf above)
-      → entriesAt w t lo hi cover (suc n) a above
-      ≡ (entryAt w (setAt w t lo hi cover (suc n) a) (suc n) a above ++ entriesAt w t first mid hop n a given) ++ entriesAt w t mid hi hop n right given
+  pub entries-halves : (above given : ℕ) → hopOf given ≡ assigned smallest (setAt w t lo hi cover N a) (hopOf above)
+      → entriesAt w t lo hi cover N a above
+      ≡ (entryAt w (setAt w t lo hi cover N a) N a above ++ entriesAt w t first mid hop n a given) ++ entriesAt w t mid hi hop n right given
   unfolding entriesAt setAt ortc
-  entries-halves above given e =
-      ap (λ (rs : List Route). entryAt w (setAt w t lo hi cover (suc n) a) (suc n) a above ++ rs)
-      (ap₂ _++_
-      (ap (ortc smallest w (answerAt w t lo hi cover) n a) (sym e)
-      ∙ ortc-agree (answerAt w t lo hi cover) (answerAt w t first mid hop) smallest w n a (hopOf given) (halves .left-answers))
-      (ap₂ (λ (b : ℕ) (g : Answer). ortc smallest w (answerAt w t lo hi cover) n b g) (sym (halves .begins)) (sym e)
-      ∙ ortc-agree (answerAt w t lo hi cover) (answerAt w t mid hi hop) smallest w n right (hopOf given) (halves .right-answers)))
-      ∙ sym (append-assoc (entryAt w (setAt w t lo hi cover (suc n) a) (suc n) a above) (entriesAt w t first mid hop n a given) (entriesAt w t mid hi hop n right given))
+  entries-halves above given assigns =
+      let own : List Route = entryAt w (setAt w t lo hi cover N a) N a above in
+      let g : Answer = assigned smallest (setAt w t lo hi cover N a) (hopOf above) in
+      let left : ortc smallest w (answerAt w t lo hi cover) n a g ≡ entriesAt w t first mid hop n a given =
+      ap (ortc smallest w (answerAt w t lo hi cover) n a) (sym assigns)
+      ∙ ortc-agree (answerAt w t lo hi cover) (answerAt w t first mid hop) smallest w n a (hopOf given) (halves .left-answers) in
+      let other : ortc smallest w (answerAt w t lo hi cover) n (a + 2 ^ n) g ≡ entriesAt w t mid hi hop n right given =
+      ap₂ (λ (b : ℕ) (v : Answer). ortc smallest w (answerAt w t lo hi cover) n b v) (sym (halves .begins)) (sym assigns)
+      ∙ ortc-agree (answerAt w t lo hi cover) (answerAt w t mid hi hop) smallest w n right (hopOf given) (halves .right-answers) in
+      parted ∙ ap (λ (rs : List Route). own ++ rs) (ap₂ _++_ left other)
+      ∙ sym (append-assoc own (entriesAt w t first mid hop n a given) (entriesAt w t mid hi hop n right given))
+    where
+      parted : ortc smallest w (answerAt w t lo hi cover) N a (hopOf above)
+          ≡ here smallest w (sets (answerAt w t lo hi cover) N a) N a (hopOf above)
+          ++ (ortc smallest w (answerAt w t lo hi cover) n a (assigned smallest (sets (answerAt w t lo hi cover) N a) (hopOf above))
+          ++ ortc smallest w (answerAt w t lo hi cover) n (a + 2 ^ n) (assigned smallest (sets (answerAt w t lo hi cover) N a) (hopOf above)))
+      parted = rw e
+
+-- ---- The own entry, by the word x that shows the candidates, where the hop `above` is assigned above.
+module _ (w n a above : ℕ) where
+  -- A hole has none,
+  pub entry-hole : (x : ℕ) (S : Cand) → ShowsSet x S → x ≡ 0 → entryAt w S n a above ≡ []
+  entry-hole x S p e = ap (λ (R : Cand). entryAt w R n a above) (zero-shows-hole x S p e)
+
+  -- nor has a set with that hop;
+  pub entry-taken : (x : ℕ) (S : Cand) → ShowsSet x S → (x ≡ 0 → ⊥) → ((s : List ℕ) → ShowsHops x s → true ≡ allowed (hopOf above) s)
+      → entryAt w S n a above ≡ []
+  entry-taken x hole p other e = absurd (other p)
+  entry-taken x (of s) p other e = rw (← e s (p .0))
+
+  -- any other set has one with its smallest hop.
+  pub entry-chosen : (x : ℕ) (S : Cand) (h : ℕ) → ShowsSet x S → (x ≡ 0 → ⊥) → ((s : List ℕ) → ShowsHops x s → false ≡ allowed (hopOf above) s)
+      → ((s : List ℕ) → ShowsHops x s → h ≡ smallest s) → entryAt w S n a above ≡ route a (w - n) h ∷ []
+  entry-chosen x hole h p other e least = absurd (other p)
+  entry-chosen x (of s) h p other e least = rw (← e s (p .0), least s (p .0))
 
 -- ---- How many entries there are.
 

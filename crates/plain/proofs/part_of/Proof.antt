@@ -1,36 +1,39 @@
+-- `part_of` meets its contract: the one test leads to one answer or to two halves. Assumes nothing.
+use native.Mathlib.Omega.{arith}
 use borrow.Author.Needs.{needs}
+use Rattle.plain.proofs.Positions.{first-high, first-ascending, has-halves, one-answered, in-halved}
 use Rattle.plain.proofs.part_of.Statement.{statement}
 use Rattle.plain.proofs.part_of.Tie as tie
-use Rattle.plain.proofs.part_of.Reads as reads
-use Rattle.plain.proofs.part_of.Lts as lts
-use Rattle.plain.proofs.own_or.Reads as own-or-reads
-use Rattle.runs.proofs.past_own.Reads as past-own-reads
-use Rattle.runs.proofs.right_half.Reads as right-half-reads
-use Rattle.runs.proofs.split.Reads as split-reads
 
--- src/lib.rt:70:9
 past-own-requires : tie.Need-past-own-requires
 past-own-requires c κs = search needs
 
--- src/lib.rt:71:9
 own-or-requires : tie.Need-own-or-requires
-own-or-requires c κs = ?
+own-or-requires c κs =
+    let pre = c .before .before .pre in
+    omega (arith, first-high (pre .0 .0) (pre .0 .1) (c .past-own .ensures), pre .0 .1 .high)
 
--- src/lib.rt:73:9
 returns : tie.Need-returns
-returns c = ?
+returns c =
+    let pre = c .before .before .before .before .pre in
+    one-answered (pre .0 .0) (pre .0 .1) (c .before .before .past-own .ensures) (pre .1) (c .before .own-or .ensures) (c .if1 .taken)
 
--- src/lib.rt:75:9
 right-half-requires : tie.Need-right-half-requires
-right-half-requires c κs = ?
+right-half-requires c κs =
+    let pre = c .before .before .before .before .pre in
+    (has-halves (pre .0 .0) (pre .0 .1) (c .before .before .past-own .ensures) (c .if1 .left), pre .0 .1 .small)
 
--- src/lib.rt:76:9
 split-requires : tie.Need-split-requires
-split-requires c κs = ?
+split-requires c κs =
+    let pre = c .before .before .before .before .before .pre in
+    let past = c .before .before .before .past-own .ensures in
+    ((first-high (pre .0 .0) (pre .0 .1) past, pre .0 .1 .high), first-ascending (pre .0 .0) (pre .0 .1) past)
 
--- src/lib.rt:65:1
 returns-2 : tie.Need-returns-2
-returns-2 c = ?
+returns-2 c =
+    let pre = c .before .before .before .before .before .before .pre in
+    in-halved (pre .0 .0) (pre .0 .1) (c .before .before .before .before .past-own .ensures) (pre .1) (c .before .before .before .own-or .ensures)
+    (c .before .before .if1 .left) (c .before .right-half .ensures) (c .split .ensures)
 
 pub part-of-spec : {M : Type 1} → statement M
 part-of-spec =

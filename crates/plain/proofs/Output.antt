@@ -20,16 +20,17 @@ unfolding bytesOf
 put-one r o o′ e f = rw e (record { counted = refl; written = λ fits. f (omega arith) })
 
 -- Some routes, and then others on the part of the output from `at` on, as a call is lent it.
-pub put-then : {rs qs : List Route} {k m at : ℕ} {o p ys : List ℕ} → Put rs k o p → length p ≡ length o → (k * 8 ≤ length p → at ≡ k * 8)
-    → Put qs m (take (length p - at) (drop at p)) ys → Put (rs ++ qs) (k + m) o (take at p ++ (ys ++ drop (length p - at) (drop at p)))
-put-then {rs} {qs} {k} {m} {at} {o} {p} {ys} first same here second =
+pub put-then : {ts rs qs : List Route} {k m at : ℕ} {o p ys : List ℕ} → ts ≡ rs ++ qs → Put rs k o p → (k * 8 ≤ length p → at ≡ k * 8)
+    → Put qs m (take (length p - at) (drop at p)) ys → Put ts (k + m) o (take at p ++ (ys ++ drop (length p - at) (drop at p)))
+put-then {ts} {rs} {qs} {k} {m} {at} {o} {p} {ys} both first here second =
     let a = first .counted in
     let b = second .counted in
-    record {
+    rw both (record {
       counted = omega (arith, length-append rs qs);
       written = λ fits.
-          let start : at ≡ 8 * length rs = here (omega arith) ∙ omega arith in
-          let room : length (take (length p - at) (drop at p)) ≡ length p - at = simp (length-take, length-drop) (omega arith) in
           let before : p ≡ laid 0 (bytesOf rs) o = first .written (omega arith) in
+          let size : length p ≡ length o = ap length before ∙ length-records rs o (omega arith) in
+          let start : at ≡ 8 * length rs = omega (arith, here (omega arith)) in
+          let room : length (take (length p - at) (drop at p)) ≡ length p - at = simp (length-take, length-drop) (omega arith) in
           rw (second .written (omega arith), start, before) (records-lent rs qs o (omega arith));
-    }
+    })

@@ -1,16 +1,16 @@
 -- The candidates and the entries of a position by how it is taken apart: where it has one answer, and from those of its halves. Over the width. Assumes
 -- nothing.
-use Prim.Native.Nat.{ℕ, zero, suc, _+_, _-_, _^_, _≤_}
+use Prim.Native.Nat.{ℕ, zero, suc, _+_, _-_, _^_, _≤_, _<_}
 use mathlib.Core.Path.{_≡_, refl, sym, ap, ap₂, _∙_}
 use mathlib.Core.Bool.{Bool, true, false, cond}
 use mathlib.Core.List.{List, [], _∷_, _++_, append-assoc}
 use native.Mathlib.Nat.{pow-suc}
 use native.Mathlib.Omega.{arith}
 use lib.ListN.{length, length-append}
+use lib.Pow.{pow-mono}
 use Rattle.theory.specs.Results.{Cand, hole, of, leaf, combine, allowed, sets, assigned, here, ortc, smallest}
 use Rattle.theory.specs.Routes.{Route, Answer}
 use Rattle.theory.proofs.Agree.{sets-agree, ortc-agree}
-use Rattle.theory.proofs.Blocks.{pow-pos}
 use Rattle.theory.proofs.Chosen.{smallest-chooses}
 use Rattle.theory.proofs.Quick.{ortc-uniform}
 use Rattle.theory.proofs.Uniform.{sets-uniform}
@@ -66,6 +66,16 @@ module _ {w : ℕ} {t : List ℕ} {lo hi cover n a hop first mid right : ℕ} (h
           ++ ortc smallest w (answerAt w t lo hi cover) n (a + 2 ^ n) (assigned smallest (sets (answerAt w t lo hi cover) N a) (hopOf above)))
       parted = rw e
 
+  -- So many they are.
+  pub entries-count : (above given : ℕ) → hopOf given ≡ assigned smallest (setAt w t lo hi cover N a) (hopOf above)
+      → length (entriesAt w t lo hi cover N a above)
+      ≡ length (entryAt w (setAt w t lo hi cover N a) N a above) + length (entriesAt w t first mid hop n a given) + length (entriesAt w t mid hi hop n right given)
+  entries-count above given assigns =
+      let own : List Route = entryAt w (setAt w t lo hi cover N a) N a above in
+      let left : List Route = entriesAt w t first mid hop n a given in
+      let other : List Route = entriesAt w t mid hi hop n right given in
+      ap length (entries-halves above given assigns) ∙ omega (arith, length-append (own ++ left) other, length-append own left)
+
 -- ---- The own entry, by the word x that shows the candidates, where the hop `above` is assigned above.
 module _ (w n a above : ℕ) where
   -- A hole has none,
@@ -111,6 +121,9 @@ ortc-few w f (suc n) a above =
       pow-suc 2 (suc n),
     )
 
-pub entries-few : (w : ℕ) (t : List ℕ) (lo hi cover n a above : ℕ) → length (entriesAt w t lo hi cover n a above) + 1 ≤ 2 ^ suc n
+-- At 32 bits their number is small.
+pub entries-few : (t : List ℕ) (lo hi cover len a above : ℕ) → length (entriesAt 32 t lo hi cover (32 - len) a above) < 2 ^ 33
 unfolding entriesAt
-entries-few w t lo hi cover n a above = ortc-few w (answerAt w t lo hi cover) n a (hopOf above)
+entries-few t lo hi cover len a above =
+    let le : 2 ^ suc (32 - len) ≤ 2 ^ 33 = pow-mono {i = suc (32 - len)} {j = 33} (omega arith) in
+    omega (arith, ortc-few 32 (answerAt 32 t lo hi cover) (32 - len) a (hopOf above))

@@ -1,0 +1,4 @@
+-- Laws and theorems of the second engine.
+pub mod Walk
+pub mod Positions
+pub mod Output

@@ -15,13 +15,14 @@ use mir.Val.{SFits, toZ, ofZ}
 use mir.ValLaws.{toZ-pos, toZ-ofZ}
 use borrow.Author.Tests.{eqb-true, eqb-false, leb-true, leb-false, le-leb, lt-leb, le-ltb, lt-ltb, eq-eqb}
 use Rattle.theory.specs.Results.{smallest, Mode, aggregateSet, aggregateConsistentSet, aggregateConsistentMap, aggregateMapDrop, aggregateMapFill}
-use Rattle.theory.specs.Routes.{Table}
+use Rattle.theory.specs.Routes.{Route, Table}
 use Rattle.theory.proofs.Chosen.{smallest-chooses}
 use Rattle.theory.proofs.Lengths.{mostOf, result-length}
 use Rattle.refusals.specs.Rules.{Rule, rule, gives, refuses, judge}
 use Rattle.refusals.proofs.Judged.{gives-any, kept-next, broken-here, all-next, some-here}
-use Rattle.records.specs.Wire.{records, routes, Bytes, bytesOf}
+use Rattle.records.specs.Wire.{records, routes, Bytes, bytesOf, laid}
 use Rattle.records.proofs.Reading.{length-routes}
+use Rattle.records.proofs.Written.{length-bytes}
 use Rattle.table.specs.Checking.{checkReply}
 use Rattle.table.specs.Conditions.{Lawful}
 use Rattle.table.specs.TableRules.{tableRules}
@@ -154,6 +155,14 @@ module _ (a b : ℕ) (small : a < 2 ^ 62) (least : b < 2 ^ 62) where
   -- and is what the machine makes of them.
   pub change-is : toZ w64 (ofZ w64 (toZ w64 a -ℤ toZ w64 b)) ≡ pos a -ℤ pos b
   change-is = toZ-ofZ w64 _ change-fits ∙ rw (toZ-pos w64 a (omega arith), toZ-pos w64 b (omega arith))
+
+-- Records laid at the output's start, and the rest as it was.
+pub laid-output : (rs : List Route) (o : List ℕ) → laid 0 (bytesOf rs) o ≡ outputOf o (gives rs)
+unfolding laid
+laid-output rs o =
+    let n = length-bytes rs in
+    let e : 0 + length (bytesOf rs) ≡ 8 * length rs = omega arith in
+    ap (λ (k : ℕ). bytesOf rs ++ drop k o) e
 
 module _ (t : List ℕ) (mode fill : ℕ) (o : List ℕ) where
   -- Number 11: the output has no room for so many records.

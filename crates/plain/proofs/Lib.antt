@@ -2,3 +2,5 @@
 pub mod Walk
 pub mod Positions
 pub mod Output
+pub mod Whole
+pub mod Replies

@@ -3,7 +3,7 @@
 use Prim.Native.Nat.{ℕ, zero, suc, _+_, _-_, _*_, _/_, _^_, _≤_, _<_}
 use mathlib.Core.Path.{_≡_, refl, sym, ap, _∙_}
 use mathlib.Core.Bool.{Bool, true, false, not, cond, _||_}
-use mathlib.Core.List.{List, [], _∷_, _++_}
+use mathlib.Core.List.{List, _++_}
 use native.Mathlib.Nat.{le-trans}
 use native.Mathlib.Omega.{arith}
 use lib.Dec.{eqb, leb, ltb}
@@ -18,7 +18,7 @@ use Rattle.theory.specs.Results.{smallest, Mode, aggregateSet, aggregateConsist
 use Rattle.theory.specs.Routes.{Route, Table}
 use Rattle.theory.proofs.Chosen.{smallest-chooses}
 use Rattle.theory.proofs.Lengths.{mostOf, result-length}
-use Rattle.refusals.specs.Rules.{Rule, rule, gives, refuses, judge}
+use Rattle.refusals.specs.Rules.{Rule, gives, refuses, judge}
 use Rattle.refusals.proofs.Judged.{gives-any, kept-next, broken-here, all-next, some-here}
 use Rattle.records.specs.Wire.{records, routes, Bytes, bytesOf, laid}
 use Rattle.records.proofs.Reading.{length-routes}

@@ -1,6 +1,6 @@
 -- Demand 1: bad input is refused with the first number of document 01's order whose condition holds, exactly then, and a refusal changes nothing.
 -- Assumes nothing.
-use mathlib.Core.Path.{_≡_, refl, sym, ap, _∙_}
+use mathlib.Core.Path.{_≡_, refl, sym, _∙_}
 use mathlib.Core.Bool.{Bool, true}
 use mathlib.Core.List.{List, []}
 use mathlib.Core.Logic.{inl, _↔_}
@@ -14,7 +14,7 @@ use Rattle.refusals.specs.Rules.{Rule, gives}
 use Rattle.refusals.specs.Order.{rank, Earlier, First, None}
 use Rattle.refusals.proofs.Judged.{Broken, earlier-not, gives-exactly}
 use Rattle.refusals.proofs.Answered.{refused-exactly}
-use Rattle.records.specs.Wire.{records, routes, routesFrom}
+use Rattle.records.specs.Wire.{routes, routesFrom}
 use Rattle.table.specs.Conditions.{TableCondition, not-whole, too-many, of-record}
 use Rattle.table.proofs.Accepted.{accepted-exactly}
 use Rattle.table.proofs.Tested.{table-numbers}

@@ -1,23 +1,22 @@
 -- What the call's statement settles: no second answer satisfies it, it refuses exactly by the first condition that holds, and never by number 10. The answer is
 -- any r, and the output o′, of which the call's `ensures` holds. Assumes nothing.
 use Prim.{tt}
-use Prim.Native.Nat.{ℕ, _*_, _≤_, _<_}
+use Prim.Native.Nat.{ℕ, _*_, _≤_}
 use mathlib.Core.Path.{_≡_, refl}
 use mathlib.Core.Bool.{Bool, true, false}
 use mathlib.Core.List.{List, [], _∷_}
 use mathlib.Core.Logic.{_⊎_, inl, inr, _↔_}
 use native.Mathlib.Decide.{decLe}
 use native.Mathlib.Omega.{arith}
-use lib.Dec.{eqb, leb}
+use lib.Dec.{leb}
 use lib.IntN.{ℤ, pos}
 use lib.ListN.{length}
 use borrow.Author.Tests.{leb-false, lt-leb}
-use Rattle.refusals.specs.Rules.{Rule, rule, Reply, gives, refuses}
+use Rattle.refusals.specs.Rules.{Rule, rule}
 use Rattle.refusals.specs.Order.{rank, First, None}
 use Rattle.refusals.proofs.Judged.{Broken}
 use Rattle.refusals.proofs.Ranked.{sound-each, singles, Ranked}
 use Rattle.records.specs.Wire.{records}
-use Rattle.table.specs.Conditions.{Accepted}
 use Rattle.table.proofs.Accepted.{accepted-exactly}
 use Rattle.table.proofs.Tested.{table-numbers}
 use Rattle.calls.specs.declared.Rewritten.{Rewritten}

@@ -11,16 +11,15 @@ use Rattle.theory.specs.Routes.{held, answer, filled, Alike}
 use Rattle.refusals.specs.Rules.{Rule}
 use Rattle.refusals.specs.Order.{None}
 use Rattle.records.specs.Wire.{routes, Bytes}
-use Rattle.table.specs.Conditions.{Accepted}
 use Rattle.calls.specs.declared.Rewritten.{Rewritten}
 use Rattle.calls.specs.declared.Rewritten.the-variants.{Records}
 use Rattle.calls.specs.Conditions.{Guarded}
-use Rattle.calls.specs.Rewriting.{takesSet, rewriteRules, RewritesBy, Rewrites}
-use Rattle.calls.proofs.Engines.{by-output-accepted, again-by, again-answerable, drop-by, fill-by, set-by}
+use Rattle.calls.specs.Rewriting.{rewriteRules, RewritesBy}
+use Rattle.calls.proofs.Engines.{again-by, again-answerable, drop-by, fill-by, set-by}
 use Rattle.calls.proofs.Refusals.{rewrite-guarded}
 use Rattle.plain.specs.Conditions.{IsMode, PlainCondition}
 use Rattle.plain.specs.Rewriting.{plainRules}
-use Rattle.plain.proofs.Calls.{plain-answerable, plain-guarded, plain-accepted}
+use Rattle.plain.proofs.Calls.{plain-answerable, plain-guarded}
 
 -- The rules by which an engine rewrites a table: with the work room of so many words the first engine's, else the second's.
 pub data Engine : Type 0 where

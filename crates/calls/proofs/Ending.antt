@@ -3,7 +3,7 @@
 use Prim.Native.Nat.{ℕ, zero, suc, _+_, _-_, _*_, _/_, _^_, _≤_, _<_}
 use mathlib.Core.Path.{_≡_, refl, sym, ap, _∙_}
 use mathlib.Core.Bool.{Bool, true, false, not, cond, _||_}
-use mathlib.Core.List.{List, [], _∷_, _++_}
+use mathlib.Core.List.{List, _++_}
 use native.Mathlib.Nat.{le-trans}
 use native.Mathlib.Omega.{arith}
 use lib.Dec.{eqb, leb, ltb}
@@ -18,7 +18,7 @@ use Rattle.theory.specs.Results.{smallest, Mode, aggregateSet, aggregateConsist
 use Rattle.theory.specs.Routes.{Route, Table}
 use Rattle.theory.proofs.Chosen.{smallest-chooses}
 use Rattle.theory.proofs.Lengths.{mostOf, result-length}
-use Rattle.refusals.specs.Rules.{Rule, rule, gives, refuses, judge}
+use Rattle.refusals.specs.Rules.{Rule, gives, refuses, judge}
 use Rattle.refusals.proofs.Judged.{gives-any, kept-next, broken-here, all-next, some-here}
 use Rattle.records.specs.Wire.{records, routes, Bytes, bytesOf, laid}
 use Rattle.records.proofs.Reading.{length-routes}
@@ -31,29 +31,30 @@ use Rattle.calls.specs.declared.Rewritten.{Rewritten}
 use Rattle.calls.specs.declared.Rewritten.the-variants.{Records, Refused}
 use Rattle.calls.specs.Ending.{lastReply, Finished}
 use Rattle.calls.specs.Rewriting.{modeOf, resultOf, takesSet, replyBy, writtenOf, outputOf, RewritesBy}
+use Rattle.calls.proofs.Tested.{rulesWith}
 
 -- ---- The rules 1 to 8, where `known` says whether the engine has the mode and `last` are the rules past the table's.
 module _ (known : Bool) (t : List ℕ) (mode default : ℕ) (last : List Rule) {A : Type 0} (a : A) where
   -- Number 1.
   pub refused-mode : known ≡ false
-      → judge (rule 1 0 known ∷ rule 2 0 (not (eqb mode 5) || leb default 63) ∷ tableRules (takesSet mode) t ++ last) a ≡ refuses 1 0
+      → judge (rulesWith known t mode default last) a ≡ refuses 1 0
   refused-mode e = broken-here a 1 0 _ e
 
   module _ (is : known ≡ true) where
     -- Number 2.
     pub refused-default : (not (eqb mode 5) || leb default 63) ≡ false
-        → judge (rule 1 0 known ∷ rule 2 0 (not (eqb mode 5) || leb default 63) ∷ tableRules (takesSet mode) t ++ last) a ≡ refuses 2 0
+        → judge (rulesWith known t mode default last) a ≡ refuses 2 0
     refused-default e = kept-next a 1 0 _ is ∙ broken-here a 2 0 _ e
 
     module _ (ok : (not (eqb mode 5) || leb default 63) ≡ true) where
       -- Numbers 3 to 8.
       pub refused-table : {n i : ℕ} → checkReply (takesSet mode) t ≡ refuses n i
-          → judge (rule 1 0 known ∷ rule 2 0 (not (eqb mode 5) || leb default 63) ∷ tableRules (takesSet mode) t ++ last) a ≡ refuses n i
+          → judge (rulesWith known t mode default last) a ≡ refuses n i
       refused-table {n} {i} e = kept-next a 1 0 _ is ∙ kept-next a 2 0 _ ok ∙ some-here a (records t) n i (tableRules (takesSet mode) t) last e
 
       -- Past the table's rules the last decide.
       pub last-decide : {k : ℕ} → checkReply (takesSet mode) t ≡ gives k
-          → judge (rule 1 0 known ∷ rule 2 0 (not (eqb mode 5) || leb default 63) ∷ tableRules (takesSet mode) t ++ last) a ≡ judge last a
+          → judge (rulesWith known t mode default last) a ≡ judge last a
       last-decide valid = kept-next a 1 0 _ is ∙ kept-next a 2 0 _ ok ∙ all-next a (records t) (tableRules (takesSet mode) t) last valid
 
 module _ (rules : List Rule) (t : List ℕ) (mode default : ℕ) (o : List ℕ) where

@@ -1,17 +1,16 @@
 -- The call's statement, case by case of the check and of the output's room. Assumes nothing.
-use Prim.Native.Nat.{ℕ, _+_, _*_, _/_, _≤_, _<_}
-use mathlib.Core.Path.{_≡_, refl, sym, ap, subst, _∙_}
+use Prim.Native.Nat.{ℕ, _*_, _/_, _≤_, _<_}
+use mathlib.Core.Path.{_≡_, sym, ap, subst, _∙_}
 use mathlib.Core.Bool.{Bool, true, false}
-use mathlib.Core.List.{List, [], _∷_, _++_}
+use mathlib.Core.List.{List, [], _∷_}
 use native.Mathlib.Omega.{arith}
 use lib.Dec.{leb}
-use lib.ListN.{length, drop}
+use lib.ListN.{length}
 use borrow.Author.Tests.{leb-true, leb-false, le-leb, lt-leb}
 use Rattle.theory.specs.Routes.{Route}
 use Rattle.refusals.specs.Rules.{Rule, rule, gives, refuses, judge}
 use Rattle.refusals.proofs.Judged.{gives-exactly, kept-next, broken-here, all-next, some-here}
-use Rattle.records.specs.Wire.{records, routes, Bytes, bytesOf, laid}
-use Rattle.records.proofs.Written.{length-bytes}
+use Rattle.records.specs.Wire.{records, Bytes, bytesOf, laid}
 use Rattle.table.specs.Checking.{checkReply}
 use Rattle.table.specs.TableRules.{tableRules}
 use Rattle.table.proofs.Tables.{accepted-table}

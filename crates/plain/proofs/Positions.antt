@@ -2,19 +2,19 @@
 -- else halves. Assumes nothing.
 use Prim.Native.Nat.{ℕ, zero, suc, _+_, _-_, _^_, _≤_, _<_}
 use mathlib.Core.Path.{_≡_, refl, sym, ap, ap₂, subst, _∙_}
-use mathlib.Core.List.{List, []}
+use mathlib.Core.List.{List}
 use mathlib.Core.Logic.{_⊎_, inl, inr, ⊎-elim}
 use native.Mathlib.Nat.{eq-or-lt-of-le, le-refl}
 use native.Mathlib.Decide.{decLt}
 use native.Mathlib.Omega.{arith}
 use borrow.Author.Tests.{lt-ltb}
 use Rattle.theory.specs.Results.{In}
-use Rattle.theory.specs.Routes.{Route, Answer, via, lookup, under, Ascending}
+use Rattle.theory.specs.Routes.{Route, Answer, lookup, under, Ascending}
 use Rattle.theory.proofs.Blocks.{in-halves}
 use Rattle.theory.proofs.Preserve.{back}
 use Rattle.positions.specs.Runs.{noHop, hopOf, orElse, own, inside}
 use Rattle.positions.proofs.Runs.{Half, one-answer, half-answer}
-use Rattle.records.specs.Wire.{records, routeAt}
+use Rattle.records.specs.Wire.{routeAt}
 use Rattle.runs.specs.Runs.{run, RunAt, PastOwn, SplitAt}
 use Rattle.runs.proofs.Halves.{record-within, past-low, past-high, past-longer, own-hop, own-none, left-is, right-is, left-run, right-run}
 use Rattle.runs.proofs.Records.{run-none, run-suffix}

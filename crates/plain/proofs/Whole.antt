@@ -1,17 +1,17 @@
 -- The entries of the position of all addresses are the result of each mode that the engine has, and what is written of them is the end of a rewrite. Assumes
 -- nothing.
-use Prim.Native.Nat.{ℕ, _+_, _-_, _*_, _/_, _≤_, _<_}
+use Prim.Native.Nat.{ℕ, _-_, _/_, _≤_, _<_}
 use mathlib.Core.Path.{_≡_, refl, sym, ap, subst, _∙_}
 use mathlib.Core.Bool.{Bool, true, false, _||_}
 use mathlib.Core.List.{List}
-use mathlib.Core.Logic.{_⊎_, inl, inr}
+use mathlib.Core.Logic.{inl, inr}
 use native.Mathlib.Omega.{arith}
-use lib.Dec.{eqb, leb}
+use lib.Dec.{eqb}
 use lib.IntN.{ℤ, pos, _-ℤ_}
 use lib.ListN.{length}
-use borrow.Author.Tests.{eq-eqb, eqb-true, eqb-false, lt-ltb, le-leb, lt-leb}
+use borrow.Author.Tests.{eq-eqb, eqb-true, lt-ltb}
 use Rattle.theory.specs.Results.{smallest, result, aggregateMapDrop, aggregateMapFill}
-use Rattle.theory.specs.Routes.{Route, none, answer, filled, lookup, All, Table}
+use Rattle.theory.specs.Routes.{none, answer, filled, lookup, All, Table}
 use Rattle.theory.proofs.Agree.{ortc-agree}
 use Rattle.theory.proofs.Chosen.{smallest-chooses}
 use Rattle.theory.proofs.Computed.{under-default}
@@ -19,10 +19,10 @@ use Rattle.theory.proofs.Lists.{all-member}
 use Rattle.theory.proofs.Maximal.{set-is-drop-bare}
 use Rattle.refusals.specs.Rules.{Reply}
 use Rattle.table.specs.Checking.{checkReply}
-use Rattle.records.specs.Wire.{records, routes, routeAt, bytesOf, laid}
+use Rattle.records.specs.Wire.{records, routes, routeAt}
 use Rattle.table.specs.TableRules.{topHop}
 use Rattle.table.proofs.Tables.{set-hops}
-use Rattle.positions.specs.Runs.{noHop, hopOf}
+use Rattle.positions.specs.Runs.{noHop}
 use Rattle.runs.specs.Runs.{run, RunAt}
 use Rattle.runs.proofs.Halves.{whole-run}
 use Rattle.runs.proofs.Numbered.{member-numbered}

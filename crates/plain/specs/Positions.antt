@@ -1,6 +1,6 @@
 -- What the walks are about, over the width w: the answers of a position's addresses by its run and what covers it, its candidates and its entries; and how a
 -- position is taken apart.
-use Prim.Native.Nat.{ℕ, _+_, _-_, _^_, _≤_, _<_}
+use Prim.Native.Nat.{ℕ, _+_, _-_, _^_, _<_}
 use mathlib.Core.Path.{_≡_}
 use mathlib.Core.List.{List}
 use Rattle.theory.specs.Results.{In, Cand, sets, here, ortc, smallest}

@@ -42,10 +42,10 @@ rewrite-checked-requires : tie.Need-rewrite-checked-requires
 rewrite-checked-requires c κs =
     let a = c .before .before .before .before .before .before .before .before .before .before .before .before .args in
     let is = not-false _ (sym (c .before .before .before .before .before .before .before .before .before .no-mode .ensures) ∙ c .before .before .before .before .before .before .before .before .if1 .left) in
-    let hop = not-false _ (sym (c .before .before .before .before .before .before .before .no-hop .ensures) ∙ c .before .before .before .before .before .before .if2 .left) in
     let had = mode-had (a .mode) is in
     let valid = mode-checked had (a .table .now) (sym (c .before .before .before .before .before .check-table .ensures) ∙ ap checkedSays (c .before .before .before .records .given .1)) in
     let lawful = checked-lawful (takesSet (a .mode)) (a .table .now) _ valid (λ k. omega (arith, c .before .before .before .before .before .before .before .before .before .before .before .shared-slice-known .given k)) in
+    let hop = not-false _ (sym (c .before .before .before .before .before .before .before .no-hop .ensures) ∙ c .before .before .before .before .before .before .if2 .left) in
     let filled = c .before .fill-of .ensures in (
       is,
       (

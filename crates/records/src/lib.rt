@@ -5,6 +5,11 @@ ghost use Prim.Native.Nat.{_+_, _*_, _<_, _≤_};
 ghost use lib.ListN.{length};
 ghost use Rattle.records.specs.Wire.{join, records, routeAt, route, recordOf, laid};
 
+// How a table's bytes are read: under the strict choice a record with host bits is refused, else they are masked.
+pub struct Form {
+    pub strict: bool,
+}
+
 // Four octets as a number, the first the most significant.
 pub fn join4(a: u8, b: u8, c: u8, d: u8) -> u32
     ensures { λ r. ⌜ r ≡ join a b c d ⌝ }

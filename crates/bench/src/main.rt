@@ -1,4 +1,5 @@
 // Rewrites one table again and again, or lists what has no route in it, so that the time of a call can be measured (tools/bench).
+// Host bits are masked.
 //
 // Reads from standard input 8 bytes and then a table, at most 8,200 bytes of it. Numbers stand most significant byte first.
 //
@@ -15,6 +16,7 @@ use holes::Listed;
 use holes::unrouted;
 use libc::STDIN_FILENO;
 use libc::STDOUT_FILENO;
+use records::Form;
 ghost use Prim.Native.Nat.{_≤_};
 
 // The number of three bytes.
@@ -70,10 +72,10 @@ fn repeat(
 ) -> Rewritten {
     let mut left = more;
     while 0 < left {
-        rewrite(table, mode, default, output, work);
+        rewrite(table, Form { strict: false }, mode, default, output, work);
         left -= 1;
     }
-    rewrite(table, mode, default, output, work)
+    rewrite(table, Form { strict: false }, mode, default, output, work)
 }
 
 // How many words are lent of those asked for, where there are so many.
@@ -102,10 +104,10 @@ fn repeat_in(
 fn repeat_list(more: u32, table: &[u8], output: &mut [u8]) -> Listed {
     let mut left = more;
     while 0 < left {
-        unrouted(table, output);
+        unrouted(table, Form { strict: false }, output);
         left -= 1;
     }
-    unrouted(table, output)
+    unrouted(table, Form { strict: false }, output)
 }
 
 // The same in an output of its own, and the last answer as a line.

@@ -1,6 +1,6 @@
 -- The laws of the calls. Settled: no second answer satisfies a statement. Refusals, Results, Demand3: the three demands, of the engine over nodes. Engines:
 -- demands 2 and 3 of any engine. Held: addresses held before and after a rewrite. Marked: document 01's marked cases. Wrong: its wrong rewrites. Enough:
--- rooms that are always enough. Tested says how the rules stand for the conditions.
+-- rooms that are always enough. Masking: host bits. Tested says how the rules stand for the conditions.
 pub mod Settled
 pub mod Tested
 pub mod Refusals
@@ -11,3 +11,4 @@ pub mod Demand3
 pub mod Held
 pub mod Marked
 pub mod Wrong
+pub mod Masking

@@ -20,7 +20,7 @@ use Rattle.records.proofs.HostBits.{route-hop, route-valid}
 use Rattle.records.proofs.Reading.{length-routes}
 use Rattle.records.proofs.Written.{length-bytes, routes-bytes, bytes-small, route-head, route-shift}
 use Rattle.table.specs.TableRules.{hostKept, tailKept, before, inOrder, recordRules, rulesFrom, tableRules}
-use Rattle.table.specs.Conditions.{HostClear, Accepted, Lawful}
+use Rattle.table.specs.Conditions.{HostKept, Accepted, Lawful}
 use Rattle.table.proofs.Accepted.{not-refused}
 use Rattle.table.proofs.Tables.{accepted-table, accepted-written, hops-below}
 use Rattle.table.proofs.Tested.{host-shown}
@@ -51,9 +51,9 @@ pub table-carried : {R A : Type 0} (says : R → Reply A) → ((b c : R) → say
 table-carried says same s t a r q one other =
     waived-answer says same 6 (tableRules strictly s t) a r q one (other ∙ ap (λ (l : List Rule). judge l a) (sym (strict-waived s t)))
 
--- What is accepted under either choice is accepted by default, and, where no record has host bits, under either.
-pub accepted-default : (form : Form) (s : Bool) (t : List ℕ) → Accepted form s t → Accepted byDefault s t
-accepted-default form s t a =
+-- What is accepted under one choice is accepted under the other, if host bits are no bar;
+accepted-kept : (form other : Form) (s : Bool) (t : List ℕ) → ((i : ℕ) → i < records t → HostKept other t i) → Accepted form s t → Accepted other s t
+accepted-kept form other s t host a =
     record {
       whole = a .whole;
       few = a .few;
@@ -62,27 +62,19 @@ accepted-default form s t a =
           let k = a .each i h in
           record {
             length-kept = k .length-kept;
-            host-kept = λ e. let z : _≡_ {A = ℕ} 0 1 = cc in absurd (omega arith);
+            host-kept = host i h;
             tail-kept = k .tail-kept;
             order-kept = k .order-kept;
           };
     }
 
-pub accepted-clear : (form other : Form) (s : Bool) (t : List ℕ) → Accepted form s t → ((i : ℕ) → i < records t → HostClear t i) → Accepted other s t
-accepted-clear form other s t a clear =
-    record {
-      whole = a .whole;
-      few = a .few;
-      each =
-          λ i h.
-          let k = a .each i h in
-          record {
-            length-kept = k .length-kept;
-            host-kept = λ e. clear i h;
-            tail-kept = k .tail-kept;
-            order-kept = k .order-kept;
-          };
-    }
+-- so what is accepted at all is accepted by default,
+pub accepted-default : (form : Form) (s : Bool) (t : List ℕ) → Accepted form s t → Accepted byDefault s t
+accepted-default form s t = accepted-kept form byDefault s t (λ i h e. let z : _≡_ {A = ℕ} 0 1 = cc in absurd (omega arith))
+
+-- and what is strictly accepted is accepted by any form.
+pub accepted-any : (form : Form) (s : Bool) (t : List ℕ) → Accepted strictly s t → Accepted form s t
+accepted-any form s t a = accepted-kept strictly form s t (λ i h e. a .each i h .host-kept refl) a
 
 -- ---- The masked bytes of a table that is accepted, as a set or as a map, under either choice.
 module _ (form : Form) (s : Bool) (t : List ℕ) (bytes : Bytes t) (ok : Accepted form s t) where

@@ -10,6 +10,7 @@ use Rattle.theory.specs.Routes.{Route}
 use Rattle.refusals.specs.Rules.{Reply, refuses, judge}
 use Rattle.refusals.proofs.Judged.{gives-any, refuses-any}
 use Rattle.records.specs.Wire.{records, Bytes}
+use Rattle.records.specs.declared.Form.{Form}
 use Rattle.calls.specs.declared.Rewritten.{Rewritten}
 use Rattle.calls.specs.declared.Rewritten.the-variants.{Records, Refused}
 use Rattle.calls.specs.Rewriting.{countOf, resultOf, rewriteReply, writtenOf, Rewrites}
@@ -28,45 +29,45 @@ said-refused before number index (Rattle.refusals.specs.Rules.gives rs) e = cc
 said-refused before number index (refuses m i) e = cc
 
 -- Of a rewrite.
-module _ (t : List ℕ) (mode default : ℕ) (o : List ℕ) (words : ℕ) (o′ w′ : List ℕ) (hops : Bool) (bytes : Bytes t) where
-  pub rewritten-text : (r : Rewritten) → Rewrites t mode default o words r o′ w′
-      → rewrittenText hops r o′ ≡ replyText hops (records t) (rewriteReply t mode default (length o) words)
+module _ (form : Form) (t : List ℕ) (mode default : ℕ) (o : List ℕ) (words : ℕ) (o′ w′ : List ℕ) (hops : Bool) (bytes : Bytes t) where
+  pub rewritten-text : (r : Rewritten) → Rewrites form t mode default o words r o′ w′
+      → rewrittenText hops r o′ ≡ replyText hops (records t) (rewriteReply form t mode default (length o) words)
   unfolding rewrittenText replyText resultOf
   rewritten-text (Records count change) ok =
-      let f = rewrite-records t mode default o words (Records count change) o′ w′ ok count change refl in
-      let e = reply-gives t mode default o words .1 (f .0, refl) in
+      let f = rewrite-records form t mode default o words (Records count change) o′ w′ ok count change refl in
+      let e = reply-gives form t mode default o words .1 (f .0, refl) in
       ap₂ (λ (rs : List Route) (z : ℤ). linesOf hops rs ++ changeLine z)
-      (rewrite-reads t mode default o words (Records count change) o′ w′ ok bytes count change refl) (f .2)
+      (rewrite-reads form t mode default o words (Records count change) o′ w′ ok bytes count change refl) (f .2)
       ∙ sym (ap (replyText hops (records t)) e)
   rewritten-text (Refused number index) ok =
-      sym (ap (replyText hops (records t)) (said-refused (records t) number index (rewriteReply t mode default (length o) words) (ok .inner .answer)))
+      sym (ap (replyText hops (records t)) (said-refused (records t) number index (rewriteReply form t mode default (length o) words) (ok .inner .answer)))
 
 -- ---- Room.
 
-module _ (t : List ℕ) (mode default : ℕ) (o : List ℕ) (words : ℕ) (o′ w′ : List ℕ) where
+module _ (form : Form) (t : List ℕ) (mode default : ℕ) (o : List ℕ) (words : ℕ) (o′ w′ : List ℕ) where
   -- The records that are answered with stand in the output.
-  pub rewritten-fits : (r : Rewritten) → Rewrites t mode default o words r o′ w′ → 8 * countOf r ≤ length o′
+  pub rewritten-fits : (r : Rewritten) → Rewrites form t mode default o words r o′ w′ → 8 * countOf r ≤ length o′
   rewritten-fits (Records count change) ok =
-      let f = rewrite-records t mode default o words (Records count change) o′ w′ ok count change refl in
+      let f = rewrite-records form t mode default o words (Records count change) o′ w′ ok count change refl in
       let size = f .1 in
-      let room = answerable-exactly t mode default (length o) words .0 (f .0) .0 .enough-output in
-      omega (arith, rewrite-length t mode default o words (Records count change) o′ w′ ok)
+      let room = answerable-exactly form t mode default (length o) words .0 (f .0) .0 .enough-output in
+      omega (arith, rewrite-length form t mode default o words (Records count change) o′ w′ ok)
   rewritten-fits (Refused number index) ok = omega arith
 
 -- ---- A list of what has no route.
-module _ (t o o′ : List ℕ) where
-  pub listed-text : (total : Bool) (r : Listed) → Lists t o r o′ → listedText total r o′ ≡ listText total (judge (unroutedRules t (length o)) (holesOf t))
+module _ (form : Form) (t o o′ : List ℕ) where
+  pub listed-text : (total : Bool) (r : Listed) → Lists form t o r o′ → listedText total r o′ ≡ listText total (judge (unroutedRules form t (length o)) (holesOf t))
   unfolding listedText listText
   listed-text total (Listing count) ok =
-      ap₂ (λ (rs : List Route) (n : ℕ). linesOf false rs ++ totalEnd total n) (unrouted-reads t o (Listing count) o′ ok count refl)
-      (sym (unrouted-listed t o (Listing count) o′ ok count .0 refl .2))
-      ∙ sym (ap (listText total) (gives-any (unroutedRules t (length o)) (length (holesOf t)) count (holesOf t) (sym (ok .answer))))
+      ap₂ (λ (rs : List Route) (n : ℕ). linesOf false rs ++ totalEnd total n) (unrouted-reads form t o (Listing count) o′ ok count refl)
+      (sym (unrouted-listed form t o (Listing count) o′ ok count .0 refl .2))
+      ∙ sym (ap (listText total) (gives-any (unroutedRules form t (length o)) (length (holesOf t)) count (holesOf t) (sym (ok .answer))))
   listed-text total (NotListed number index) ok =
-      sym (ap (listText total) (refuses-any (unroutedRules t (length o)) (length (holesOf t)) (holesOf t) number index (sym (ok .answer))))
+      sym (ap (listText total) (refuses-any (unroutedRules form t (length o)) (length (holesOf t)) (holesOf t) number index (sym (ok .answer))))
 
   -- The records that are answered with stand in the output.
-  pub listed-fits : (r : Listed) → Lists t o r o′ → 8 * listedCount r ≤ length o′
+  pub listed-fits : (r : Listed) → Lists form t o r o′ → 8 * listedCount r ≤ length o′
   listed-fits (Listing count) ok =
-      let f = unrouted-listed t o (Listing count) o′ ok count .0 refl in
-      omega (arith, f .1, f .2, unrouted-length t o (Listing count) o′ ok)
+      let f = unrouted-listed form t o (Listing count) o′ ok count .0 refl in
+      omega (arith, f .1, f .2, unrouted-length form t o (Listing count) o′ ok)
   listed-fits (NotListed number index) ok = omega arith

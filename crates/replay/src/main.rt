@@ -6,9 +6,11 @@
 use libc::STDIN_FILENO;
 use records::join4;
 use replaying::Turn;
+use replaying::call_of;
 use replaying::cases::keep_answer;
 use replaying::cases::listed_turn;
 use replaying::cases::plain_turn;
+use replaying::form_of;
 use replaying::join2;
 use replaying::last_line;
 use replaying::send;
@@ -41,14 +43,15 @@ fn turn(table: &mut [u8], output: &mut [u8], work: &mut [u32], at: usize, kept: 
     if io::read_full(STDIN_FILENO, &mut table[..size]) < size {
         return last_line(b"case cut short\n", at, kept);
     }
-    if 5 < head[0] {
+    let call = call_of(head[0]);
+    if 5 < call {
         return last_line(b"no such call\n", at, kept);
     }
     let asked = join4(head[8], head[9], head[10], head[11]) as usize;
-    if head[0] == 4 {
-        return listed_turn(asked, &table[..size], output, at, kept);
+    if call == 4 {
+        return listed_turn(asked, &table[..size], form_of(head[0]), output, at, kept);
     }
-    if head[0] == 5 {
+    if call == 5 {
         let end = plain_turn(&head, &table[..size], output, at, kept);
         return Turn {
             at: end,

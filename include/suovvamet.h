@@ -38,12 +38,12 @@ extern "C" {
 #endif
 
 /* One more whenever something that is declared or promised here changes. */
-#define SUOVVAMET_VERSION 3
+#define SUOVVAMET_VERSION 4
 
 /* The refusals, in the order in which they are checked, but that 5 to 8 go record by record: the first bad record, its lowest number. */
 enum suovvamet_refusal {
     SUOVVAMET_ANSWERED = 0,       /* no refusal */
-    SUOVVAMET_MODE = 1,           /* the mode is not 1 to 5 */
+    SUOVVAMET_MODE = 1,           /* the mode is not 1 to 5; by the plain engine: not 1, 4 or 5 */
     SUOVVAMET_DEFAULT = 2,        /* the mode is 5 and the default is above 63 */
     SUOVVAMET_TABLE_LENGTH = 3,   /* the table's length is not a multiple of 8 */
     SUOVVAMET_RECORDS = 4,        /* the table has more than 1,024 records */
@@ -85,6 +85,14 @@ uint32_t suovvamet_rewrite(const uint8_t *table, uint64_t table_length, uint32_t
                            uint64_t output_length, uint32_t *work, uint64_t work_length, uint64_t *count, int64_t *change, uint64_t *index);
 
 /*
+ * The same in modes 1, 4 and 5 by the plain engine, which needs no work room: other modes are refused by 1, and it never refuses by 10. Wherever
+ * suovvamet_rewrite, lent any work room, does not refuse by 10, both give the same numbers and the same output in these modes. It takes no
+ * memory but stack and, on large tables, more time (docs/PERFORMANCE.md). Refusals 1 to 8 and 11.
+ */
+uint32_t suovvamet_rewrite_plain(const uint8_t *table, uint64_t table_length, uint32_t mode, uint32_t default_hop, uint8_t *output,
+                                 uint64_t output_length, uint64_t *count, int64_t *change, uint64_t *index);
+
+/*
  * Does the set cover the prefix of this address and length, each of its addresses lying under some member? Then *covered is 1, else 0.
  * The first octet of the address is the most significant; bits past the length are ignored. Refusals 3 to 10.
  */
@@ -120,7 +128,7 @@ static inline const char *suovvamet_refusal_text(uint32_t refusal)
 {
     switch (refusal) {
     case SUOVVAMET_ANSWERED: return "answered";
-    case SUOVVAMET_MODE: return "the mode is not 1 to 5";
+    case SUOVVAMET_MODE: return "the mode is not 1 to 5, or not 1, 4 or 5 by the plain engine";
     case SUOVVAMET_DEFAULT: return "the default hop is above 63";
     case SUOVVAMET_TABLE_LENGTH: return "the table is not made of whole records of 8 bytes";
     case SUOVVAMET_RECORDS: return "the table has more than 1,024 records";

@@ -1,11 +1,14 @@
 /*
- * The library's side of tools/bench, by C: rewrites one table again and again. Reads and prints what the program bench does
- * (crates/bench/src/main.rt), on this machine or on the bare Cortex-M4 board.
+ * The library's side of tools/bench, by C: rewrites one table again and again, by either engine, or lists what has no route in it. Reads and prints
+ * what the program bench does (crates/bench/src/main.rt), on this machine or on the bare Cortex-M4 board.
  */
 #include "platform.h"
 #include "suovvamet.h"
 
-static uint8_t table[SUOVVAMET_MOST_OUTPUT], output[SUOVVAMET_MOST_OUTPUT];
+/* What byte 3 holds for a list of what has no route, and what is added to the mode for the plain engine. */
+enum { LIST = 0, PLAIN = 128 };
+
+static uint8_t table[SUOVVAMET_MOST_OUTPUT], output[SUOVVAMET_MOST_UNROUTED];
 static uint32_t work[SUOVVAMET_MOST_WORK];
 
 static void print(const char *text)
@@ -46,12 +49,21 @@ int main(void)
     uint64_t count = 0, index = 0;
     int64_t change = 0;
     for (; times > 0; times--)
-        refusal = suovvamet_rewrite(table, length, head[3], head[4], output, sizeof output, work, words, &count, &change, &index);
+        if (head[3] == LIST)
+            refusal = suovvamet_unrouted(table, length, output, SUOVVAMET_MOST_UNROUTED, &count, &index);
+        else if (head[3] >= PLAIN)
+            refusal = suovvamet_rewrite_plain(table, length, head[3] - PLAIN, head[4], output, SUOVVAMET_MOST_OUTPUT, &count, &change, &index);
+        else
+            refusal =
+                suovvamet_rewrite(table, length, head[3], head[4], output, SUOVVAMET_MOST_OUTPUT, work, words, &count, &change, &index);
     if (refusal != SUOVVAMET_ANSWERED) {
         print("refused ");
         print_number(refusal);
         print(" at ");
         print_number((uint32_t)index);
+    } else if (head[3] == LIST) {
+        print("unrouted ");
+        print_number((uint32_t)count);
     } else {
         print("records ");
         print_number((uint32_t)count);

@@ -15,6 +15,9 @@ type Route = (u32, u8, u8);
 /// What stands for the list of what has no route where `bench` is told a mode.
 const LIST: u8 = 0;
 
+/// What is added to the mode there for the plain engine.
+const PLAIN: u8 = 128;
+
 /// A table, and what it is called.
 struct Table {
     name: &'static str,
@@ -97,7 +100,7 @@ fn input(times: u32, mode: u8, words: usize, routes: &[Route]) -> Vec<u8> {
     bytes.extend(&(words as u32).to_be_bytes()[1..]);
     for &(address, length, hop) in routes {
         bytes.extend(address.to_be_bytes());
-        bytes.extend([length, if mode == 1 || mode == 2 { 0 } else { hop }, 0, 0]);
+        bytes.extend([length, if mode % PLAIN == 1 || mode == 2 { 0 } else { hop }, 0, 0]);
     }
     bytes
 }
@@ -218,7 +221,8 @@ impl Bench {
             ours / theirs
         );
         if self.has_counts() {
-            let (ours, theirs) = (self.instructions(&self.ours, mode, room, routes), self.instructions(&self.theirs, mode, room, routes));
+            let (ours, theirs) =
+                (self.instructions(&self.ours, mode, room, routes), self.instructions(&self.theirs, mode, room, routes));
             print!(" {} | {} | {:.2} |", thousands(ours), thousands(theirs), ours as f64 / theirs as f64);
         }
         println!();
@@ -254,6 +258,42 @@ impl Bench {
                 print!(" {} |", thousands(self.instructions(&self.ours, LIST, 0, &table.routes)));
             }
             println!();
+        }
+    }
+
+    /// The plain engine, which has no work room, beside the one over nodes.
+    fn engines(&self, tables: &[Table]) {
+        let counts = self.has_counts();
+        println!(
+            "\n| table | records | mode | plain, µs | over nodes, µs | plain / nodes |{}",
+            if counts { " plain, instr. | over nodes, instr. | instr. |" } else { "" }
+        );
+        println!("|---|--:|--:|--:|--:|--:|{}", if counts { "--:|--:|--:|" } else { "" });
+        for table in tables {
+            let room = 160 * nodes(&table.routes);
+            for mode in [1, 4, 5] {
+                let answer = |mode| run(&self.ours, &input(1, mode, room, &table.routes)).0;
+                let (plain, over_nodes) = (answer(PLAIN + mode), answer(mode));
+                if plain != over_nodes {
+                    fail(&format!("{}, mode {mode}: the plain engine answers '{plain}', the other '{over_nodes}'", table.name));
+                }
+                let time = |mode| self.time(&self.ours, mode, room, &table.routes);
+                let (plain, over_nodes) = (time(PLAIN + mode), time(mode));
+                print!(
+                    "| {} | {} | {mode} | {} | {} | {:.2} |",
+                    table.name,
+                    thousands_of(table.routes.len() as i64),
+                    microseconds(plain),
+                    microseconds(over_nodes),
+                    plain / over_nodes
+                );
+                if counts {
+                    let count = |mode| self.instructions(&self.ours, mode, room, &table.routes);
+                    let (plain, over_nodes) = (count(PLAIN + mode), count(mode));
+                    print!(" {} | {} | {:.2} |", thousands(plain), thousands(over_nodes), plain as f64 / over_nodes as f64);
+                }
+                println!();
+            }
         }
     }
 
@@ -327,12 +367,12 @@ impl Bench {
     /// What a rewrite takes on the board: instructions, and what they come to at 180 MHz, one a cycle.
     fn on_board(&self, tables: &[Table]) {
         println!("\nCortex-M4, instructions of a rewrite, and milliseconds at 180 MHz if each took one cycle.\n");
-        println!("| table | records | nodes | mode 1 | mode 2 | mode 3 | mode 4 | mode 5 |");
-        println!("|---|--:|--:|--:|--:|--:|--:|--:|");
+        println!("| table | records | nodes | mode 1 | mode 2 | mode 3 | mode 4 | mode 5 | plain, mode 1 | mode 4 | mode 5 |");
+        println!("|---|--:|--:|--:|--:|--:|--:|--:|--:|--:|--:|");
         for table in tables {
             let nodes = nodes(&table.routes);
             print!("| {} | {} | {} |", table.name, thousands_of(table.routes.len() as i64), thousands_of(nodes as i64));
-            for mode in 1..=5 {
+            for mode in [1, 2, 3, 4, 5, PLAIN + 1, PLAIN + 4, PLAIN + 5] {
                 let count = self.instructions(&self.board, mode, 160 * nodes, &table.routes);
                 print!(" {:.2} M, {:.1} ms |", count as f64 / 1e6, count as f64 / 180e3);
             }
@@ -389,6 +429,8 @@ fn main() {
     }
     println!("\nThe list of what has no route, in an output of 180,224 bytes: the holes are not counted first.");
     bench.lists(&tables);
+    println!("\nThe plain engine beside the one over nodes.");
+    bench.engines(&tables);
     println!("\nHow it grows: scattered records of mixed lengths.\n");
     bench.head();
     for mode in [1, 3, 4] {

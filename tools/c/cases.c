@@ -167,16 +167,19 @@ static void promise_output(size_t count, size_t room)
     promise(!touched, "output touched");
 }
 
-static void rewrite(size_t length, uint32_t mode, uint32_t default_hop, size_t room, size_t words)
+/* By the engine over nodes, or by the plain one, which is lent no room. */
+static void rewrite(int plain, size_t length, uint32_t mode, uint32_t default_hop, size_t room, size_t words)
 {
     struct guarded count = unset, index = unset, change_room = unset;
     int64_t *change = (int64_t *)&change_room.value;
     fill_output(room);
     uint32_t refusal =
-        suovvamet_rewrite(table, length, mode, default_hop, output, room, work, words, &count.value, change, &index.value);
+        plain ? suovvamet_rewrite_plain(table, length, mode, default_hop, output, room, &count.value, change, &index.value)
+              : suovvamet_rewrite(table, length, mode, default_hop, output, room, work, words, &count.value, change, &index.value);
     promise_guards(&count);
     promise_guards(&change_room);
-    promise_words(length, mode <= SUOVVAMET_CONSISTENT_SET, words, refusal, index.value);
+    if (!plain)
+        promise_words(length, mode <= SUOVVAMET_CONSISTENT_SET, words, refusal, index.value);
     if (answered(refusal, &index, count.value == 0 && *change == 0)) {
         print_records((size_t)count.value, mode > SUOVVAMET_CONSISTENT_SET);
         print(*change < 0 ? "change -" : "change ");
@@ -274,12 +277,12 @@ static const char *run(void)
             table_room[i] = pattern(i);
         if (got < HEADER || platform_read(table, length) < length)
             return "case cut short";
-        if (header[0] > 4)
+        if (header[0] > 5)
             return "no such call";
         size_t words = number(header + 8, 4), room = number(header + 12, 2);
         if (header[0] == 4 && words > MOST_LIST)
             return "output too large";
-        if (words > SUOVVAMET_MOST_WORK)
+        if (header[0] < 4 && words > SUOVVAMET_MOST_WORK)
             return "work room too large";
         for (size_t i = 0; i < around; i++)
             kept[i] = table_room[i];
@@ -288,11 +291,12 @@ static const char *run(void)
         for (size_t i = 0; borrows && i < all; i++)
             work_room[i] = filler(i);
         switch (header[0]) {
-        case 0: rewrite(length, header[1], header[2], room, words); break;
+        case 0: rewrite(0, length, header[1], header[2], room, words); break;
         case 1: covers(length, number(header + 4, 4), header[3], words); break;
         case 2: lookup(length, number(header + 4, 4)); break;
         case 3: addresses_held(length); break;
         case 4: unrouted(length, words); break;
+        case 5: rewrite(1, length, header[1], header[2], room, 0); break;
         }
         uint32_t left = 0, round = 0;
         for (size_t i = 0; borrows && i < all; i++)

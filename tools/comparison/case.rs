@@ -10,6 +10,8 @@ pub const COVER: u8 = 1;
 pub const LOOKUP: u8 = 2;
 pub const HELD: u8 = 3;
 pub const UNROUTED: u8 = 4;
+/// A rewrite by the plain engine, which is lent no work room.
+pub const PLAIN: u8 = 5;
 
 /// The most words of work room that a case asks for: 160 for each of 5,153 nodes.
 pub const MOST_WORK: u32 = 824_480;
@@ -24,7 +26,7 @@ pub struct Case {
     pub default: u8,
     pub query_length: u8,
     pub query: u32,
-    /// Words of work room; bytes of output for a list of what has no route.
+    /// Words of work room; bytes of output for a list of what has no route; not read by the plain engine.
     pub work: u32,
     pub room: u16,
     pub table: Vec<u8>,
@@ -61,13 +63,13 @@ impl Case {
             room: (word(12) >> 16) as u16,
             table: rest[..length].to_vec(),
         };
-        if case.call > UNROUTED {
+        if case.call > PLAIN {
             return Err("no such call");
         }
         if case.call == UNROUTED && case.work > MOST_LIST {
             return Err("output too large");
         }
-        if case.work > MOST_WORK {
+        if case.call != PLAIN && case.work > MOST_WORK {
             return Err("work room too large");
         }
         Ok((case, &rest[length..]))
@@ -78,6 +80,8 @@ impl Case {
         let mut text = match self.call {
             REWRITE if self.mode == 5 => format!("rewrite, mode 5, default {}", self.default),
             REWRITE => format!("rewrite, mode {}", self.mode),
+            PLAIN if self.mode == 5 => format!("plain rewrite, mode 5, default {}", self.default),
+            PLAIN => format!("plain rewrite, mode {}", self.mode),
             COVER => format!("cover query of {}/{}", dotted(self.query), self.query_length),
             LOOKUP => format!("lookup of {}", dotted(self.query)),
             HELD => "addresses held".to_string(),
@@ -85,6 +89,7 @@ impl Case {
         };
         let _ = match self.call {
             UNROUTED => writeln!(text, "; {} bytes of output, {} bytes of table", self.work, self.table.len()),
+            PLAIN => writeln!(text, "; {} bytes of output, {} bytes of table", self.room, self.table.len()),
             _ => writeln!(
                 text,
                 "; {} words of work room, {} bytes of output, {} bytes of table",

@@ -3,7 +3,7 @@
 
 use std::collections::BTreeMap;
 
-use crate::case::{table_of, Answer, Case, Route, COVER, HELD, LOOKUP, MOST_LIST, MOST_WORK, REWRITE, UNROUTED};
+use crate::case::{table_of, Answer, Case, Route, COVER, HELD, LOOKUP, MOST_LIST, MOST_WORK, PLAIN, REWRITE, UNROUTED};
 use crate::model::{self, Fault};
 
 /// A case, what it is, and the refusal that its damage was planned to give.
@@ -551,6 +551,21 @@ pub fn seeded(seed: u64, index: u64) -> Made {
     whole(random, call, mode, shape, rooms)
 }
 
+/// The same rewrite by the plain engine. The bytes of its case that say how much work room is lent speak of none or of too much: they are not to
+/// be read.
+pub fn plain(made: &Made) -> Option<Made> {
+    let work = if made.case.work % 2 == 0 { 0 } else { !made.case.work };
+    let case = Case { call: PLAIN, work, ..made.case.clone() };
+    (made.case.call == REWRITE).then_some(Made { case, shape: made.shape, rooms: made.rooms, damage: None })
+}
+
+/// Case `index` of a seed and, where it is a rewrite, the same by the plain engine.
+pub fn both(seed: u64, index: u64) -> Vec<Made> {
+    let made = seeded(seed, index);
+    let again = plain(&made);
+    std::iter::once(made).chain(again).collect()
+}
+
 fn prefix(text: &str) -> Route {
     let (prefix, hop) = text.split_once('>').unwrap_or((text, "0"));
     let (address, length) = prefix.split_once('/').unwrap();
@@ -694,6 +709,9 @@ pub fn fixed() -> Vec<Made> {
             list.push(damaged(random, UNROUTED, first, second, order, Size::Few));
         }
     }
+    // Every rewrite of the list by the plain engine.
+    let again: Vec<Made> = list.iter().filter_map(plain).collect();
+    list.extend(again);
     list
 }
 

@@ -15,7 +15,7 @@ use std::process::{exit, Command, Stdio};
 use std::sync::{Mutex, OnceLock};
 use std::thread;
 
-use case::{Answer, Case, Route, COVER, HELD, LOOKUP, REWRITE, UNROUTED};
+use case::{Answer, Case, Route, COVER, HELD, LOOKUP, PLAIN, REWRITE, UNROUTED};
 use generate::Made;
 use model::Fault;
 
@@ -61,7 +61,7 @@ fn expected(case: &Case) -> Answer {
     let work_short = || (case.work as usize) < 160 * oracle::nodes(&routes);
     match case.call {
         REWRITE if work_short() => Answer::Refused(10, 0),
-        REWRITE => {
+        REWRITE | PLAIN => {
             let (out, change) = oracle::rewrite(case.mode, case.default, &routes);
             if (case.room as usize) < 8 * out.len() {
                 Answer::Refused(11, 0)
@@ -139,6 +139,7 @@ impl Counts {
     fn see(&mut self, made: &Made, answer: &Answer) {
         let call = match made.case.call {
             REWRITE => format!("rewrite, mode {}", made.case.mode),
+            PLAIN => format!("plain rewrite, mode {}", made.case.mode),
             COVER => "cover query".to_string(),
             LOOKUP => "lookup".to_string(),
             HELD => "addresses held".to_string(),
@@ -238,11 +239,11 @@ fn hold_replay(command: &str, made: &[Made], texts: &[String], worker: usize) {
     }
 }
 
-/// Runs seeded cases in batches: the crate against the model, and the first `by_replay` of them against replay.
+/// Runs seeded cases in batches, every rewrite by both engines: the crate against the model, and the first `by_replay` of them against replay.
 fn run(cases: u64, seed: u64, command: Option<&str>, by_replay: u64) {
     let workers = thread::available_parallelism().map_or(1, |n| n.get() as u64).min(8);
     let mut counts = Counts::default();
-    let mut replayed = 0;
+    let (mut twice, mut replayed) = (0, 0);
     let mut start = 0;
     while start < cases {
         let end = cases.min(start + BATCH);
@@ -252,8 +253,8 @@ fn run(cases: u64, seed: u64, command: Option<&str>, by_replay: u64) {
                 let from = (start + worker * share).min(end);
                 scope.spawn(move || {
                     (from..end.min(from + share))
-                        .map(|index| {
-                            let made = generate::seeded(seed, index);
+                        .flat_map(|index| generate::both(seed, index))
+                        .map(|made| {
                             let (text, answer) = settle(&made);
                             (made, text, answer)
                         })
@@ -264,13 +265,21 @@ fn run(cases: u64, seed: u64, command: Option<&str>, by_replay: u64) {
             started.into_iter().map(|thread| thread.join().unwrap_or_else(|_| exit(2))).collect()
         });
         let (mut made, mut texts) = (Vec::new(), Vec::new());
+        let (mut seen, mut count) = (start, 0);
         for (one, text, answer) in parts.into_iter().flatten() {
             counts.see(&one, &answer);
+            if one.case.call == PLAIN {
+                twice += 1;
+            } else {
+                seen += 1;
+            }
             made.push(one);
             texts.push(text);
+            if seen <= by_replay {
+                count = made.len();
+            }
         }
         if let Some(command) = command {
-            let count = by_replay.saturating_sub(start).min(end - start) as usize;
             let share = count.div_ceil(workers as usize).max(1);
             thread::scope(|scope| {
                 for (worker, (made, texts)) in made[..count].chunks(share).zip(texts[..count].chunks(share)).enumerate() {
@@ -287,7 +296,11 @@ fn run(cases: u64, seed: u64, command: Option<&str>, by_replay: u64) {
     counts.print();
     let pairs = counts.0.keys().filter(|what| what.starts_with("pair ")).count();
     println!("compare: {pairs} pairs of refusal numbers in one call");
-    println!("compare: seed {seed}: the crate and the model agree on {cases} cases; {} agrees on {replayed} of them", answerer());
+    println!(
+        "compare: seed {seed}: the crate and the model agree on {cases} cases and on {twice} rewrites again by the plain engine; {} agrees on {replayed} of \
+         them",
+        answerer()
+    );
 }
 
 /// Document 01's worked routes, by the crate and by the model.
@@ -376,7 +389,7 @@ fn check_ends(command: &str) {
         tries.push((good[..cut].to_vec(), String::new()));
         tries.push(([&good[..], &good[..cut]].concat(), text.clone()));
     }
-    for bytes in [&[(0, UNROUTED + 1)][..], &[(0, 255)], &[(8, 1)], &[(0, UNROUTED), (8, 0), (9, 4), (10, 0), (11, 1)]] {
+    for bytes in [&[(0, PLAIN + 1)][..], &[(0, 255)], &[(8, 1)], &[(0, UNROUTED), (8, 0), (9, 4), (10, 0), (11, 1)]] {
         let mut odd = good.clone();
         bytes.iter().for_each(|&(at, byte)| odd[at] = byte);
         tries.push(([&good[..], &odd].concat(), text.clone()));
@@ -400,15 +413,16 @@ fn self_test() {
     let mut left: Vec<(Fault, &str)> = model::FAULTS.to_vec();
     let mut index = 0;
     while !left.is_empty() && index < QUICK_CASES {
-        let made = generate::seeded(1, index);
-        let text = expected(&made.case).text(made.case.mode);
-        left.retain(|&(fault, what)| {
-            let same = model::answer(&made.case, fault).text(made.case.mode) == text;
-            if !same {
-                println!("compare: planted fault found by case {index:5} of seed 1: {what}");
-            }
-            same
-        });
+        for made in generate::both(1, index) {
+            let text = expected(&made.case).text(made.case.mode);
+            left.retain(|&(fault, what)| {
+                let same = model::answer(&made.case, fault).text(made.case.mode) == text;
+                if !same {
+                    println!("compare: planted fault found by case {index:5} of seed 1: {what}");
+                }
+                same
+            });
+        }
         index += 1;
     }
     for (_, what) in &left {

@@ -4,7 +4,7 @@
 //! A call of the model can be given a fault, a planted mistake: `tools/compare --self-test` shows with them that the comparison
 //! finds mistakes. `Fault::None` is the model itself.
 
-use crate::case::{Answer, Case, Route, COVER, HELD, LOOKUP, REWRITE, UNROUTED};
+use crate::case::{Answer, Case, Route, COVER, HELD, LOOKUP, PLAIN, REWRITE, UNROUTED};
 
 #[derive(Clone, Copy, PartialEq, Eq, Debug)]
 pub enum Fault {
@@ -39,10 +39,12 @@ pub enum Fault {
     HoleOverRecord,
     HoleNotWidest,
     HolesByLength,
+    PlainTakesMode3,
+    PlainNeedsWork,
 }
 
 /// Each planted mistake and what it does wrong.
-pub const FAULTS: [(Fault, &str); 30] = [
+pub const FAULTS: [(Fault, &str); 32] = [
     (Fault::LargestHop, "modes 4, 5: the largest hop of a set instead of the smallest"),
     (Fault::HoleIsEmptySet, "mode 4: a hole taken as an empty set"),
     (Fault::AlwaysSmallest, "modes 4, 5: the smallest hop even where the hop above is in the set"),
@@ -73,6 +75,8 @@ pub const FAULTS: [(Fault, &str); 30] = [
     (Fault::HoleOverRecord, "list of what has no route: a /32 overlooked"),
     (Fault::HoleNotWidest, "list of what has no route: a prefix listed as its halves"),
     (Fault::HolesByLength, "list of what has no route: in the order of the lengths"),
+    (Fault::PlainTakesMode3, "plain engine: mode 3 answered"),
+    (Fault::PlainNeedsWork, "plain engine: number 10 given"),
 ];
 
 /// The first `length` bits set.
@@ -119,8 +123,12 @@ fn bad_record(record: &[u8], before: Option<&[u8]>, is_map: bool, fault: Fault) 
 
 /// The routes of an accepted call's table, or the refusal by a number of 1 to 9.
 pub fn accepted(case: &Case, fault: Fault) -> Result<Vec<Route>, (u8, usize)> {
-    if case.call == REWRITE {
-        if !(1..=5).contains(&case.mode) {
+    if case.call == REWRITE || case.call == PLAIN {
+        let known = match case.call {
+            PLAIN => [1, 4, 5].contains(&case.mode) || case.mode == 3 && fault == Fault::PlainTakesMode3,
+            _ => (1..=5).contains(&case.mode),
+        };
+        if !known {
             return Err((1, 0));
         }
         if (case.mode == 5 || fault == Fault::DefaultAlwaysRead) && case.default > 63 {
@@ -136,7 +144,7 @@ pub fn accepted(case: &Case, fault: Fault) -> Result<Vec<Route>, (u8, usize)> {
         return Err((4, 0));
     }
     let is_map = match case.call {
-        REWRITE => case.mode >= 3,
+        REWRITE | PLAIN => case.mode >= 3,
         COVER => false,
         _ => true,
     };
@@ -418,13 +426,13 @@ pub fn answer(case: &Case, fault: Fault) -> Answer {
     };
     let work_short = || (case.work as usize) < 160 * nodes(&routes, fault);
     match case.call {
-        REWRITE => {
+        REWRITE | PLAIN => {
             let out = rewritten(case.mode, case.default, &routes, fault);
             let output_short = (case.room as usize) < 8 * out.len();
             if fault == Fault::OutputBeforeWork && output_short {
                 return Answer::Refused(11, 0);
             }
-            if work_short() {
+            if (case.call == REWRITE || fault == Fault::PlainNeedsWork) && work_short() {
                 return Answer::Refused(10, 0);
             }
             if output_short {

@@ -31,7 +31,8 @@ use Rattle.nodes.proofs.OutputLaws.{wrote-whole, wrote-count}
 use Rattle.nodes.proofs.RoomLaws.{pushed-begins}
 use Rattle.assign.specs.Answers.{answerIn}
 use Rattle.calls.specs.Rewriting.{modeOf, resultOf}
-use Rattle.aggregate.specs.Walks.{whole, Fills, wideResult}
+use Rattle.calls.specs.Ending.{Fills}
+use Rattle.aggregate.specs.Walks.{whole, wideResult}
 
 -- ---- From wide addresses to those of the wire.
 

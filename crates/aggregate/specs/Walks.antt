@@ -1,21 +1,17 @@
 -- The walks of the five modes over a whole table: what they need, and what they write.
-use Prim.Native.Nat.{ℕ, _*_, _≤_, _<_}
+use Prim.Native.Nat.{ℕ, _≤_}
 use mathlib.Core.Path.{_≡_}
 use mathlib.Core.Bool.{true}
-use mathlib.Core.List.{List, [], _∷_}
-use lib.Dec.{leb}
-use lib.ListN.{length}
+use mathlib.Core.List.{List}
 use Rattle.theory.specs.Routes.{Route, All, none}
 use Rattle.theory.specs.Results.{result, smallest}
-use Rattle.refusals.specs.Rules.{rule, Reply, judge}
 use Rattle.records.specs.Wire.{records}
-use Rattle.positions.specs.Runs.{noHop, hopOf}
+use Rattle.positions.specs.Runs.{hopOf}
 use Rattle.nodes.specs.Node.{wide, run, Node}
 use Rattle.nodes.specs.Room.{Stored, StoredBy}
 use Rattle.maximal.specs.Maximal.{coverageWord, uncovered}
 use Rattle.assign.specs.Answers.{answerIn, setWords}
-use Rattle.calls.specs.Rewriting.{modeOf, takesSet, resultOf, writtenOf, outputOf, rewrittenSays}
-use Rattle.calls.specs.declared.Rewritten.{Rewritten}
+use Rattle.calls.specs.Rewriting.{modeOf, takesSet}
 
 -- The table's records as wide routes.
 abbrev pub whole : List ℕ → List Route
@@ -27,11 +23,6 @@ pub record Ready (t : List ℕ) (mode : ℕ) : Type 0 where
   pub node : Node t 0 (records t) 0 0
   pub bare : takesSet mode ≡ true → All (λ r. r .hop ≡ 0) (whole t)
 
--- The hop that fills what has no route: a hop in mode 5, none in the others.
-pub record Fills (mode fill : ℕ) : Type 0 where
-  pub hop : mode ≡ 5 → fill < noHop
-  pub none : (mode ≡ 5 → ⊥) → fill ≡ noHop
-
 -- From `top` on the room holds what the mode's writing walk reads: the coverage of the nodes below no member in mode 1, the nodes' sets in modes 4
 -- and 5.
 pub record Prepared (t : List ℕ) (mode fill top : ℕ) (work : List ℕ) : Type 0 where
@@ -41,11 +32,3 @@ pub record Prepared (t : List ℕ) (mode fill top : ℕ) (work : List ℕ) : Typ
 -- What the mode makes of the table at wide addresses.
 unfoldable pub wideResult : List ℕ → ℕ → ℕ → List Route
 wideResult t mode fill = result smallest wide (modeOf mode fill) (whole t)
-
--- The end of a rewrite of a table that keeps the rules: only the output's room is still to be judged, by rule 11.
-abbrev pub lastReply : List ℕ → ℕ → ℕ → ℕ → Reply (List Route)
-lastReply t mode fill room = judge (rule 11 0 (leb (8 * length (resultOf t mode fill)) room) ∷ []) (resultOf t mode fill)
-
-pub record Finished (t : List ℕ) (mode fill : ℕ) (o : List ℕ) (r : Rewritten) (o′ : List ℕ) : Type 0 where
-  pub answer : rewrittenSays r ≡ writtenOf (records t) (lastReply t mode fill (length o))
-  pub output : o′ ≡ outputOf o (lastReply t mode fill (length o))

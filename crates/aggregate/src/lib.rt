@@ -5,27 +5,29 @@ mod walks;
 
 use calls::Covers;
 use calls::Rewritten;
+use calls::engine::fill_of;
+use calls::engine::most_records;
+use calls::engine::no_hop;
 use cover::query::covers_in_aggregate;
-use hops::NO_HOP;
 use nodecount::count_nodes;
 use table::Checked;
 use table::check_table;
 use walks::prepare;
 use walks::write;
 ghost use mathlib.Core.Path.{_≡_};
-ghost use mathlib.Core.Bool.{not, _&&_, _||_};
-ghost use Prim.Native.Nat.{_+_, _-_, _*_, _^_, _≤_, _<_};
-ghost use lib.Dec.{eqb, leb};
+ghost use mathlib.Core.Bool.{not, _&&_};
+ghost use Prim.Native.Nat.{_-_, _*_, _^_, _≤_};
+ghost use lib.Dec.{leb};
 ghost use lib.ListN.{length, replicate};
 ghost use Rattle.theory.specs.Results.{startOf};
 ghost use Rattle.theory.specs.Routes.{Table};
 ghost use Rattle.records.specs.Wire.{records, routes};
-ghost use Rattle.positions.specs.Runs.{noHop};
 ghost use Rattle.nodes.specs.Node.{spare};
 ghost use Rattle.nodes.specs.Room.{nodesBelow};
+ghost use Rattle.calls.specs.Ending.{Fills, Finished};
 ghost use Rattle.calls.specs.Rewriting.{RewritesIn, Rewrites};
 ghost use Rattle.calls.specs.Covering.{coversSays, coverReply, Queried};
-ghost use Rattle.aggregate.specs.Walks.{whole, Ready, Fills, Finished};
+ghost use Rattle.aggregate.specs.Walks.{whole, Ready};
 
 // Makes every word of the room zero.
 fn clear(work: &mut [u32])
@@ -42,32 +44,6 @@ fn no_mode(mode: u32) -> bool
         return true;
     }
     5 < mode
-}
-
-// Is the default of fill no hop?
-fn no_hop(mode: u32, default: u32) -> bool
-    ensures { λ r. ⌜ r ≡ not (not (eqb mode 5) || leb default 63) ⌝ }
-{
-    if mode == 5 { 63 < default } else { false }
-}
-
-// The hop of what has no route: the default in mode 5, and none in the others.
-fn fill_of(mode: u32, default: u32) -> u8
-    ensures { λ r. ⌜ (mode ≡ 5 → default ≤ 63 → r ≡ default) × ((mode ≡ 5 → ⊥) → r ≡ noHop) ⌝ }
-{
-    if mode == 5 {
-        (default % 256) as u8
-    } else {
-        NO_HOP
-    }
-}
-
-// The most records that the mode makes of so many.
-fn most_records(mode: u32, records: usize) -> usize
-    requires { ⌜ records + 1 < 2 ^ 64 ⌝ }
-    ensures { λ r. ⌜ (mode ≡ 5 → r ≡ records + 1) × ((mode ≡ 5 → ⊥) → r ≡ records) ⌝ }
-{
-    if mode == 5 { records + 1 } else { records }
 }
 
 // The rewrite of a table that keeps the rules and has so many records, in a room that is long enough. Where the output might be too short, a

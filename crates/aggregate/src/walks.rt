@@ -10,7 +10,8 @@ ghost use Prim.Native.Nat.{_*_, _≤_};
 ghost use lib.ListN.{length};
 ghost use Rattle.nodes.specs.Output.{Wrote};
 ghost use Rattle.nodes.specs.Room.{nodesBelow};
-ghost use Rattle.aggregate.specs.Walks.{whole, Ready, Fills, Prepared, wideResult};
+ghost use Rattle.calls.specs.Ending.{Fills};
+ghost use Rattle.aggregate.specs.Walks.{whole, Ready, Prepared, wideResult};
 
 // Lays what the mode's walk reads into the room: the coverage of the nodes in mode 1, their candidate sets in modes 4 and 5. Says where it begins.
 pub fn prepare(table: &[u8], mode: u32, fill: u8, work: &mut [u32]) -> usize

@@ -1,9 +1,9 @@
-// Rewrites one table again and again, or lists what has no route in it, so that the time of a call can be measured (tools/bench).
+// Rewrites one table again and again, by either engine, or lists what has no route in it, so that the time of a call can be measured (tools/bench).
 //
 // Reads from standard input 8 bytes and then a table, at most 8,200 bytes of it. Numbers stand most significant byte first.
 //
 //   bytes 0 to 2   how many times the call is made
-//   byte 3         the mode of a rewrite; 0 for a list of what has no route
+//   byte 3         the mode of a rewrite, 128 added for the plain engine; 0 for a list of what has no route
 //   byte 4         the default, which mode 5 reads
 //   bytes 5 to 7   how many words of the work room are lent; more than 824,480 are taken as 824,480
 //
@@ -76,6 +76,16 @@ fn repeat(
     rewrite(table, mode, default, output, work)
 }
 
+// The same by the plain engine.
+fn repeat_plain(more: u32, table: &[u8], mode: u32, default: u32, output: &mut [u8]) -> Rewritten {
+    let mut left = more;
+    while 0 < left {
+        plain::rewrite(table, mode, default, output);
+        left -= 1;
+    }
+    plain::rewrite(table, mode, default, output)
+}
+
 // How many words are lent of those asked for, where there are so many.
 fn lent(asked: u32, all: usize) -> usize
     ensures { λ r. ⌜ r ≤ all ⌝ }
@@ -137,6 +147,17 @@ fn run(times: u32, mode: u8, default: u8, asked: u32, table: &[u8]) {
     }
     if mode == 0 {
         run_list(times - 1, table);
+        return;
+    }
+    if 128 <= mode {
+        let answer = repeat_plain(
+            times - 1,
+            table,
+            (mode - 128) as u32,
+            default as u32,
+            &mut output,
+        );
+        print_answer(answer, table.len() / 8);
         return;
     }
     let answer = repeat_in(

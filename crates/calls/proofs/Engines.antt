@@ -1,5 +1,5 @@
--- Demands 2 and 3 of any engine: what its statement gives wherever its rules are guarded, so that an answer with records means an accepted table, a known
--- mode, a hop for a default and an output that is long enough. Assumes of a table, where it says so, that its elements are bytes.
+-- The demands of any engine. Demand 1 by what its rules test; demands 2 and 3 wherever its rules are guarded, so that an answer with records means an
+-- accepted table, a known mode, a hop for a default and an output that is long enough. Assumes of a table, where it says so, that its elements are bytes.
 use mathlib.Core.Path.{_≡_, refl, sym, ap, ap₂, _∙_, subst}
 use mathlib.Core.Bool.{Bool, true, false}
 use mathlib.Core.List.{List, _++_}
@@ -16,7 +16,8 @@ use Rattle.theory.proofs.Lists.{all-map, all-member}
 use Rattle.theory.proofs.Chosen.{smallest-chooses}
 use Rattle.theory.proofs.Modes.{result-keeps, result-table, result-hops, result-again, drop-alike, fill-alike, set-alike}
 use Rattle.refusals.specs.Rules.{Rule, Reply, gives, refuses, judge}
-use Rattle.refusals.proofs.Judged.{gives-any}
+use Rattle.refusals.specs.Order.{First, None}
+use Rattle.refusals.proofs.Judged.{Broken, InOrder, gives-any, gives-exactly, refuses-exactly}
 use Rattle.records.specs.Wire.{records, routes, bytesOf, Bytes}
 use Rattle.records.proofs.Written.{length-bytes, records-bytes, routes-bytes, bytes-small}
 use Rattle.table.specs.TableRules.{topHop}
@@ -26,7 +27,7 @@ use Rattle.table.proofs.Tables.{accepted-table, table-accepted}
 use Rattle.calls.specs.declared.Rewritten.{Rewritten}
 use Rattle.calls.specs.declared.Rewritten.the-variants.{Records, Refused}
 use Rattle.calls.specs.Conditions.{Answerable, Guarded}
-use Rattle.calls.specs.Rewriting.{modeOf, resultOf, takesSet, Written, replyBy, writtenOf, outputOf, rewrittenSays, RewritesBy}
+use Rattle.calls.specs.Rewriting.{modeOf, resultOf, takesSet, Written, replyBy, writtenOf, outputOf, rewrittenSays, countOf, changeOf, RewritesBy}
 use Rattle.calls.proofs.Settled.{rewritten-same}
 
 -- A reply that is said with records gives the result.
@@ -39,6 +40,55 @@ reply-result rules t mode default before e = go (judge rules (resultOf t mode de
         → judge rules (resultOf t mode default) ≡ gives (resultOf t mode default)
     go (gives rs) p e = gives-any rules (resultOf t mode default) rs (resultOf t mode default) p
     go (refuses n i) p e = let z : _≡_ {A = ℕ} 0 1 = cc in absurd (omega arith)
+
+-- ---- Demand 1.
+
+-- What is said of a reply.
+says-refuses : (before : ℕ) (q : Reply (List Route)) {n i : ℕ} → writtenOf before q ≡ refuses n i → q ≡ refuses n i
+says-refuses before (gives rs) e = let z : _≡_ {A = ℕ} 0 1 = cc in absurd (omega arith)
+says-refuses before (refuses n i) e = cc
+
+says-gives : (before : ℕ) (q : Reply (List Route)) {w : Written} → writtenOf before q ≡ gives w → (rs : List Route) × (q ≡ gives rs)
+says-gives before (gives rs) e = (rs, refl)
+says-gives before (refuses n i) e = let z : _≡_ {A = ℕ} 0 1 = cc in absurd (omega arith)
+
+module _ {Holds : ℕ → ℕ → Type 0} (rules : List Rule) (tests : (n i : ℕ) → Broken rules n i ↔ Holds n i) (t : List ℕ) (mode default : ℕ) where
+  -- The right reply gives the result exactly when no condition holds, and refuses exactly by the first that holds.
+  pub by-gives : {rs : List Route} → replyBy rules t mode default ≡ gives rs ↔ (None Holds × (resultOf t mode default ≡ rs))
+  unfolding replyBy
+  by-gives = gives-exactly rules tests (resultOf t mode default)
+
+  by-refuses : InOrder rules → (n i : ℕ) → replyBy rules t mode default ≡ refuses n i ↔ First Holds n i
+  unfolding replyBy
+  by-refuses order = refuses-exactly rules tests (resultOf t mode default) order
+
+  module _ (o : List ℕ) (r : Rewritten) (o′ : List ℕ) (ok : RewritesBy rules t mode default o r o′) where
+    -- It is refused with a number and an index exactly when their condition holds and none before it in the order of the checks does.
+    pub by-refused : InOrder rules → (number index : ℕ) → r ≡ Refused number index ↔ First Holds number index
+    by-refused order number index = (
+      λ e. by-refuses order number index .0 (says-refuses (records t) (replyBy rules t mode default) (sym (ok .answer) ∙ ap rewrittenSays e)),
+      λ f. rewritten-same r (Refused number index) (ok .answer ∙ ap (writtenOf (records t)) (by-refuses order number index .1 f)),
+    )
+
+    -- It is answered with records exactly when no condition holds.
+    pub by-accepted : ((count : ℕ) × ((change : ℤ) × (r ≡ Records count change))) ↔ None Holds
+    by-accepted = (
+      λ (count, (change, e)).
+          let g = says-gives (records t) (replyBy rules t mode default) (sym (ok .answer) ∙ ap rewrittenSays e) in
+          by-gives .0 (g .1) .0,
+      λ none.
+          let e = by-gives .1 (none, refl) in (
+            length (resultOf t mode default),
+            (_, rewritten-same r (Records _ _) (ok .answer ∙ ap (writtenOf (records t)) e)),
+          ),
+    )
+
+-- A refusal leaves the output as it was, and has count 0 and change 0.
+pub by-untouched : (rules : List Rule) (t : List ℕ) (mode default : ℕ) (o : List ℕ) (r : Rewritten) (o′ : List ℕ) → RewritesBy rules t mode default o r o′
+    → (number index : ℕ) → r ≡ Refused number index → (o′ ≡ o) × (countOf r ≡ 0) × (changeOf r ≡ pos 0)
+by-untouched rules t mode default o r o′ ok number index e =
+    let f = says-refuses (records t) (replyBy rules t mode default) (sym (ok .answer) ∙ ap rewrittenSays e) in
+    (ok .output ∙ ap (outputOf o) f, ap countOf e, ap changeOf e)
 
 -- ---- The hops that a mode may write are in range for it.
 hop-of : (s : Bool) {t : List Route} → All (λ r. r .hop ≤ topHop s) t → {h : ℕ} → HopIn t h → h ≤ topHop s
@@ -59,13 +109,17 @@ hop-kept (suc (suc (suc (suc (suc (suc n)))))) d m f hops h from = absurd (omega
 module _ (rules : List Rule) (t : List ℕ) (mode default : ℕ) (o : List ℕ) (guarded : Guarded rules t mode default (length o)) (r : Rewritten) (o′ : List ℕ)
     (ok : RewritesBy rules t mode default o r o′) where
   -- ---- Demand 2.
-  -- An answer with records is the number of the result's records and the change, and the output has them from its start.
+  -- An answer with records says that the reply is the result.
+  pub by-reply : (count : ℕ) (change : ℤ) → r ≡ Records count change → replyBy rules t mode default ≡ gives (resultOf t mode default)
+  by-reply count change e = reply-result rules t mode default (records t) (sym (ok .answer) ∙ ap rewrittenSays e)
+
+  -- It is the number of the result's records and the change, and the output has them from its start.
   pub by-records : (count : ℕ) (change : ℤ) → r ≡ Records count change
       → Answerable t mode default (length o) × (count ≡ length (resultOf t mode default))
       × (change ≡ pos (length (resultOf t mode default)) -ℤ pos (records t))
       × (o′ ≡ bytesOf (resultOf t mode default) ++ drop (8 * length (resultOf t mode default)) o)
   by-records count change e =
-      let f = reply-result rules t mode default (records t) (sym (ok .answer) ∙ ap rewrittenSays e) in
+      let f = by-reply count change e in
       let said : r ≡ Records (length (resultOf t mode default)) (pos (length (resultOf t mode default)) -ℤ pos (records t)) =
       rewritten-same r (Records _ _) (ok .answer ∙ ap (writtenOf (records t)) f) in
       let same : Records count change ≡ Records (length (resultOf t mode default)) (pos (length (resultOf t mode default)) -ℤ pos (records t)) = sym e ∙ said in

@@ -1,13 +1,14 @@
 -- The laws of the calls. Settled: no second answer satisfies a statement. Refusals, Results, Demand3: the three demands, of the engine over nodes. Engines:
--- demands 2 and 3 of any engine. Held: addresses held before and after a rewrite. Marked: document 01's marked cases. Wrong: its wrong rewrites. Enough:
--- rooms that are always enough. Tested says how the rules stand for the conditions.
+-- the demands of any engine. Held: addresses held before and after a rewrite. Marked: document 01's marked cases. Wrong: its wrong rewrites. Enough:
+-- rooms that are always enough. Tested says how the rules stand for the conditions, Ending how an engine's answer comes to meet its statement.
 pub mod Settled
 pub mod Tested
-pub mod Refusals
 pub mod Engines
+pub mod Refusals
 pub mod Results
 pub mod Enough
 pub mod Demand3
 pub mod Held
 pub mod Marked
 pub mod Wrong
+pub mod Ending

@@ -1,6 +1,6 @@
 -- Demand 1: bad input is refused with the first number of document 01's order whose condition holds, exactly then, and a refusal changes nothing.
 -- Assumes nothing.
-use mathlib.Core.Path.{_≡_, refl, sym, ap, _∙_}
+use mathlib.Core.Path.{_≡_, refl, sym, _∙_}
 use mathlib.Core.Bool.{Bool, true}
 use mathlib.Core.List.{List, []}
 use mathlib.Core.Logic.{inl, _↔_}
@@ -10,11 +10,11 @@ use native.Mathlib.Omega.{arith}
 use lib.IntN.{ℤ, pos}
 use lib.ListN.{length, replicate}
 use Rattle.theory.specs.Routes.{Route}
-use Rattle.refusals.specs.Rules.{Reply, gives, refuses}
+use Rattle.refusals.specs.Rules.{Rule, gives}
 use Rattle.refusals.specs.Order.{rank, Earlier, First, None}
-use Rattle.refusals.proofs.Judged.{earlier-not, gives-exactly, refuses-exactly}
+use Rattle.refusals.proofs.Judged.{Broken, earlier-not, gives-exactly}
 use Rattle.refusals.proofs.Answered.{refused-exactly}
-use Rattle.records.specs.Wire.{records, routes, routesFrom}
+use Rattle.records.specs.Wire.{routes, routesFrom}
 use Rattle.table.specs.Conditions.{TableCondition, not-whole, too-many, of-record}
 use Rattle.table.proofs.Accepted.{accepted-exactly}
 use Rattle.table.proofs.Tested.{table-numbers}
@@ -25,12 +25,13 @@ use Rattle.calls.specs.declared.Covers.{Covers}
 use Rattle.calls.specs.declared.Covers.the-variants.{Refused as NotAnswered}
 use Rattle.calls.specs.Conditions.{RewriteCondition, no-mode, large-default, of-table, short-work, short-output, CoverCondition, of-set, long-query, short-room, Answerable, Guarded}
 use Rattle.calls.specs.Covering.{coverRules, coveredBy, coversSays, Queried}
-use Rattle.calls.specs.Rewriting.{resultOf, takesSet, rewriteRules, Written, replyBy, rewriteReply, writtenOf, outputOf, rewrittenSays, countOf, changeOf, Rewrites}
-use Rattle.calls.proofs.Settled.{rewritten-same, covers-same}
+use Rattle.calls.specs.Rewriting.{resultOf, takesSet, rewriteRules, replyBy, rewriteReply, countOf, changeOf, Rewrites}
+use Rattle.calls.proofs.Engines.{by-gives, by-refused, by-accepted, by-untouched}
+use Rattle.calls.proofs.Settled.{covers-same}
 use Rattle.calls.proofs.Tested.{rewrite-ranked, rewrite-tests, cover-ranked, cover-tests}
 
 -- What can be decided holds if its contrary is impossible.
-holds : {P : Type 0} → Dec P → ((P → ⊥) → ⊥) → P
+pub holds : {P : Type 0} → Dec P → ((P → ⊥) → ⊥) → P
 holds (yes p) n = p
 holds (no p) n = absurd (n p)
 
@@ -65,62 +66,34 @@ module _ (t : List ℕ) (mode default room words : ℕ) where
       none→answerable
       (gives-exactly (rewriteRules t mode default room words) (rewrite-tests t mode default room words) (resultOf t mode default) .0 e .0) .0
 
--- ---- What is said of a reply.
-says-refuses : (before : ℕ) (q : Reply (List Route)) {n i : ℕ} → writtenOf before q ≡ refuses n i → q ≡ refuses n i
-says-refuses before (gives rs) e = let z : _≡_ {A = ℕ} 0 1 = cc in absurd (omega arith)
-says-refuses before (refuses n i) e = cc
-
-says-gives : (before : ℕ) (q : Reply (List Route)) {w : Written} → writtenOf before q ≡ gives w → (rs : List Route) × (q ≡ gives rs)
-says-gives before (gives rs) e = (rs, refl)
-says-gives before (refuses n i) e = let z : _≡_ {A = ℕ} 0 1 = cc in absurd (omega arith)
-
--- ---- A rewrite.
+-- ---- A rewrite. Engines has the argument, for any engine.
 module _ (t : List ℕ) (mode default : ℕ) (o : List ℕ) (words : ℕ) where
-  -- Its conditions.
-  abbrev Refusing : ℕ → ℕ → Type 0
-  Refusing = RewriteCondition t mode default (length o) words
+  abbrev rules : List Rule
+  rules = rewriteRules t mode default (length o) words
 
-  abbrev reply : Reply (List Route)
-  reply = rewriteReply t mode default (length o) words
+  abbrev tests : (n i : ℕ) → Broken (rewriteRules t mode default (length o) words) n i ↔ RewriteCondition t mode default (length o) words n i
+  tests = rewrite-tests t mode default (length o) words
 
-  -- The right reply gives the result exactly when no condition holds, and refuses exactly by the first that holds.
-  pub reply-gives : {rs : List Route} → reply ≡ gives rs ↔ (None Refusing × (resultOf t mode default ≡ rs))
-  unfolding replyBy
-  reply-gives = gives-exactly (rewriteRules t mode default (length o) words) (rewrite-tests t mode default (length o) words) (resultOf t mode default)
-
-  pub reply-refuses : (n i : ℕ) → reply ≡ refuses n i ↔ First Refusing n i
-  unfolding replyBy
-  reply-refuses =
-      refuses-exactly (rewriteRules t mode default (length o) words) (rewrite-tests t mode default (length o) words) (resultOf t mode default)
-      (rewrite-ranked t mode default (length o) words .order)
+  -- The right reply gives the result exactly when no condition holds.
+  pub reply-gives : {rs : List Route} → rewriteReply t mode default (length o) words ≡ gives rs
+      ↔ (None (RewriteCondition t mode default (length o) words) × (resultOf t mode default ≡ rs))
+  reply-gives = by-gives rules tests t mode default
 
   module _ (r : Rewritten) (o′ w′ : List ℕ) (ok : Rewrites t mode default o words r o′ w′) where
     -- It is refused with a number and an index exactly when their condition holds and none before it in document 01's order does.
     pub rewrite-refused : (number index : ℕ) → r ≡ Refused number index ↔ First (RewriteCondition t mode default (length o) words) number index
-    rewrite-refused number index = (
-      λ e. reply-refuses number index .0 (says-refuses (records t) reply (sym (ok .inner .answer) ∙ ap rewrittenSays e)),
-      λ f. rewritten-same r (Refused number index) (ok .inner .answer ∙ ap (writtenOf (records t)) (reply-refuses number index .1 f)),
-    )
+    rewrite-refused = by-refused rules tests t mode default o r o′ (ok .inner) (rewrite-ranked t mode default (length o) words .order)
 
     -- It is answered with records exactly when no condition holds.
     pub rewrite-accepted : ((count : ℕ) × ((change : ℤ) × (r ≡ Records count change))) ↔ None (RewriteCondition t mode default (length o) words)
-    rewrite-accepted = (
-      λ (count, (change, e)).
-          let g = says-gives (records t) reply (sym (ok .inner .answer) ∙ ap rewrittenSays e) in
-          reply-gives .0 (g .1) .0,
-      λ none.
-          let e = reply-gives .1 (none, refl) in (
-            length (resultOf t mode default),
-            (_, rewritten-same r (Records _ _) (ok .inner .answer ∙ ap (writtenOf (records t)) e)),
-          ),
-    )
+    rewrite-accepted = by-accepted rules tests t mode default o r o′ (ok .inner)
 
     -- A refusal leaves the output as it was, has count 0 and change 0, and the room is zero.
     pub refusal-changes-nothing : (number index : ℕ) → r ≡ Refused number index
         → (o′ ≡ o) × (countOf r ≡ 0) × (changeOf r ≡ pos 0) × (w′ ≡ replicate words 0)
     refusal-changes-nothing number index e =
-        let f = says-refuses (records t) reply (sym (ok .inner .answer) ∙ ap rewrittenSays e) in
-        (ok .inner .output ∙ ap (outputOf o) f, ap countOf e, ap changeOf e, ok .zero)
+        let same = by-untouched rules t mode default o r o′ (ok .inner) number index e in
+        (same .0, same .1, same .2, ok .zero)
 
     -- It gives the numbers 1 to 8, 10 and 11 alone.
     pub rewrite-numbers : (number index : ℕ) → r ≡ Refused number index → (1 ≤ number) × (number ≤ 11) × (number ≡ 9 → ⊥)

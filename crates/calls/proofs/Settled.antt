@@ -53,7 +53,7 @@ pub covers-settled : (t : List ℕ) (address len words : ℕ) (r r₁ : Covers) 
 covers-settled t address len words r r₁ w′ w₁ a b = (covers-same r r₁ (a .answer ∙ sym (b .answer)), a .zero ∙ sym (b .zero))
 
 -- ---- For every input some answer satisfies the statement, so that none asks the impossible.
-rewritten-of : (q : Reply Written) → (r : Rewritten) × (rewrittenSays r ≡ q)
+pub rewritten-of : (q : Reply Written) → (r : Rewritten) × (rewrittenSays r ≡ q)
 rewritten-of (gives w) = (Records (w .count) (w .change), refl)
 rewritten-of (refuses number index) = (Refused number index, refl)
 

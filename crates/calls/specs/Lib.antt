@@ -2,3 +2,4 @@
 pub mod Rewriting
 pub mod Covering
 pub mod Conditions
+pub mod Ending

@@ -6,7 +6,7 @@ use gather::over_at;
 use gather::slot_key;
 use nodes::emit::emit_slot;
 use nodes::emit::head_slots;
-use nodes::emit::past;
+use records::past;
 use words::bits::next_bit;
 use words::bits::with_bit;
 ghost use mathlib.Core.Path.{_≡_};

@@ -4,7 +4,7 @@ use gather::gather_run;
 use gather::slot_key;
 use nodes::emit::emit_slot;
 use nodes::emit::head_slots;
-use nodes::emit::past;
+use records::past;
 use words::bits::has_bit;
 use words::bits::next_bit;
 use words::coverage::keep_of;

@@ -1,22 +1,22 @@
 -- The call's statement, case by case of the check and of the output's room. Assumes nothing.
-use Prim.Native.Nat.{ℕ, _+_, _*_, _/_, _≤_, _<_}
-use mathlib.Core.Path.{_≡_, refl, sym, ap, subst, _∙_}
+use Prim.Native.Nat.{ℕ, _*_, _/_, _≤_, _<_}
+use mathlib.Core.Path.{_≡_, sym, ap, subst, _∙_}
 use mathlib.Core.Bool.{Bool, true, false}
-use mathlib.Core.List.{List, [], _∷_, _++_}
+use mathlib.Core.List.{List, [], _∷_}
 use native.Mathlib.Omega.{arith}
 use lib.Dec.{leb}
-use lib.ListN.{length, drop}
+use lib.ListN.{length}
 use borrow.Author.Tests.{leb-true, leb-false, le-leb, lt-leb}
 use Rattle.theory.specs.Routes.{Route}
 use Rattle.refusals.specs.Rules.{Rule, rule, gives, refuses, judge}
 use Rattle.refusals.proofs.Judged.{gives-exactly, kept-next, broken-here, all-next, some-here}
-use Rattle.records.specs.Wire.{records, routes, Bytes, bytesOf, laid}
-use Rattle.records.proofs.Written.{length-bytes}
+use Rattle.records.specs.Wire.{records, Bytes, bytesOf, laid}
 use Rattle.table.specs.Checking.{checkReply}
 use Rattle.table.specs.TableRules.{tableRules}
 use Rattle.table.proofs.Tables.{accepted-table}
 use Rattle.table.proofs.Tested.{table-tests}
 use Rattle.calls.specs.Rewriting.{outputOf}
+use Rattle.calls.proofs.Ending.{laid-output}
 use Rattle.runs.specs.Runs.{RunAt}
 use Rattle.runs.proofs.Halves.{whole-run}
 use Rattle.runs.proofs.Records.{run-whole}
@@ -59,14 +59,6 @@ module _ (t : List ℕ) (n : ℕ) (o : List ℕ) {b : Bool} (asked : b ≡ leb (
   room-short e = omega (arith, leb-false (length (holesAt t 0 n 0 0)) (length o / 8) (sym asked ∙ e))
 
 -- ---- The statement.
-
--- Records laid at the output's start, and the rest as it was.
-laid-output : (rs : List Route) (o : List ℕ) → laid 0 (bytesOf rs) o ≡ outputOf o (gives rs)
-unfolding laid
-laid-output rs o =
-    let n = length-bytes rs in
-    let e : 0 + length (bytesOf rs) ≡ 8 * length rs = omega arith in
-    ap (λ (k : ℕ). bytesOf rs ++ drop k o) e
 
 -- The table is refused.
 pub lists-refused : (t o : List ℕ) {k i : ℕ} → checkReply false t ≡ refuses k i → Lists t o (Refused k i) o

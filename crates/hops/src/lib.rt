@@ -18,6 +18,13 @@ pub fn one(h: u8) -> u64
     1 << h
 }
 
+// The candidates of a region where every address is answered by this hop, or by none.
+pub fn alone(h: u8) -> u64
+    ensures { λ r. ⌜ ShowsSet r (leaf (hopOf h)) ⌝ }
+{
+    if h < NO_HOP { one(h) } else { 0 }
+}
+
 // The candidates of a position from those of its halves: a hole with anything is a hole; else the intersection, or the union if it is empty.
 pub fn combine(left: u64, right: u64) -> u64
     ensures { λ r. ⌜ ((S R : Cand) → ShowsSet left S → ShowsSet right R → ShowsSet r (Rattle.theory.specs.Results.combine S R)) ⌝ }
@@ -47,8 +54,7 @@ pub fn leaf_value(covering: u8, fill: u8) -> u8
 pub fn leaf_set(covering: u8, fill: u8) -> u64
     ensures { λ r. ⌜ ShowsSet r (leaf (orElse (hopOf covering) (hopOf fill))) ⌝ }
 {
-    let h = leaf_value(covering, fill);
-    if h < NO_HOP { one(h) } else { 0 }
+    alone(leaf_value(covering, fill))
 }
 
 // Is the hop in the set? None is in no set.

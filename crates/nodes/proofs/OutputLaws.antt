@@ -77,14 +77,10 @@ wrote-tail {rs} {done} {k} o ys at here within p =
     let n : length (take (length o - at) (drop at o)) ≡ length o - at = simp (length-take, length-drop) (omega arith) in
     rw (wrote-laid p (omega arith)) (laid-lent at 0 (wireOf rs) o within ∙ rw (add-zero at, s)))
 
--- One record at the start of the output.
-pub wrote-record : (r : Route) (o o′ : List ℕ) → o′ ≡ laid 0 (recordOf (narrow spare r)) o → Wrote (r ∷ []) 0 1 o o′
+-- One record at the start of the output, which is counted where there is no room for it too.
+pub wrote-record : (r : Route) (o o′ : List ℕ) → (8 ≤ length o → o′ ≡ laid 0 (recordOf (narrow spare r)) o) → Wrote (r ∷ []) 0 1 o o′
 unfolding bytesOf
-wrote-record r o o′ e = wrote-from refl (λ fits. e)
-
--- Where there is no room for a record it is counted only.
-pub wrote-short : (r : Route) (o o′ : List ℕ) → length o < 8 → Wrote (r ∷ []) 0 1 o o′
-wrote-short r o o′ short = record { counted = refl; laid = λ fits. absurd (omega arith) }
+wrote-record r o o′ e = wrote-from refl (λ fits. e (omega arith))
 
 -- All that is written, where it fits: the routes' bytes, and what stood after them.
 pub wrote-whole : {rs : List Route} {k : ℕ} {o o′ : List ℕ} → Wrote rs 0 k o o′ → k * 8 ≤ length o

@@ -1,6 +1,7 @@
 // Writing the entries of a node's positions, slot by slot, in table order. Where the output has no room nothing is written, but it is counted.
 
-use records::write_record;
+use records::past;
+use records::put_record;
 use words::bits::has_bit;
 use words::bits::next_bit;
 use words::bits::with_bit;
@@ -13,22 +14,12 @@ ghost use Rattle.words.specs.Positions.{position};
 ghost use Rattle.nodes.specs.Node.{wide};
 ghost use Rattle.nodes.specs.Output.{Wrote, slotHead, slotHeads, HeadSlots};
 
-// Where `count` records end in an output of `len` bytes; its end, where they do not fit.
-pub fn past(count: usize, len: usize) -> usize
-    ensures { λ r. ⌜ r ≤ len ⌝ }
-    ensures { λ r. ⌜ (count * 8 ≤ len → r ≡ count * 8) ⌝ }
-{
-    if count <= len / 8 { count * 8 } else { len }
-}
-
 // Writes one record at the start of the output, if there is room for it.
 pub fn put(out: &mut [u8], addr: u64, len: usize, hop: u8)
     requires { ⌜ (addr < 2 ^ wide) × (len < 256) ⌝ }
     ensures { λ _. ⌜ Wrote (route addr len hop ∷ []) 0 1 (now (out .entry)) (now (out .exit)) ⌝ }
 {
-    if 8 <= out.len() {
-        write_record(out, 0, (addr / 8) as u32, len as u8, hop);
-    }
+    put_record(out, (addr / 8) as u32, len as u8, hop);
 }
 
 // Writes the entry of the position of level l that begins at slot c, after `done` records, if one does and has an entry.

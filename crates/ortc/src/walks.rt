@@ -12,7 +12,7 @@ use gather::slot_key;
 use hops::leaf_value;
 use nodes::emit::emit_slot;
 use nodes::emit::head_slots;
-use nodes::emit::past;
+use records::past;
 use words::bits::last_bit;
 use words::bits::next_bit;
 ghost use mathlib.Core.Path.{_≡_};

@@ -52,3 +52,20 @@ pub fn write_record(out: &mut [u8], at: usize, addr: u32, len: u8, hop: u8)
     out[k + 6] = 0;
     out[k + 7] = 0;
 }
+
+// Writes a record at the start of the output, if there is room for it.
+pub fn put_record(out: &mut [u8], addr: u32, len: u8, hop: u8)
+    ensures { λ _. ⌜ (8 ≤ length (now (out .entry)) → now (out .exit) ≡ laid 0 (recordOf (route addr len hop)) (now (out .entry))) ⌝ }
+{
+    if 8 <= out.len() {
+        write_record(out, 0, addr, len, hop);
+    }
+}
+
+// Where `count` records end in an output of `len` bytes; its end, where they do not fit.
+pub fn past(count: usize, len: usize) -> usize
+    ensures { λ r. ⌜ r ≤ len ⌝ }
+    ensures { λ r. ⌜ (count * 8 ≤ len → r ≡ count * 8) ⌝ }
+{
+    if count <= len / 8 { count * 8 } else { len }
+}

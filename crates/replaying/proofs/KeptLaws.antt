@@ -8,7 +8,7 @@ use borrow.Author.Tests.{le-leb, lt-leb, eq-eqb, ne-eqb}
 use lib.ListN.{length, drop, replicate}
 use lib.Seq.{drop-at}
 use Rattle.theory.specs.Routes.{Route}
-use Rattle.refusals.specs.Rules.{Reply, gives, refuses}
+use Rattle.refusals.specs.Rules.{Rule, Reply, gives, refuses}
 use Rattle.records.specs.Wire.{records, bytesOf, laid}
 use Rattle.records.proofs.Written.{length-bytes}
 use Rattle.rooms.specs.Rooms.{allAre}
@@ -20,10 +20,11 @@ use Rattle.lookup.specs.declared.answers.AddressesHeld.the-variants.{Count, Ref
 use Rattle.calls.specs.Covering.{coversSays, coverReply, Queried}
 use Rattle.calls.specs.declared.Covers.{Covers}
 use Rattle.calls.specs.declared.Covers.the-variants.{Covered, Uncovered, Refused as NotAnswered}
-use Rattle.calls.specs.Rewriting.{countOf, resultOf, rewriteReply, writtenOf, outputOf, Rewrites}
+use Rattle.calls.specs.Conditions.{Guarded}
+use Rattle.calls.specs.Rewriting.{countOf, resultOf, replyBy, writtenOf, outputOf, RewritesBy, Rewrites}
 use Rattle.calls.specs.declared.Rewritten.{Rewritten}
 use Rattle.calls.specs.declared.Rewritten.the-variants.{Records, Refused}
-use Rattle.calls.proofs.Results.{rewrite-records}
+use Rattle.calls.proofs.Engines.{by-records}
 use Rattle.holes.specs.Listing.{listedCount, Lists}
 use Rattle.holes.specs.declared.Listed.{Listed}
 use Rattle.holes.specs.declared.Listed.the-variants.{Records as Listing, Refused as NotListed}
@@ -122,11 +123,12 @@ output-left : (before number index : ℕ) (o : List ℕ) (q : Reply (List Route)
 output-left before number index o (refuses m i) e = refl
 output-left before number index o (gives rs) e = let z : _≡_ {A = ℕ} 0 1 = cc in absurd (omega arith)
 
--- Past the records that are answered with, an output of one value is as it was.
-module _ (t : List ℕ) (mode default : ℕ) (o : List ℕ) (words : ℕ) (o′ w′ : List ℕ) (v n : ℕ) (filled : o ≡ replicate n v) where
-  pub output-filled : (r : Rewritten) → Rewrites t mode default o words r o′ w′ → allAre v (drop (8 * countOf r) o′) ≡ true
+-- Past the records that any engine answers with, an output of one value is as it was.
+module _ (rules : List Rule) (t : List ℕ) (mode default : ℕ) (o : List ℕ) (guarded : Guarded rules t mode default (length o)) (o′ : List ℕ)
+    (v n : ℕ) (filled : o ≡ replicate n v) where
+  pub output-filled : (r : Rewritten) → RewritesBy rules t mode default o r o′ → allAre v (drop (8 * countOf r) o′) ≡ true
   output-filled (Records count change) ok =
-      let f = rewrite-records t mode default o words (Records count change) o′ w′ ok count change refl in
+      let f = by-records rules t mode default o guarded (Records count change) o′ ok count change refl in
       let rs = resultOf t mode default in
       ap (λ (m : ℕ). allAre v (drop (8 * m) o′)) (f .1)
       ∙ ap (λ (l : List ℕ). allAre v (drop (8 * length rs) l)) (f .3)
@@ -134,8 +136,7 @@ module _ (t : List ℕ) (mode default : ℕ) (o : List ℕ) (words : ℕ) (o′ 
       ∙ ap (λ (l : List ℕ). allAre v (drop (8 * length rs) l)) filled
       ∙ all-dropped v (8 * length rs) n
   output-filled (Refused number index) ok =
-      ap (allAre v) (ok .inner .output ∙ output-left (records t) number index o (rewriteReply t mode default (length o) words) (ok .inner .answer) ∙ filled)
-      ∙ all-replicate v n
+      ap (allAre v) (ok .output ∙ output-left (records t) number index o (replyBy rules t mode default) (ok .answer) ∙ filled) ∙ all-replicate v n
 
 -- The same of a list of what has no route.
 module _ (t o o′ : List ℕ) (v n : ℕ) (filled : o ≡ replicate n v) where

@@ -12,11 +12,12 @@ use Rattle.lookup.specs.declared.answers.Lookup.{Lookup}
 use Rattle.lookup.specs.declared.answers.Lookup.the-variants.{Route as Found, NoRoute, Refused as NotLooked}
 use Rattle.lookup.specs.declared.answers.AddressesHeld.{AddressesHeld}
 use Rattle.lookup.specs.declared.answers.AddressesHeld.the-variants.{Count, Refused as NotCounted}
-use Rattle.calls.specs.Rewriting.{rewriteReply}
+use Rattle.calls.specs.Rewriting.{replyBy, rewriteReply}
 use Rattle.calls.specs.Covering.{coverReply}
 use Rattle.calls.specs.declared.Covers.{Covers}
 use Rattle.calls.specs.declared.Covers.the-variants.{Covered, Uncovered, Refused as NotAnswered}
 use Rattle.holes.specs.Listing.{holesOf, unroutedRules}
+use Rattle.plain.specs.Rewriting.{plainRules}
 use Rattle.text.specs.Answers.{replyText, coversText, lookupText, heldText, listText}
 
 -- ---- A case: its first 16 bytes, and the table.
@@ -58,6 +59,9 @@ heldOf (refuses number index) = NotCounted number index
 abbrev pub rewriteAnswer : List ℕ → ℕ → ℕ → ℕ → ℕ → List ℕ
 rewriteAnswer t mode default room words = replyText (ltb 2 mode) (records t) (rewriteReply t mode default room words)
 
+abbrev pub plainAnswer : List ℕ → ℕ → ℕ → ℕ → List ℕ
+plainAnswer t mode default room = replyText (ltb 2 mode) (records t) (replyBy (plainRules t mode default room) t mode default)
+
 abbrev pub coverAnswer : List ℕ → ℕ → ℕ → ℕ → List ℕ
 coverAnswer t address len words = coversText (coversOf (coverReply t address len words))
 
@@ -71,13 +75,18 @@ abbrev pub listAnswer : List ℕ → ℕ → List ℕ
 listAnswer t room = listText true (judge (unroutedRules t room) (holesOf t))
 
 -- Of a case: byte 0 is the call, 0 rewrite, 1 cover query, 2 lookup, 3 addresses held. Call 4, a list of what has no route, has
--- `listAnswer` for an output of as many bytes as `wordsOf` says. No case has a higher one: it ends the run.
+-- `listAnswer` for an output of as many bytes as `wordsOf` says, and call 5, a rewrite by the plain engine, `plainCase`. No case has a higher one: it ends
+-- the run.
 unfoldable pub answerText : List ℕ → List ℕ → List ℕ
 answerText head t =
     cond (eqb (byte head 0) 0) (rewriteAnswer t (byte head 1) (byte head 2) (roomOf head) (wordsOf head))
     (cond (eqb (byte head 0) 1) (coverAnswer t (addressOf head) (byte head 3) (wordsOf head))
     (cond (eqb (byte head 0) 2) (lookupAnswer t (addressOf head))
     (heldAnswer t)))
+
+-- Of a case with call 5.
+abbrev pub plainCase : List ℕ → List ℕ → List ℕ
+plainCase head t = plainAnswer t (byte head 1) (byte head 2) (roomOf head)
 
 -- ---- Where it is kept.
 

@@ -28,7 +28,7 @@ ghost use lib.ListN.{length};
 ghost use Rattle.calls.specs.Rewriting.{countOf};
 ghost use Rattle.holes.specs.Listing.{listedCount};
 ghost use Rattle.text.specs.Text.{Put};
-ghost use Rattle.replaying.specs.Kept.{wordsOf, rewriteAnswer, coverAnswer, lookupAnswer, heldAnswer, listAnswer, answerText, beginOf};
+ghost use Rattle.replaying.specs.Kept.{wordsOf, rewriteAnswer, plainAnswer, coverAnswer, lookupAnswer, heldAnswer, listAnswer, answerText, plainCase, beginOf};
 
 // The bytes of the output that an answer's records take.
 fn written(answer: Rewritten) -> usize
@@ -63,6 +63,44 @@ fn keep_rewritten(
     let end = put_rewritten(answer, output, 2 < mode, begin, kept);
     let after = keep_work(work, end, kept);
     keep_output(output, written(answer), after, kept)
+}
+
+// Keeps the answer of a rewrite by the plain engine.
+fn keep_plain(
+    mode: u8,
+    default: u8,
+    table: &[u8],
+    output: &mut [u8],
+    at: usize,
+    kept: &mut [u8],
+) -> usize
+    requires { ⌜ length (now output) ≤ 65535 ⌝ }
+    requires { ⌜ at ≤ length (now kept) ⌝ }
+    requires { ⌜ 1048576 ≤ length (now kept) ⌝ }
+    ensures { λ r. ⌜ Put (plainAnswer (now (table .entry)) mode default (length (now (output .entry)))) (beginOf at) r (now (kept .entry)) (now (kept .exit)) ⌝ }
+{
+    rooms::bytes::fill(output, FILLED_BYTE);
+    let answer = plain::rewrite(table, mode as u32, default as u32, output);
+    let begin = room_for(kept, at);
+    let end = put_rewritten(answer, output, 2 < mode, begin, kept);
+    keep_output(output, written(answer), end, kept)
+}
+
+// Keeps the answer of a case with call 5, which is lent as much of the output as it says.
+pub fn plain_turn(
+    head: &[u8; 16],
+    table: &[u8],
+    output: &mut [u8],
+    at: usize,
+    kept: &mut [u8],
+) -> usize
+    requires { ⌜ 262144 ≡ length (now output) ⌝ }
+    requires { ⌜ at ≤ length (now kept) ⌝ }
+    requires { ⌜ 1048576 ≤ length (now kept) ⌝ }
+    ensures { λ r. ⌜ Put (plainCase (now (head .entry)) (now (table .entry))) (beginOf at) r (now (kept .entry)) (now (kept .exit)) ⌝ }
+{
+    let room = join2(head[12], head[13]);
+    keep_plain(head[1], head[2], table, &mut output[..room], at, kept)
 }
 
 // Keeps the answer of the cover query.
@@ -154,7 +192,7 @@ pub fn listed_turn(
     }
 }
 
-// Keeps the answer of a case but for call 4: its first 16 bytes, its table, and the rooms of which it is lent as much as it says.
+// Keeps the answer of a case but for calls 4 and 5: its first 16 bytes, its table, and the rooms of which it is lent as much as it says.
 pub fn keep_answer(
     head: &[u8; 16],
     table: &[u8],
@@ -192,4 +230,42 @@ pub fn keep_answer(
         return keep_lookup(address, table, at, kept);
     }
     keep_held(table, at, kept)
+}
+
+// The turn of a case that was read whole: its answer, or the line that ends the run.
+pub fn case_turn(
+    head: &[u8; 16],
+    table: &[u8],
+    output: &mut [u8],
+    work: &mut [u32],
+    at: usize,
+    kept: &mut [u8],
+) -> Turn
+    requires { ⌜ 262144 ≡ length (now output) ⌝ }
+    requires { ⌜ 824480 ≡ length (now work) ⌝ }
+    requires { ⌜ at ≤ length (now kept) ⌝ }
+    requires { ⌜ 1048576 ≤ length (now kept) ⌝ }
+    ensures { λ r. ⌜ r .at ≤ length (now (kept .entry)) ⌝ }
+{
+    let call = head[0];
+    if 5 < call {
+        return last_line(b"no such call\n", at, kept);
+    }
+    let asked = join4(head[8], head[9], head[10], head[11]) as usize;
+    if call == 4 {
+        return listed_turn(asked, table, output, at, kept);
+    }
+    if call == 5 {
+        return Turn {
+            at: plain_turn(head, table, output, at, kept),
+            more: true,
+        };
+    }
+    if 824480 < asked {
+        return last_line(b"work room too large\n", at, kept);
+    }
+    Turn {
+        at: keep_answer(head, table, output, work, at, kept),
+        more: true,
+    }
 }

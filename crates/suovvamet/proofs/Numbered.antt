@@ -29,12 +29,14 @@ use Rattle.calls.specs.declared.Rewritten.the-variants.{Records, Refused}
 use Rattle.calls.specs.declared.Covers.the-variants.{Refused as NotAnswered}
 use Rattle.calls.proofs.Refusals.{rewrite-refused, rewrite-accepted, covers-refused, covers-answered}
 use Rattle.calls.proofs.Settled.{rewritten-same, covers-same}
+use Rattle.plain.specs.Conditions.{PlainCondition, no-mode as no-plain-mode, large-default as plain-large-default, of-table as of-plain-table, short-output as short-plain-output}
+use Rattle.plain.proofs.Calls.{plain-accepted, plain-refused}
 use Rattle.holes.specs.Conditions.{UnroutedCondition, of-table as of-map, short-output as short-list}
 use Rattle.holes.specs.Listing.{holesOf, listedSays}
 use Rattle.holes.specs.declared.Listed.the-variants.{Records as Listing, Refused as NotListed}
 use Rattle.holes.proofs.Calls.{listed-same, none-exactly, unrouted-listed, unrouted-refused}
 use Rattle.suovvamet.specs.Numbers.{numberOf, indexOf, isSetBy, wordsOf}
-use Rattle.suovvamet.specs.Calls.{RewriteInC, CoversInC, LookupInC, HeldInC, WordsInC, UnroutedInC}
+use Rattle.suovvamet.specs.Calls.{RewriteInC, PlainInC, CoversInC, LookupInC, HeldInC, WordsInC, UnroutedInC}
 
 -- ---- No condition has the number 0.
 table-number : {s : Bool} {t : List ℕ} {n i : ℕ} → TableCondition s t n i → 1 ≤ n
@@ -46,6 +48,12 @@ rewrite-number (large-default e h) = omega arith
 rewrite-number (of-table c) = table-number c
 rewrite-number (short-work h) = omega arith
 rewrite-number (short-output h) = omega arith
+
+plain-number : {t : List ℕ} {mode default room n i : ℕ} → PlainCondition t mode default room n i → 1 ≤ n
+plain-number (no-plain-mode f) = omega arith
+plain-number (plain-large-default e h) = omega arith
+plain-number (of-plain-table c) = table-number c
+plain-number (short-plain-output h) = omega arith
 
 cover-number : {t : List ℕ} {len words n i : ℕ} → CoverCondition t len words n i → 1 ≤ n
 cover-number (of-set c) = table-number c
@@ -95,17 +103,18 @@ module _ {A : Type 0} (q : Reply A) {N : Type 0} (given : ((a : A) × (q ≡ giv
     λ f. let e = refused n i .1 f in (above n i f, number-is ∙ ap numberOf e, index-is ∙ ap indexOf e),
   )
 
--- ---- A rewrite.
+-- ---- A rewrite, by either engine: it says records exactly when it is an answer with records.
+gave : (r : Rewritten) → ((w : Written) × (rewrittenSays r ≡ gives w)) ↔ ((count : ℕ) × ((change : ℤ) × (r ≡ Records count change)))
+gave r = (
+  λ (w, e). (w .count, (w .change, rewritten-same r (Records _ _) e)),
+  λ (count, (change, e)). (_, ap rewrittenSays e),
+)
+
+-- By that over nodes.
 module _ (t : List ℕ) (mode default : ℕ) (o work : List ℕ) {number count : ℕ} {change : ℤ} {index : ℕ} {o′ w′ : List ℕ}
     (ok : RewriteInC t mode default o work number count change index o′ w′) where
   abbrev Refusing : ℕ → ℕ → Type 0
   Refusing = RewriteCondition t mode default (length o) (length work)
-
-  gave : (r : Rewritten) → ((w : Written) × (rewrittenSays r ≡ gives w)) ↔ ((count : ℕ) × ((change : ℤ) × (r ≡ Records count change)))
-  gave r = (
-    λ (w, e). (w .count, (w .change, rewritten-same r (Records _ _) e)),
-    λ (count, (change, e)). (_, ap rewrittenSays e),
-  )
 
   given : ((w : Written) × (rewrittenSays (ok .answer) ≡ gives w)) ↔ None Refusing
   given =
@@ -124,6 +133,27 @@ module _ (t : List ℕ) (mode default : ℕ) (o work : List ℕ) {number count :
   -- Else it is, with the index, the first that holds.
   pub rewrite-in-c-refused : (n i : ℕ) → ((1 ≤ n) × (number ≡ n) × (index ≡ i)) ↔ First (RewriteCondition t mode default (length o) (length work)) n i
   rewrite-in-c-refused = numbered (rewrittenSays (ok .answer)) given refused (λ n i f. rewrite-number (f .0)) (ok .number-is) (ok .index-is)
+
+-- By the plain one.
+module _ (t : List ℕ) (mode default : ℕ) (o : List ℕ) {number count : ℕ} {change : ℤ} {index : ℕ} {o′ : List ℕ}
+    (ok : PlainInC t mode default o number count change index o′) where
+  given-plain : ((w : Written) × (rewrittenSays (ok .answer) ≡ gives w)) ↔ None (PlainCondition t mode default (length o))
+  given-plain =
+      let exactly = plain-accepted t mode default o (ok .answer) o′ (ok .rewrites) in
+      (λ f. exactly .0 (gave (ok .answer) .0 f), λ none. gave (ok .answer) .1 (exactly .1 none))
+
+  refused-plain : (n i : ℕ) → rewrittenSays (ok .answer) ≡ refuses n i ↔ First (PlainCondition t mode default (length o)) n i
+  refused-plain n i =
+      let exactly = plain-refused t mode default o (ok .answer) o′ (ok .rewrites) n i in
+      (λ e. exactly .0 (rewritten-same (ok .answer) (Refused n i) e), λ f. ap rewrittenSays (exactly .1 f))
+
+  -- The result is 0 exactly when no condition for a refusal holds.
+  pub plain-in-c-answered : number ≡ 0 ↔ None (PlainCondition t mode default (length o))
+  plain-in-c-answered = answered (rewrittenSays (ok .answer)) given-plain refused-plain (λ n i f. plain-number (f .0)) (ok .number-is) (ok .index-is)
+
+  -- Else it is, with the index, the first that holds.
+  pub plain-in-c-refused : (n i : ℕ) → ((1 ≤ n) × (number ≡ n) × (index ≡ i)) ↔ First (PlainCondition t mode default (length o)) n i
+  plain-in-c-refused = numbered (rewrittenSays (ok .answer)) given-plain refused-plain (λ n i f. plain-number (f .0)) (ok .number-is) (ok .index-is)
 
 -- ---- The cover query.
 module _ (t : List ℕ) (address len : ℕ) (work : List ℕ) {number covered index : ℕ} {w′ : List ℕ}

@@ -16,11 +16,12 @@ use Rattle.calls.specs.Covering.{coversSays}
 use Rattle.calls.specs.declared.Rewritten.{Rewritten}
 use Rattle.calls.specs.declared.Covers.{Covers}
 use Rattle.calls.proofs.Settled.{rewrite-settled, covers-settled}
+use Rattle.plain.proofs.Calls.{plain-settled}
 use Rattle.holes.specs.Listing.{listedSays, listedCount}
 use Rattle.holes.specs.declared.Listed.{Listed}
 use Rattle.holes.proofs.Calls.{unrouted-settled}
 use Rattle.suovvamet.specs.Numbers.{numberOf, indexOf, coveredOf, foundOf, hopOf, lengthOf, addressesOf, isSetBy, wordsOf}
-use Rattle.suovvamet.specs.Calls.{RewriteInC, CoversInC, LookupInC, HeldInC, WordsInC, UnroutedInC}
+use Rattle.suovvamet.specs.Calls.{RewriteInC, PlainInC, CoversInC, LookupInC, HeldInC, WordsInC, UnroutedInC}
 
 -- Parts of two answers that are the same are the same.
 same-part : {R N : Type 0} (part : R → N) {a b : R} {m n : N} → a ≡ b → m ≡ part a → n ≡ part b → m ≡ n
@@ -38,6 +39,19 @@ rewrite-in-c-settled t mode default o work {o′ = o′} {o₁ = o₁} {w′ = w
       same-part (λ (r : Rewritten). indexOf (rewrittenSays r)) (s .0) (a .index-is) (b .index-is),
       s .1,
       s .2,
+    )
+
+-- By the plain engine: the number, the count, the change, the index and the output.
+pub plain-in-c-settled : (t : List ℕ) (mode default : ℕ) (o : List ℕ) {number number₁ count count₁ : ℕ} {change change₁ : ℤ} {index index₁ : ℕ} {o′ o₁ : List ℕ}
+    → PlainInC t mode default o number count change index o′ → PlainInC t mode default o number₁ count₁ change₁ index₁ o₁
+    → (number ≡ number₁) × (count ≡ count₁) × (change ≡ change₁) × (index ≡ index₁) × (o′ ≡ o₁)
+plain-in-c-settled t mode default o {o′ = o′} {o₁ = o₁} a b =
+    let s = plain-settled t mode default o (a .answer) (b .answer) o′ o₁ (a .rewrites) (b .rewrites) in (
+      same-part (λ (r : Rewritten). numberOf (rewrittenSays r)) (s .0) (a .number-is) (b .number-is),
+      same-part countOf (s .0) (a .count-is) (b .count-is),
+      same-part changeOf (s .0) (a .change-is) (b .change-is),
+      same-part (λ (r : Rewritten). indexOf (rewrittenSays r)) (s .0) (a .index-is) (b .index-is),
+      s .1,
     )
 
 -- Of the cover query: the number, what is said of the prefix, the index and the room.

@@ -9,10 +9,11 @@ use Rattle.lookup.specs.declared.answers.Lookup.{Lookup}
 use Rattle.lookup.specs.declared.answers.AddressesHeld.{AddressesHeld}
 use Rattle.workroom.specs.Needed.{wordsSays, wordsReply}
 use Rattle.workroom.specs.declared.WorkWords.{WorkWords}
-use Rattle.calls.specs.Rewriting.{rewrittenSays, countOf, changeOf, Rewrites}
+use Rattle.calls.specs.Rewriting.{rewrittenSays, countOf, changeOf, RewritesBy, Rewrites}
 use Rattle.calls.specs.Covering.{coversSays, Queried}
 use Rattle.calls.specs.declared.Rewritten.{Rewritten}
 use Rattle.calls.specs.declared.Covers.{Covers}
+use Rattle.plain.specs.Rewriting.{plainRules}
 use Rattle.holes.specs.Listing.{listedSays, listedCount, Lists}
 use Rattle.holes.specs.declared.Listed.{Listed}
 use Rattle.suovvamet.specs.Numbers.{numberOf, indexOf, coveredOf, foundOf, hopOf, lengthOf, addressesOf, isSetBy, wordsOf}
@@ -21,6 +22,15 @@ use Rattle.suovvamet.specs.Numbers.{numberOf, indexOf, coveredOf, foundO
 pub record RewriteInC (t : List ℕ) (mode default : ℕ) (o work : List ℕ) (number count : ℕ) (change : ℤ) (index : ℕ) (o′ work′ : List ℕ) : Type 0 where
   pub answer : Rewritten
   pub rewrites : Rewrites t mode default o (length work) answer o′ work′
+  pub number-is : number ≡ numberOf (rewrittenSays answer)
+  pub index-is : index ≡ indexOf (rewrittenSays answer)
+  pub count-is : count ≡ countOf answer
+  pub change-is : change ≡ changeOf answer
+
+-- Of a rewrite by the plain engine, which is lent no room.
+pub record PlainInC (t : List ℕ) (mode default : ℕ) (o : List ℕ) (number count : ℕ) (change : ℤ) (index : ℕ) (o′ : List ℕ) : Type 0 where
+  pub answer : Rewritten
+  pub rewrites : RewritesBy (plainRules t mode default (length o)) t mode default o answer o′
   pub number-is : number ≡ numberOf (rewrittenSays answer)
   pub index-is : index ≡ indexOf (rewrittenSays answer)
   pub count-is : count ≡ countOf answer

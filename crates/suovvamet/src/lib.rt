@@ -14,7 +14,7 @@ ghost use Rattle.calls.specs.Covering.{coversSays};
 ghost use Rattle.calls.specs.Rewriting.{rewrittenSays, countOf, changeOf};
 ghost use Rattle.holes.specs.Listing.{listedSays, listedCount};
 ghost use Rattle.suovvamet.specs.Numbers.{numberOf, indexOf, coveredOf, foundOf, hopOf, lengthOf, addressesOf, wordsOf};
-ghost use Rattle.suovvamet.specs.Calls.{RewriteInC, CoversInC, LookupInC, HeldInC, WordsInC, UnroutedInC};
+ghost use Rattle.suovvamet.specs.Calls.{RewriteInC, PlainInC, CoversInC, LookupInC, HeldInC, WordsInC, UnroutedInC};
 
 // A refusal in numbers, both 0 for an answer.
 struct Refusal {
@@ -92,6 +92,27 @@ pub extern "C" fn suovvamet_rewrite(
     ensures { λ n. ⌜ RewriteInC (now (table .entry)) mode default (now (output .entry)) (now (work .entry)) n (now (count .exit)) (now (change .exit)) (now (index .exit)) (now (output .exit)) (now (work .exit)) ⌝ }
 {
     let answer = aggregate::rewrite(table, mode, default, output, work);
+    *count = rewritten_count(answer);
+    *change = rewritten_change(answer);
+    let refused = rewritten_refusal(answer);
+    *index = refused.index;
+    refused.number
+}
+
+// The same by the plain engine, which is lent no work room.
+#[no_mangle]
+pub extern "C" fn suovvamet_rewrite_plain(
+    table: &[u8],
+    mode: u32,
+    default: u32,
+    output: &mut [u8],
+    count: &mut u64,
+    change: &mut i64,
+    index: &mut u64,
+) -> u32
+    ensures { λ n. ⌜ PlainInC (now (table .entry)) mode default (now (output .entry)) n (now (count .exit)) (now (change .exit)) (now (index .exit)) (now (output .exit)) ⌝ }
+{
+    let answer = plain::rewrite(table, mode, default, output);
     *count = rewritten_count(answer);
     *change = rewritten_change(answer);
     let refused = rewritten_refusal(answer);

@@ -7,14 +7,15 @@ use native.Mathlib.Omega.{arith}
 use lib.IntN.{ℤ}
 use lib.ListN.{length}
 use Rattle.theory.specs.Routes.{Route}
-use Rattle.refusals.specs.Rules.{Reply, refuses, judge}
+use Rattle.refusals.specs.Rules.{Rule, Reply, refuses, judge}
 use Rattle.refusals.proofs.Judged.{gives-any, refuses-any}
 use Rattle.records.specs.Wire.{records, Bytes}
 use Rattle.calls.specs.declared.Rewritten.{Rewritten}
 use Rattle.calls.specs.declared.Rewritten.the-variants.{Records, Refused}
-use Rattle.calls.specs.Rewriting.{countOf, resultOf, rewriteReply, writtenOf, Rewrites}
-use Rattle.calls.proofs.Refusals.{answerable-exactly, reply-gives}
-use Rattle.calls.proofs.Results.{rewrite-records, rewrite-length, rewrite-reads}
+use Rattle.calls.specs.Conditions.{Guarded}
+use Rattle.calls.specs.Rewriting.{countOf, resultOf, rewriteRules, replyBy, rewriteReply, writtenOf, RewritesBy, Rewrites}
+use Rattle.calls.proofs.Engines.{by-reply, by-records, by-length, by-reads}
+use Rattle.calls.proofs.Refusals.{rewrite-guarded}
 use Rattle.holes.specs.declared.Listed.{Listed}
 use Rattle.holes.specs.declared.Listed.the-variants.{Records as Listing, Refused as NotListed}
 use Rattle.holes.specs.Listing.{holesOf, unroutedRules, listedCount, Lists}
@@ -27,31 +28,37 @@ said-refused : (before number index : ℕ) (q : Reply (List Route)) → refuses 
 said-refused before number index (Rattle.refusals.specs.Rules.gives rs) e = cc
 said-refused before number index (refuses m i) e = cc
 
--- Of a rewrite.
-module _ (t : List ℕ) (mode default : ℕ) (o : List ℕ) (words : ℕ) (o′ w′ : List ℕ) (hops : Bool) (bytes : Bytes t) where
-  pub rewritten-text : (r : Rewritten) → Rewrites t mode default o words r o′ w′
-      → rewrittenText hops r o′ ≡ replyText hops (records t) (rewriteReply t mode default (length o) words)
+-- ---- Of a rewrite, by any engine.
+module _ (rules : List Rule) (t : List ℕ) (mode default : ℕ) (o : List ℕ) (guarded : Guarded rules t mode default (length o)) (o′ : List ℕ) where
+  pub by-text : (hops : Bool) → Bytes t → (r : Rewritten) → RewritesBy rules t mode default o r o′
+      → rewrittenText hops r o′ ≡ replyText hops (records t) (replyBy rules t mode default)
   unfolding rewrittenText replyText resultOf
-  rewritten-text (Records count change) ok =
-      let f = rewrite-records t mode default o words (Records count change) o′ w′ ok count change refl in
-      let e = reply-gives t mode default o words .1 (f .0, refl) in
+  by-text hops bytes (Records count change) ok =
       ap₂ (λ (rs : List Route) (z : ℤ). linesOf hops rs ++ changeLine z)
-      (rewrite-reads t mode default o words (Records count change) o′ w′ ok bytes count change refl) (f .2)
-      ∙ sym (ap (replyText hops (records t)) e)
-  rewritten-text (Refused number index) ok =
-      sym (ap (replyText hops (records t)) (said-refused (records t) number index (rewriteReply t mode default (length o) words) (ok .inner .answer)))
+      (by-reads rules t mode default o guarded (Records count change) o′ ok count change refl bytes)
+      (by-records rules t mode default o guarded (Records count change) o′ ok count change refl .2)
+      ∙ sym (ap (replyText hops (records t)) (by-reply rules t mode default o guarded (Records count change) o′ ok count change refl))
+  by-text hops bytes (Refused number index) ok =
+      sym (ap (replyText hops (records t)) (said-refused (records t) number index (replyBy rules t mode default) (ok .answer)))
 
--- ---- Room.
-
-module _ (t : List ℕ) (mode default : ℕ) (o : List ℕ) (words : ℕ) (o′ w′ : List ℕ) where
   -- The records that are answered with stand in the output.
+  pub by-fits : (r : Rewritten) → RewritesBy rules t mode default o r o′ → 8 * countOf r ≤ length o′
+  by-fits (Records count change) ok =
+      let f = by-records rules t mode default o guarded (Records count change) o′ ok count change refl in
+      omega (arith, f .0 .enough-output, f .1, by-length rules t mode default o guarded (Records count change) o′ ok)
+  by-fits (Refused number index) ok = omega arith
+
+-- By that over nodes.
+module _ (t : List ℕ) (mode default : ℕ) (o : List ℕ) (words : ℕ) (o′ w′ : List ℕ) where
+  guarded : Guarded (rewriteRules t mode default (length o) words) t mode default (length o)
+  guarded = rewrite-guarded t mode default (length o) words
+
+  pub rewritten-text : (hops : Bool) → Bytes t → (r : Rewritten) → Rewrites t mode default o words r o′ w′
+      → rewrittenText hops r o′ ≡ replyText hops (records t) (rewriteReply t mode default (length o) words)
+  rewritten-text hops bytes r ok = by-text (rewriteRules t mode default (length o) words) t mode default o guarded o′ hops bytes r (ok .inner)
+
   pub rewritten-fits : (r : Rewritten) → Rewrites t mode default o words r o′ w′ → 8 * countOf r ≤ length o′
-  rewritten-fits (Records count change) ok =
-      let f = rewrite-records t mode default o words (Records count change) o′ w′ ok count change refl in
-      let size = f .1 in
-      let room = answerable-exactly t mode default (length o) words .0 (f .0) .0 .enough-output in
-      omega (arith, rewrite-length t mode default o words (Records count change) o′ w′ ok)
-  rewritten-fits (Refused number index) ok = omega arith
+  rewritten-fits r ok = by-fits (rewriteRules t mode default (length o) words) t mode default o guarded o′ r (ok .inner)
 
 -- ---- A list of what has no route.
 module _ (t o o′ : List ℕ) where

@@ -13,7 +13,8 @@ use Rattle.refusals.specs.Rules.{gives}
 use Rattle.records.specs.Wire.{routes, Bytes}
 use Rattle.nodes.specs.Node.{wide, spare, run}
 use Rattle.calls.specs.Covering.{coverReply}
-use Rattle.aggregate.proofs.CallLaws.{checked-count, checked-lawful, checked-few, checked-node, query-table, query-long, query-room, query-answered, query-aligned, query-within, covered-wide}
+use Rattle.calls.proofs.Ending.{checked-count, checked-lawful, checked-few}
+use Rattle.aggregate.proofs.CallLaws.{checked-node, query-table, query-long, query-room, query-answered, query-aligned, query-within, covered-wide}
 use Rattle.aggregate.proofs.covers_in.Statement.{statement}
 use Rattle.aggregate.proofs.covers_in.Tie as tie
 

@@ -1,6 +1,6 @@
 -- `no_mode` says whether rule 1 is broken. Assumes nothing.
 use borrow.Author.Tests.{le-leb, lt-leb}
-use Rattle.aggregate.proofs.CallLaws.{above-not}
+use Rattle.calls.proofs.Ending.{above-not}
 use Rattle.aggregate.proofs.no_mode.Statement.{statement}
 use Rattle.aggregate.proofs.no_mode.Tie as tie
 

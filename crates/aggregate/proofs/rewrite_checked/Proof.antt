@@ -6,7 +6,7 @@ use mathlib.Core.Path.{_∙_}
 use native.Mathlib.Omega.{arith}
 use borrow.Author.Needs.{needs}
 use lib.ListN.{length}
-use Rattle.aggregate.proofs.CallLaws.{change-fits, change-is, result-most, finished-refused, finished-written}
+use Rattle.calls.proofs.Ending.{change-fits, change-is, result-most, finished-refused, finished-written}
 use Rattle.aggregate.proofs.WalkLaws.{written-count, written-most, written-bytes}
 use Rattle.aggregate.proofs.rewrite_checked.Statement.{statement}
 use Rattle.aggregate.proofs.rewrite_checked.Tie as tie

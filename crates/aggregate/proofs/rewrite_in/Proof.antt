@@ -10,7 +10,8 @@ use Rattle.nodecount.specs.Nodes.{nodes}
 use Rattle.records.specs.Wire.{routes}
 use Rattle.nodes.proofs.RoomNodes.{nodes-below}
 use Rattle.calls.specs.Rewriting.{takesSet}
-use Rattle.aggregate.proofs.CallLaws.{mode-range, default-hop, checked-count, checked-lawful, ready, refused-in, finished-in, not-a-mode, not-a-hop, not-a-table, short-room, only-output, same-last}
+use Rattle.calls.proofs.Ending.{default-hop, checked-count, checked-lawful, refused-by, finished-by, same-last}
+use Rattle.aggregate.proofs.CallLaws.{mode-range, ready, not-a-mode, not-a-hop, not-a-table, short-room, only-output}
 use Rattle.aggregate.proofs.rewrite_in.Statement.{statement}
 use Rattle.aggregate.proofs.rewrite_in.Tie as tie
 
@@ -18,13 +19,13 @@ no-mode-requires : tie.Need-no-mode-requires
 no-mode-requires c κs = search needs
 
 returns : tie.Need-returns
-returns c = refused-in _ _ _ _ _ (not-a-mode _ _ _ _ _ (not-true _ (sym (c .before .no-mode .ensures) ∙ c .if1 .taken)))
+returns c = refused-by _ _ _ _ _ (not-a-mode _ _ _ _ _ (not-true _ (sym (c .before .no-mode .ensures) ∙ c .if1 .taken)))
 
 no-hop-requires : tie.Need-no-hop-requires
 no-hop-requires c κs = search needs
 
 returns-2 : tie.Need-returns-2
-returns-2 c = refused-in _ _ _ _ _ (not-a-hop _ _ _ _ _ (not-false _ (sym (c .before .before .before .no-mode .ensures) ∙ c .before .before .if1 .left)) (not-true _ (sym (c .before .no-hop .ensures) ∙ c .if2 .taken)))
+returns-2 c = refused-by _ _ _ _ _ (not-a-hop _ _ _ _ _ (not-false _ (sym (c .before .before .before .no-mode .ensures) ∙ c .before .before .if1 .left)) (not-true _ (sym (c .before .no-hop .ensures) ∙ c .if2 .taken)))
 
 check-table-requires : tie.Need-check-table-requires
 check-table-requires c κs = search needs
@@ -42,7 +43,7 @@ returns-3 : tie.Need-returns-3
 returns-3 c =
     let count = c .before .count-nodes .ensures in
     let short = c .if3 .taken in
-    refused-in _ _ _ _ _ (short-room _ _ _ _ _ (not-false _ (sym (c .before .before .before .before .before .before .before .before .before .no-mode .ensures) ∙ c .before .before .before .before .before .before .before .before .if1 .left)) (not-false _ (sym (c .before .before .before .before .before .before .before .no-hop .ensures) ∙ c .before .before .before .before .before .before .if2 .left)) (sym (c .before .before .before .before .before .check-table .ensures) ∙ ap checkedSays (c .before .before .before .records .given .1)) (omega arith))
+    refused-by _ _ _ _ _ (short-room _ _ _ _ _ (not-false _ (sym (c .before .before .before .before .before .before .before .before .before .no-mode .ensures) ∙ c .before .before .before .before .before .before .before .before .if1 .left)) (not-false _ (sym (c .before .before .before .before .before .before .before .no-hop .ensures) ∙ c .before .before .before .before .before .before .if2 .left)) (sym (c .before .before .before .before .before .check-table .ensures) ∙ ap checkedSays (c .before .before .before .records .given .1)) (omega arith))
 
 fill-of-requires : tie.Need-fill-of-requires
 fill-of-requires c κs = search needs
@@ -72,7 +73,7 @@ rewrite-checked-requires c κs =
     )
 
 returns-4 : tie.Need-returns-4
-returns-4 c = refused-in _ _ _ _ _ (not-a-table _ _ _ _ _ (not-false _ (sym (c .before .before .before .before .before .before .before .no-mode .ensures) ∙ c .before .before .before .before .before .before .if1 .left)) (not-false _ (sym (c .before .before .before .before .before .no-hop .ensures) ∙ c .before .before .before .before .if2 .left)) (sym (c .before .before .before .check-table .ensures) ∙ ap checkedSays (c .before .number .given .1)))
+returns-4 c = refused-by _ _ _ _ _ (not-a-table _ _ _ _ _ (not-false _ (sym (c .before .before .before .before .before .before .before .no-mode .ensures) ∙ c .before .before .before .before .before .before .if1 .left)) (not-false _ (sym (c .before .before .before .before .before .no-hop .ensures) ∙ c .before .before .before .before .if2 .left)) (sym (c .before .before .before .check-table .ensures) ∙ ap checkedSays (c .before .number .given .1)))
 
 same-length : tie.Need-same-length
 same-length c = search needs
@@ -89,7 +90,7 @@ returns-5 c =
     let room : 160 * nodes 32 (routes (args .table .now)) ≤ length (args .work .now) = omega arith in
     let is = not-false _ (sym (c .before .before .before .before .before .before .before .before .before .before .before .before .before .before .before .before .before .no-mode .ensures) ∙ c .before .before .before .before .before .before .before .before .before .before .before .before .before .before .before .before .if1 .left) in
     let hop = not-false _ (sym (c .before .before .before .before .before .before .before .before .before .before .before .before .before .before .before .no-hop .ensures) ∙ c .before .before .before .before .before .before .before .before .before .before .before .before .before .before .if2 .left) in
-    finished-in _ _ _ _ _
+    finished-by _ _ _ _ _
     (only-output _ _ _ _ _ is hop valid room
     ∙ same-last _ _ _ _ _ (mode-range _ is) (λ five. c .before .before .before .before .before .before .before .fill-of .ensures .0 five (default-hop _ _ hop five)))
     (c .before .before .before .before .rewrite-checked .ensures)

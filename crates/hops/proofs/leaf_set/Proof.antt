@@ -1,5 +1,4 @@
 -- `hops::leaf_set` meets its contract. Assumes nothing.
-use borrow.Author.Tests.{le-ltb}
 use borrow.Author.Needs.{needs}
 use Rattle.hops.proofs.leaf_set.Statement.{statement}
 use Rattle.hops.proofs.leaf_set.Tie as tie
@@ -7,14 +6,11 @@ use Rattle.hops.proofs.leaf_set.Tie as tie
 leaf-value-requires : tie.Need-leaf-value-requires
 leaf-value-requires c κs = search needs
 
-one-requires : tie.Need-one-requires
-one-requires c κs = search needs
+alone-requires : tie.Need-alone-requires
+alone-requires c κs = search needs
 
 returns : tie.Need-returns
-returns c = rw (← c .before .before .leaf-value .ensures .0) (c .one .ensures)
-
-returns-2 : tie.Need-returns-2
-returns-2 c = rw (← c .before .leaf-value .ensures .0) (simp (le-ltb _ _ (c .if1 .left)))
+returns c = rw (← c .before .leaf-value .ensures .0) (c .alone .ensures)
 
 pub leaf-set-spec : {M : Type 1} → statement M
-leaf-set-spec = tie.close (tie.spec leaf-value-requires one-requires returns returns-2)
+leaf-set-spec = tie.close (tie.spec leaf-value-requires alone-requires returns)

@@ -68,14 +68,18 @@ same-length-3 c = search needs
 returns-3 : tie.Need-returns-3
 returns-3 c = search needs
 
-array-read-if4 : tie.Need-array-read-if4
-array-read-if4 c = search needs
+slice-reshare-prefix-case-turn : tie.Need-slice-reshare-prefix-case-turn
+slice-reshare-prefix-case-turn c = search needs
 
-slice-aggregate-last-line-3 : tie.Need-slice-aggregate-last-line-3
-slice-aggregate-last-line-3 c = search needs
+slice-aggregate-case-turn : tie.Need-slice-aggregate-case-turn
+slice-aggregate-case-turn c =
+    let start = c .before .before .before .before .before .before .before .before .before .before .before .before .before .before .before .before .before in
+    let size = c .before .before .before .before .before .before .before .join2 .ensures .1 in
+    read-part (c .before .before .before .before .before .before .before .join2 .result) (start .args .table .now) (c .before .before .before .before .before .read-full2 .last .1 .0) (omega (arith, size, start .pre .0))
+    (c .before .before .before .before .before .read-full2 .kept .1 .0)
 
-last-line-requires-3 : tie.Need-last-line-requires-3
-last-line-requires-3 c κs = search needs
+case-turn-requires : tie.Need-case-turn-requires
+case-turn-requires c κs = search needs
 
 same-length-4 : tie.Need-same-length-4
 same-length-4 c = search needs
@@ -83,97 +87,14 @@ same-length-4 c = search needs
 same-length-5 : tie.Need-same-length-5
 same-length-5 c = search needs
 
-returns-4 : tie.Need-returns-4
-returns-4 c = search needs
-
-array-read-join4 : tie.Need-array-read-join4
-array-read-join4 c = search needs
-
-array-read-join4-2 : tie.Need-array-read-join4-2
-array-read-join4-2 c = search needs
-
-array-read-join4-3 : tie.Need-array-read-join4-3
-array-read-join4-3 c = search needs
-
-array-read-join4-4 : tie.Need-array-read-join4-4
-array-read-join4-4 c = search needs
-
-join4-requires : tie.Need-join4-requires
-join4-requires c κs = search needs
-
-cast-asked : tie.Need-cast-asked
-cast-asked c = search needs
-
-array-read-if5 : tie.Need-array-read-if5
-array-read-if5 c = search needs
-
-slice-reshare-prefix-listed-turn : tie.Need-slice-reshare-prefix-listed-turn
-slice-reshare-prefix-listed-turn c = search needs
-
-slice-aggregate-listed-turn : tie.Need-slice-aggregate-listed-turn
-slice-aggregate-listed-turn c =
-    let start = c .before .before .before .before .before .before .before .before .before .before .before .before .before .before .before .before .before .before .before in
-    let size = c .before .before .before .before .before .before .before .before .before .join2 .ensures .1 in
-    read-part (c .before .before .before .before .before .before .before .before .before .join2 .result) (start .args .table .now) (c .before .before .before .before .before .before .before .read-full2 .last .1 .0) (omega (arith, size, start .pre .0))
-    (c .before .before .before .before .before .before .before .read-full2 .kept .1 .0)
-
-listed-turn-requires : tie.Need-listed-turn-requires
-listed-turn-requires c κs = search needs
-
 same-length-6 : tie.Need-same-length-6
 same-length-6 c = search needs
 
 same-length-7 : tie.Need-same-length-7
 same-length-7 c = search needs
 
-same-length-8 : tie.Need-same-length-8
-same-length-8 c = search needs
-
-returns-5 : tie.Need-returns-5
-returns-5 c = search needs
-
-slice-aggregate-last-line-4 : tie.Need-slice-aggregate-last-line-4
-slice-aggregate-last-line-4 c = search needs
-
-last-line-requires-4 : tie.Need-last-line-requires-4
-last-line-requires-4 c κs = search needs
-
-same-length-9 : tie.Need-same-length-9
-same-length-9 c = search needs
-
-same-length-10 : tie.Need-same-length-10
-same-length-10 c = search needs
-
-returns-6 : tie.Need-returns-6
-returns-6 c = search needs
-
-slice-reshare-prefix-keep-answer : tie.Need-slice-reshare-prefix-keep-answer
-slice-reshare-prefix-keep-answer c = search needs
-
-slice-aggregate-keep-answer : tie.Need-slice-aggregate-keep-answer
-slice-aggregate-keep-answer c =
-    let start = c .before .before .before .before .before .before .before .before .before .before .before .before .before .before .before .before .before .before .before .before .before in
-    let size = c .before .before .before .before .before .before .before .before .before .before .before .join2 .ensures .1 in
-    read-part (c .before .before .before .before .before .before .before .before .before .before .before .join2 .result) (start .args .table .now) (c .before .before .before .before .before .before .before .before .before .read-full2 .last .1 .0) (omega (arith, size, start .pre .0))
-    (c .before .before .before .before .before .before .before .before .before .read-full2 .kept .1 .0)
-
-keep-answer-requires : tie.Need-keep-answer-requires
-keep-answer-requires c κs = search needs
-
-same-length-11 : tie.Need-same-length-11
-same-length-11 c = search needs
-
-same-length-12 : tie.Need-same-length-12
-same-length-12 c = search needs
-
-same-length-13 : tie.Need-same-length-13
-same-length-13 c = search needs
-
-same-length-14 : tie.Need-same-length-14
-same-length-14 c = search needs
-
-returns-7 : tie.Need-returns-7
-returns-7 c = search needs
+returns-4 : tie.Need-returns-4
+returns-4 c = search needs
 
 pub turn-spec : {M : Type 1} → statement M
 turn-spec =
@@ -197,36 +118,11 @@ turn-spec =
     same-length-2
     same-length-3
     returns-3
-    array-read-if4
-    slice-aggregate-last-line-3
-    last-line-requires-3
+    slice-reshare-prefix-case-turn
+    slice-aggregate-case-turn
+    case-turn-requires
     same-length-4
     same-length-5
-    returns-4
-    array-read-join4
-    array-read-join4-2
-    array-read-join4-3
-    array-read-join4-4
-    join4-requires
-    cast-asked
-    array-read-if5
-    slice-reshare-prefix-listed-turn
-    slice-aggregate-listed-turn
-    listed-turn-requires
     same-length-6
     same-length-7
-    same-length-8
-    returns-5
-    slice-aggregate-last-line-4
-    last-line-requires-4
-    same-length-9
-    same-length-10
-    returns-6
-    slice-reshare-prefix-keep-answer
-    slice-aggregate-keep-answer
-    keep-answer-requires
-    same-length-11
-    same-length-12
-    same-length-13
-    same-length-14
-    returns-7)
+    returns-4)

@@ -19,7 +19,7 @@ use Rattle.consistent.proofs.maps.+aggregate_consistent_map.Lts-aggrega
 use Rattle.consistent.proofs.maps.entries_of.Reads as entries-of-reads
 use Rattle.nodes.proofs.emit.emit_slot.Reads as emit-slot-reads
 use Rattle.nodes.proofs.emit.head_slots.Reads as head-slots-reads
-use Rattle.nodes.proofs.emit.past.Reads as past-reads
+use Rattle.records.proofs.past.Reads as past-reads
 use Rattle.gather.proofs.covering_hops.Reads as covering-hops-reads
 use Rattle.gather.proofs.gather_run.Reads as gather-run-reads
 use Rattle.gather.proofs.slot_key.Reads as slot-key-reads

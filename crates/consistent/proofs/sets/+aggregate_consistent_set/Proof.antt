@@ -19,7 +19,7 @@ use Rattle.consistent.proofs.sets.aggregate_consistent_set.Kinds as kin
 use Rattle.consistent.proofs.sets.+aggregate_consistent_set.Lts-aggregate_consistent_set as lts
 use Rattle.nodes.proofs.emit.emit_slot.Reads as emit-slot-reads
 use Rattle.nodes.proofs.emit.head_slots.Reads as head-slots-reads
-use Rattle.nodes.proofs.emit.past.Reads as past-reads
+use Rattle.records.proofs.past.Reads as past-reads
 use Rattle.gather.proofs.gather_run.Reads as gather-run-reads
 use Rattle.gather.proofs.slot_key.Reads as slot-key-reads
 use Rattle.words.proofs.bits.has_bit.Reads as has-bit-reads

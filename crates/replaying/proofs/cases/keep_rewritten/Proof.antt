@@ -4,6 +4,7 @@ use mathlib.Core.Path.{ap, ap₂, _∙_}
 use native.Mathlib.Omega.{arith}
 use lib.Dec.{ltb}
 use lib.ListN.{length, length-replicate}
+use Rattle.calls.proofs.Refusals.{rewrite-guarded}
 use Rattle.text.proofs.Puts.{put-as}
 use Rattle.text.proofs.Replies.{rewritten-text, rewritten-fits}
 use Rattle.replaying.specs.Kept.{rewriteAnswer}
@@ -63,7 +64,7 @@ returns c =
     let nothing = c .before .before .before .before .before .before .before .before .keep-work .ensures (rewrite-zero (done .ensures)) in
     let neither =
     c .before .before .keep-output .ensures
-    (rw (c .before .before .before .before .written .ensures) (output-filled _ _ _ _ _ _ _ 165 (length (s .output .now)) (bytes .ensures) _ (done .ensures))) in
+    (rw (c .before .before .before .before .written .ensures) (output-filled _ _ _ _ _ (rewrite-guarded _ _ _ _ _) _ 165 (length (s .output .now)) (bytes .ensures) _ (done .ensures .inner))) in
     put-at (c .before .before .before .before .before .before .before .before .before .before .before .before .before .before .before .before .room-for .ensures .0) (neither .0 ∙ nothing .0) (neither .1 ∙ nothing .1)
     (put-as
     (rewritten-text _ _ _ _ _ _ _ (ltb 2 (s .mode)) (λ k. c .before .before .before .before .before .before .before .before .before .before .before .before .before .before .before .before .before .before .before .before .before .before .before .before .before .before .before .before .before .before .before .before .before .before .before .before .shared-slice-known .given k .fits) _ (done .ensures)

@@ -1,8 +1,8 @@
--- `no_hop` says whether rule 2 is broken. Assumes nothing.
+-- `calls::engine::no_hop` says whether rule 2 is broken. Assumes nothing.
 use borrow.Author.Tests.{eq-eqb, ne-eqb}
-use Rattle.aggregate.proofs.CallLaws.{above-not}
-use Rattle.aggregate.proofs.no_hop.Statement.{statement}
-use Rattle.aggregate.proofs.no_hop.Tie as tie
+use Rattle.calls.proofs.Ending.{above-not}
+use Rattle.calls.proofs.engine.no_hop.Statement.{statement}
+use Rattle.calls.proofs.engine.no_hop.Tie as tie
 
 returns : tie.Need-returns
 returns c = simp (eq-eqb (c .before .args .mode) 5 (c .if1 .taken)) (above-not 63 (c .before .args .default))

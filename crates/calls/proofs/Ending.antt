@@ -1,0 +1,184 @@
+-- Laws for the proof of any engine's rewrite: the rules 1 to 8 judged one after the other, the mode and the default, what a table that was checked is good
+-- for, the most records of a result, and the end of a rewrite. Assumes nothing.
+use Prim.Native.Nat.{ℕ, zero, suc, _+_, _-_, _*_, _/_, _^_, _≤_, _<_}
+use mathlib.Core.Path.{_≡_, refl, sym, ap, _∙_}
+use mathlib.Core.Bool.{Bool, true, false, not, cond, _||_}
+use mathlib.Core.List.{List, _++_}
+use native.Mathlib.Nat.{le-trans}
+use native.Mathlib.Omega.{arith}
+use lib.Dec.{eqb, leb, ltb}
+use lib.IntN.{ℤ, pos, negsuc, _-ℤ_}
+use lib.ListN.{length, drop}
+use lib.Signed.{mag}
+use mir.Syntax.{w64}
+use mir.Val.{SFits, toZ, ofZ}
+use mir.ValLaws.{toZ-pos, toZ-ofZ}
+use borrow.Author.Tests.{eqb-true, eqb-false, leb-true, leb-false, le-leb, lt-leb, le-ltb, lt-ltb, eq-eqb}
+use Rattle.theory.specs.Results.{smallest, Mode, aggregateSet, aggregateConsistentSet, aggregateConsistentMap, aggregateMapDrop, aggregateMapFill}
+use Rattle.theory.specs.Routes.{Route, Table}
+use Rattle.theory.proofs.Chosen.{smallest-chooses}
+use Rattle.theory.proofs.Lengths.{mostOf, result-length}
+use Rattle.refusals.specs.Rules.{Rule, gives, refuses, judge}
+use Rattle.refusals.proofs.Judged.{gives-any, kept-next, broken-here, all-next, some-here}
+use Rattle.records.specs.Wire.{records, routes, Bytes, bytesOf, laid}
+use Rattle.records.proofs.Reading.{length-routes}
+use Rattle.records.proofs.Written.{length-bytes}
+use Rattle.table.specs.Checking.{checkReply}
+use Rattle.table.specs.Conditions.{Lawful}
+use Rattle.table.specs.TableRules.{tableRules}
+use Rattle.table.proofs.Tables.{accepted-table}
+use Rattle.calls.specs.declared.Rewritten.{Rewritten}
+use Rattle.calls.specs.declared.Rewritten.the-variants.{Records, Refused}
+use Rattle.calls.specs.Ending.{lastReply, Finished}
+use Rattle.calls.specs.Rewriting.{modeOf, resultOf, takesSet, replyBy, writtenOf, outputOf, RewritesBy}
+use Rattle.calls.proofs.Tested.{rulesWith}
+
+-- ---- The rules 1 to 8, where `known` says whether the engine has the mode and `last` are the rules past the table's.
+module _ (known : Bool) (t : List ℕ) (mode default : ℕ) (last : List Rule) {A : Type 0} (a : A) where
+  -- Number 1.
+  pub refused-mode : known ≡ false
+      → judge (rulesWith known t mode default last) a ≡ refuses 1 0
+  refused-mode e = broken-here a 1 0 _ e
+
+  module _ (is : known ≡ true) where
+    -- Number 2.
+    pub refused-default : (not (eqb mode 5) || leb default 63) ≡ false
+        → judge (rulesWith known t mode default last) a ≡ refuses 2 0
+    refused-default e = kept-next a 1 0 _ is ∙ broken-here a 2 0 _ e
+
+    module _ (ok : (not (eqb mode 5) || leb default 63) ≡ true) where
+      -- Numbers 3 to 8.
+      pub refused-table : {n i : ℕ} → checkReply (takesSet mode) t ≡ refuses n i
+          → judge (rulesWith known t mode default last) a ≡ refuses n i
+      refused-table {n} {i} e = kept-next a 1 0 _ is ∙ kept-next a 2 0 _ ok ∙ some-here a (records t) n i (tableRules (takesSet mode) t) last e
+
+      -- Past the table's rules the last decide.
+      pub last-decide : {k : ℕ} → checkReply (takesSet mode) t ≡ gives k
+          → judge (rulesWith known t mode default last) a ≡ judge last a
+      last-decide valid = kept-next a 1 0 _ is ∙ kept-next a 2 0 _ ok ∙ all-next a (records t) (tableRules (takesSet mode) t) last valid
+
+module _ (rules : List Rule) (t : List ℕ) (mode default : ℕ) (o : List ℕ) where
+  -- A refusal leaves the output.
+  pub refused-by : {n i : ℕ} → replyBy rules t mode default ≡ refuses n i → RewritesBy rules t mode default o (Refused n i) o
+  refused-by e = record { answer = sym (ap (writtenOf (records t)) e); output = sym (ap (outputOf o) e) }
+
+  -- What is finished by the last rule is what the whole statement asks.
+  pub finished-by : {fill : ℕ} {r : Rewritten} {o′ : List ℕ} → replyBy rules t mode default ≡ lastReply t mode fill (length o)
+      → Finished t mode fill o r o′ → RewritesBy rules t mode default o r o′
+  finished-by e f =
+      record { answer = f .answer ∙ sym (ap (writtenOf (records t)) e); output = f .output ∙ sym (ap (outputOf o) e) }
+
+-- ---- The mode and the default.
+
+-- What holds of the mode of each number from 1 to 5 holds of the number's mode.
+pub mode-is : (P : Mode → Type 0) (mode default : ℕ) → (1 ≤ mode) × (mode ≤ 5) → (mode ≡ 1 → P aggregateSet) → (mode ≡ 2 → P aggregateConsistentSet)
+    → (mode ≡ 3 → P aggregateConsistentMap) → (mode ≡ 4 → P aggregateMapDrop) → (mode ≡ 5 → P (aggregateMapFill default)) → P (modeOf mode default)
+mode-is P mode default range one two three four five = go (eqb mode 1) refl (eqb mode 2) refl (eqb mode 3) refl (eqb mode 4) refl
+  where
+    go : (a : Bool) → eqb mode 1 ≡ a → (b : Bool) → eqb mode 2 ≡ b → (c : Bool) → eqb mode 3 ≡ c → (d : Bool) → eqb mode 4 ≡ d
+        → P (cond a aggregateSet (cond b aggregateConsistentSet (cond c aggregateConsistentMap (cond d aggregateMapDrop (aggregateMapFill default)))))
+    go true p b q c r d s = one (eqb-true mode 1 p)
+    go false p true q c r d s = two (eqb-true mode 2 q)
+    go false p false q true r d s = three (eqb-true mode 3 r)
+    go false p false q false r true s = four (eqb-true mode 4 s)
+    go false p false q false r false s =
+        let no1 = eqb-false mode 1 p in
+        let no2 = eqb-false mode 2 q in
+        let no3 = eqb-false mode 3 r in
+        let no4 = eqb-false mode 4 s in
+        five (omega arith)
+
+-- The mode reads the default in mode 5 only.
+same-mode : (mode fill default : ℕ) → (1 ≤ mode) × (mode ≤ 5) → (mode ≡ 5 → fill ≡ default) → modeOf mode fill ≡ modeOf mode default
+same-mode mode fill default range same =
+    mode-is (λ m. m ≡ modeOf mode default) mode fill range (λ e. rw e) (λ e. rw e) (λ e. rw e) (λ e. rw e) (λ e. rw (e, same e))
+
+-- So a fill that is the default in mode 5 has the default's result.
+pub same-last : (t : List ℕ) (mode fill default room : ℕ) → (1 ≤ mode) × (mode ≤ 5) → (mode ≡ 5 → fill ≡ default)
+    → lastReply t mode default room ≡ lastReply t mode fill room
+unfolding resultOf
+same-last t mode fill default room range same = rw (same-mode mode fill default range same)
+
+-- Above is not at most.
+pub above-not : (m n : ℕ) → ltb m n ≡ not (leb n m)
+above-not m n = go (leb n m) refl
+  where
+    go : (b : Bool) → leb n m ≡ b → ltb m n ≡ not b
+    go true e = le-ltb m n (leb-true n m e)
+    go false e = lt-ltb m n (leb-false n m e)
+
+-- Rule 2 says that the default of mode 5 is a hop.
+pub default-hop : (mode default : ℕ) → (not (eqb mode 5) || leb default 63) ≡ true → mode ≡ 5 → default ≤ 63
+default-hop mode default e five = leb-true default 63 (rw (eq-eqb mode 5 five) at e)
+
+-- ---- What a table that keeps the rules is good for.
+module _ (s : Bool) (t : List ℕ) (k : ℕ) (valid : checkReply s t ≡ gives k) where
+  -- The check counts its records.
+  pub checked-count : k ≡ records t
+  checked-count = let e = gives-any (tableRules s t) (records t) k (records t) valid in cc
+
+  -- Its routes are lawful.
+  pub checked-lawful : Bytes t → Lawful s (routes t)
+  checked-lawful bytes = accepted-table (records t) k s t bytes valid .0
+
+  -- They are at most 1,024.
+  pub checked-few : Bytes t → k ≤ 1024
+  checked-few bytes = omega (arith, checked-count, checked-lawful bytes .few, length-routes t)
+
+-- ---- The end of a rewrite.
+
+-- The result has no more records than the table, in mode 5 no more than one more.
+pub result-most : (t : List ℕ) (mode fill : ℕ) {before most : ℕ} → (1 ≤ mode) × (mode ≤ 5) → Table 32 (routes t) → before ≡ records t
+    → (mode ≡ 5 → most ≡ before + 1) × ((mode ≡ 5 → ⊥) → most ≡ before) → length (resultOf t mode fill) ≤ most
+unfolding resultOf
+result-most t mode fill {most = most} range table count at =
+    le-trans (result-length smallest smallest-chooses 32 (modeOf mode fill) table)
+    (mode-is (λ m. mostOf m (length (routes t)) ≤ most) mode fill range (λ e. as-many (λ five. omega arith)) (λ e. as-many (λ five. omega arith))
+    (λ e. as-many (λ five. omega arith)) (λ e. as-many (λ five. omega arith)) (λ e. omega (arith, length-routes t, at .0 e)))
+  where
+    as-many : (mode ≡ 5 → ⊥) → length (routes t) ≤ most
+    as-many other = omega (arith, length-routes t, at .1 other)
+
+-- The difference of two small numbers fits,
+change-small : (a b : ℕ) → a < 2 ^ 62 → b < 2 ^ 62 → mag (pos a -ℤ pos b) < 2 ^ 63
+change-small a zero h k = omega arith
+change-small a (suc b) h k = go (ltb a (suc b))
+  where
+    go : (l : Bool) → mag (cond l (negsuc (suc b - suc a)) (pos (a - suc b))) < 2 ^ 63
+    go true = omega arith
+    go false = omega arith
+
+module _ (a b : ℕ) (small : a < 2 ^ 62) (least : b < 2 ^ 62) where
+  -- also as the machine reads the two,
+  pub change-fits : SFits w64 (toZ w64 a -ℤ toZ w64 b)
+  change-fits = rw (toZ-pos w64 a (omega arith), toZ-pos w64 b (omega arith)) (record { sfits = change-small a b small least })
+
+  -- and is what the machine makes of them.
+  pub change-is : toZ w64 (ofZ w64 (toZ w64 a -ℤ toZ w64 b)) ≡ pos a -ℤ pos b
+  change-is = toZ-ofZ w64 _ change-fits ∙ rw (toZ-pos w64 a (omega arith), toZ-pos w64 b (omega arith))
+
+-- Records laid at the output's start, and the rest as it was.
+pub laid-output : (rs : List Route) (o : List ℕ) → laid 0 (bytesOf rs) o ≡ outputOf o (gives rs)
+unfolding laid
+laid-output rs o =
+    let n = length-bytes rs in
+    let e : 0 + length (bytesOf rs) ≡ 8 * length rs = omega arith in
+    ap (λ (k : ℕ). bytesOf rs ++ drop k o) e
+
+module _ (t : List ℕ) (mode fill : ℕ) (o : List ℕ) where
+  -- Number 11: the output has no room for so many records.
+  pub finished-refused : length o / 8 < length (resultOf t mode fill) → Finished t mode fill o (Refused 11 0) o
+  finished-refused h =
+      let e : lastReply t mode fill (length o) ≡ refuses 11 0 = broken-here _ 11 0 _ (lt-leb (8 * length (resultOf t mode fill)) (length o) (omega arith)) in
+      record { answer = sym (ap (writtenOf (records t)) e); output = sym (ap (outputOf o) e) }
+
+  -- It has, and they are written.
+  pub finished-written : {k : ℕ} {change : ℤ} {o′ : List ℕ} → k ≡ length (resultOf t mode fill) → k ≤ length o / 8 → change ≡ pos k -ℤ pos (records t)
+      → o′ ≡ bytesOf (resultOf t mode fill) ++ drop (8 * k) o → Finished t mode fill o (Records k change) o′
+  unfolding judge
+  finished-written {k} {change} {o′} count fits differ wrote =
+      let e : lastReply t mode fill (length o) ≡ gives (resultOf t mode fill) = rw (le-leb (8 * length (resultOf t mode fill)) (length o) (omega arith)) in
+      record {
+        answer = rw (differ, count) (sym (ap (writtenOf (records t)) e));
+        output = wrote ∙ rw count (sym (ap (outputOf o) e));
+      }

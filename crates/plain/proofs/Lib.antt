@@ -1,0 +1,10 @@
+-- Laws and theorems of the second engine. The theorems: Calls (what the statement settles), Agreement (the two engines agree) and Demand3 (of both engines).
+-- Walk, Positions and Output are the walks' laws, Whole and Replies the call's.
+pub mod Walk
+pub mod Positions
+pub mod Output
+pub mod Whole
+pub mod Replies
+pub mod Calls
+pub mod Agreement
+pub mod Demand3

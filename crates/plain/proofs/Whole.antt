@@ -1,0 +1,129 @@
+-- The entries of the position of all addresses are the result of each mode that the engine has, and what is written of them is the end of a rewrite. Assumes
+-- nothing.
+use Prim.Native.Nat.{ℕ, _-_, _/_, _≤_, _<_}
+use mathlib.Core.Path.{_≡_, refl, sym, ap, subst, _∙_}
+use mathlib.Core.Bool.{Bool, true, false, _||_}
+use mathlib.Core.List.{List}
+use mathlib.Core.Logic.{inl, inr}
+use native.Mathlib.Omega.{arith}
+use lib.Dec.{eqb}
+use lib.IntN.{ℤ, pos, _-ℤ_}
+use lib.ListN.{length}
+use borrow.Author.Tests.{eq-eqb, eqb-true, lt-ltb}
+use Rattle.theory.specs.Results.{smallest, result, aggregateMapDrop, aggregateMapFill}
+use Rattle.theory.specs.Routes.{none, answer, filled, lookup, All, Table}
+use Rattle.theory.proofs.Agree.{ortc-agree}
+use Rattle.theory.proofs.Chosen.{smallest-chooses}
+use Rattle.theory.proofs.Computed.{under-default}
+use Rattle.theory.proofs.Lists.{all-member}
+use Rattle.theory.proofs.Maximal.{set-is-drop-bare}
+use Rattle.refusals.specs.Rules.{Reply}
+use Rattle.table.specs.Checking.{checkReply}
+use Rattle.records.specs.Wire.{records, routes, routeAt}
+use Rattle.table.specs.TableRules.{topHop}
+use Rattle.table.proofs.Tables.{set-hops}
+use Rattle.positions.specs.Runs.{noHop}
+use Rattle.runs.specs.Runs.{run, RunAt}
+use Rattle.runs.proofs.Halves.{whole-run}
+use Rattle.runs.proofs.Numbered.{member-numbered}
+use Rattle.runs.proofs.Records.{run-whole, run-numbered}
+use Rattle.calls.specs.declared.Rewritten.the-variants.{Records}
+use Rattle.calls.specs.Ending.{Fills, Finished}
+use Rattle.calls.specs.Rewriting.{resultOf, takesSet}
+use Rattle.calls.proofs.Ending.{laid-output, finished-written}
+use Rattle.plain.specs.Conditions.{IsMode}
+use Rattle.plain.specs.Output.{Put}
+use Rattle.plain.specs.Positions.{Hopped, answerAt, entriesAt}
+use Rattle.plain.specs.Rewriting.{hasMode, Bare}
+
+-- ---- The modes.
+
+-- The test of rule 1 is passed by the modes that the engine has.
+pub mode-had : (mode : ℕ) → hasMode mode ≡ true → IsMode mode
+mode-had mode e = go (eqb mode 1) refl (eqb mode 4) refl (eqb mode 5) refl e
+  where
+    go : (a : Bool) → eqb mode 1 ≡ a → (b : Bool) → eqb mode 4 ≡ b → (c : Bool) → eqb mode 5 ≡ c → (a || (b || c)) ≡ true → IsMode mode
+    go true p b q c r e = inl (eqb-true mode 1 p)
+    go false p true q c r e = inr (inl (eqb-true mode 4 q))
+    go false p false q true r e = inr (inr (eqb-true mode 5 r))
+    go false p false q false r e = let z : _≡_ {A = ℕ} 0 1 = cc in absurd (omega arith)
+
+-- By them alone.
+pub mode-not-had : (mode : ℕ) → hasMode mode ≡ false → IsMode mode → ⊥
+mode-not-had mode e (inl m) = let z : _≡_ {A = ℕ} 0 1 = cc in omega arith
+mode-not-had mode e (inr (inl m)) = go (eqb mode 1) e
+  where
+    go : (a : Bool) → (a || (eqb mode 4 || eqb mode 5)) ≡ false → ⊥
+    go true f = let z : _≡_ {A = ℕ} 0 1 = cc in omega arith
+    go false f = let z : _≡_ {A = ℕ} 0 1 = cc (eq-eqb mode 4 m) in omega arith
+mode-not-had mode e (inr (inr m)) = go (eqb mode 1) (eqb mode 4) e
+  where
+    go : (a b : Bool) → (a || (b || eqb mode 5)) ≡ false → ⊥
+    go true b f = let z : _≡_ {A = ℕ} 0 1 = cc in omega arith
+    go false true f = let z : _≡_ {A = ℕ} 0 1 = cc in omega arith
+    go false false f = let z : _≡_ {A = ℕ} 0 1 = cc (eq-eqb mode 5 m) in omega arith
+
+-- They are modes of document 01,
+pub mode-known : {mode : ℕ} → IsMode mode → (1 ≤ mode) × (mode ≤ 5)
+mode-known (inl e) = (omega arith, omega arith)
+mode-known (inr (inl e)) = (omega arith, omega arith)
+mode-known (inr (inr e)) = (omega arith, omega arith)
+
+-- and of them mode 1 alone takes a set: so the check that the code makes is the right one.
+mode-takes-set : {mode : ℕ} → IsMode mode → eqb mode 1 ≡ takesSet mode
+mode-takes-set (inl e) = rw e
+mode-takes-set (inr (inl e)) = rw e
+mode-takes-set (inr (inr e)) = rw e
+
+pub mode-checked : {mode : ℕ} → IsMode mode → (t : List ℕ) {q : Reply ℕ} → checkReply (eqb mode 1) t ≡ q → checkReply (takesSet mode) t ≡ q
+mode-checked had t e = ap (λ (s : Bool). checkReply s t) (sym (mode-takes-set had)) ∙ e
+
+-- ---- A table that keeps the rules.
+
+-- Its records' hops are hops.
+pub all-hopped : (t : List ℕ) → All (λ r. r .hop < 64) (routes t) → Hopped t
+all-hopped t hops k lt =
+    all-member {P = λ r. r .hop < 64} (rw (sym (run-whole t), run-numbered t 0 (records t)) at hops) (member-numbered (routeAt t) 0 (records t) k (omega arith) lt)
+
+-- In mode 1 they are 0.
+pub all-bare : {mode : ℕ} (t : List ℕ) → All (λ r. r .hop ≤ topHop (takesSet mode)) (routes t) → Bare t mode
+all-bare t hops one = set-hops (rw one at hops)
+
+-- Its records are the run of the position of all addresses.
+pub all-run : (t : List ℕ) (n : ℕ) → Table 32 (routes t) → n ≡ records t → RunAt 32 t 0 n 32 0
+all-run t n table e = subst (λ (k : ℕ). RunAt 32 t 0 k 32 0) (sym e) (whole-run 32 table)
+
+-- ---- The result.
+module _ (t : List ℕ) (mode fill n : ℕ) (bare : Bare t mode) (fills : Fills mode fill) (e : n ≡ records t) where
+  all-records : run t 0 n ≡ routes t
+  all-records = ap (run t 0) e ∙ run-whole t
+
+  -- Holes kept.
+  dropped : fill ≡ noHop → entriesAt 32 t 0 n fill 32 0 noHop ≡ result smallest 32 aggregateMapDrop (routes t)
+  unfolding entriesAt result
+  dropped f = ortc-agree (answerAt 32 t 0 n fill) (answer 32 (routes t)) smallest 32 32 0 none (λ x i. rw (f, all-records))
+
+  -- Holes filled.
+  filled-up : fill < noHop → entriesAt 32 t 0 n fill 32 0 noHop ≡ result smallest 32 (aggregateMapFill fill) (routes t)
+  unfolding entriesAt result
+  filled-up small =
+      ortc-agree (answerAt 32 t 0 n fill) (filled fill (answer 32 (routes t))) smallest 32 32 0 none (λ x i.
+      rw (lt-ltb fill noHop small, all-records) (under-default fill (lookup 32 (routes t) x)))
+
+  pub whole-result : IsMode mode → entriesAt 32 t 0 n fill 32 0 noHop ≡ resultOf t mode fill
+  unfolding resultOf
+  whole-result (inl one) =
+      dropped (fills .none (λ five. omega arith)) ∙ rw one (sym (set-is-drop-bare 32 smallest smallest-chooses (routes t) (bare one)))
+  whole-result (inr (inl four)) = dropped (fills .none (λ five. omega arith)) ∙ rw four
+  whole-result (inr (inr five)) = filled-up (fills .hop five) ∙ rw five
+
+  module _ (had : IsMode mode) {k : ℕ} {o o′ : List ℕ} (put : Put (entriesAt 32 t 0 n fill 32 0 noHop) k o o′) where
+    -- What is put of the entries are the result's records,
+    pub whole-count : k ≡ length (resultOf t mode fill)
+    whole-count = put .counted ∙ ap length (whole-result had)
+
+    -- and, where they fit, the end of a rewrite.
+    pub whole-finished : {change : ℤ} → k ≤ length o / 8 → change ≡ pos k -ℤ pos (records t) → Finished t mode fill o (Records k change) o′
+    whole-finished fits differ =
+        finished-written t mode fill o whole-count fits differ
+        (put .written (omega arith) ∙ rw (whole-result had, whole-count) (laid-output (resultOf t mode fill) o))

@@ -1,0 +1,100 @@
+-- `rewrite` refuses by the first rule that is broken, up to the table's, and leaves the rest to `rewrite_checked`. Assumes nothing.
+use mathlib.Core.Path.{sym, ap, _∙_}
+use native.Mathlib.Omega.{arith}
+use borrow.Author.Needs.{needs}
+use borrow.Author.Tests.{not-true, not-false}
+use Rattle.table.specs.Checking.{checkedSays}
+use Rattle.table.proofs.Tables.{hops-below}
+use Rattle.calls.specs.Rewriting.{takesSet}
+use Rattle.calls.proofs.Ending.{refused-by, finished-by, same-last, default-hop, checked-count, checked-lawful}
+use Rattle.plain.proofs.Replies.{not-a-mode, not-a-hop, not-a-table, only-output}
+use Rattle.plain.proofs.Whole.{mode-had, mode-known, mode-checked, all-hopped, all-bare}
+use Rattle.plain.proofs.rewrite.Statement.{statement}
+use Rattle.plain.proofs.rewrite.Tie as tie
+
+no-mode-requires : tie.Need-no-mode-requires
+no-mode-requires c κs = search needs
+
+returns : tie.Need-returns
+returns c = refused-by _ _ _ _ _ (not-a-mode _ _ _ _ (not-true _ (sym (c .before .no-mode .ensures) ∙ c .if1 .taken)))
+
+no-hop-requires : tie.Need-no-hop-requires
+no-hop-requires c κs = search needs
+
+returns-2 : tie.Need-returns-2
+returns-2 c =
+    refused-by _ _ _ _ _
+    (not-a-hop _ _ _ _ (not-false _ (sym (c .before .before .before .no-mode .ensures) ∙ c .before .before .if1 .left)) (not-true _ (sym (c .before .no-hop .ensures) ∙ c .if2 .taken)))
+
+check-table-requires : tie.Need-check-table-requires
+check-table-requires c κs = search needs
+
+enum-known-number : tie.Need-enum-known-number
+enum-known-number c = search needs
+
+enum-known-records : tie.Need-enum-known-records
+enum-known-records c = search needs
+
+fill-of-requires : tie.Need-fill-of-requires
+fill-of-requires c κs = search needs
+
+rewrite-checked-requires : tie.Need-rewrite-checked-requires
+rewrite-checked-requires c κs =
+    let a = c .before .before .before .before .before .before .before .before .before .before .before .before .args in
+    let is = not-false _ (sym (c .before .before .before .before .before .before .before .before .before .no-mode .ensures) ∙ c .before .before .before .before .before .before .before .before .if1 .left) in
+    let had = mode-had (a .mode) is in
+    let valid = mode-checked had (a .table .now) (sym (c .before .before .before .before .before .check-table .ensures) ∙ ap checkedSays (c .before .before .before .records .given .1)) in
+    let lawful = checked-lawful (takesSet (a .mode)) (a .table .now) _ valid (λ k. omega (arith, c .before .before .before .before .before .before .before .before .before .before .before .shared-slice-known .given k)) in
+    let hop = not-false _ (sym (c .before .before .before .before .before .before .before .no-hop .ensures) ∙ c .before .before .before .before .before .before .if2 .left) in
+    let filled = c .before .fill-of .ensures in (
+      is,
+      (
+        (lawful .table, (all-hopped (a .table .now) (hops-below (takesSet (a .mode)) (lawful .hops)), all-bare (a .table .now) (lawful .hops))),
+        (
+          record {
+            hop = λ five. let small = default-hop (a .mode) (a .default) hop five in omega (arith, filled .0 five small);
+            none = filled .1;
+          },
+          checked-count (takesSet (a .mode)) (a .table .now) _ valid,
+        ),
+      ),
+    )
+
+returns-3 : tie.Need-returns-3
+returns-3 c =
+    let a = c .before .before .before .before .before .before .before .before .before .before .args in
+    let is = not-false _ (sym (c .before .before .before .before .before .before .before .no-mode .ensures) ∙ c .before .before .before .before .before .before .if1 .left) in
+    let refused = mode-checked (mode-had (a .mode) is) (a .table .now) (sym (c .before .before .before .check-table .ensures) ∙ ap checkedSays (c .before .number .given .1)) in
+    refused-by _ _ _ _ _ (not-a-table _ _ _ _ is (not-false _ (sym (c .before .before .before .before .before .no-hop .ensures) ∙ c .before .before .before .before .if2 .left)) refused)
+
+same-length : tie.Need-same-length
+same-length c = search needs
+
+returns-4 : tie.Need-returns-4
+returns-4 c =
+    let a = c .before .before .before .before .before .before .before .before .before .before .before .before .before .before .before .args in
+    let is = not-false _ (sym (c .before .before .before .before .before .before .before .before .before .before .before .before .no-mode .ensures) ∙ c .before .before .before .before .before .before .before .before .before .before .before .if1 .left) in
+    let hop = not-false _ (sym (c .before .before .before .before .before .before .before .before .before .before .no-hop .ensures) ∙ c .before .before .before .before .before .before .before .before .before .if2 .left) in
+    let had = mode-had (a .mode) is in
+    let valid = mode-checked had (a .table .now) (sym (c .before .before .before .before .before .before .before .before .check-table .ensures) ∙ ap checkedSays (c .before .before .before .before .before .before .records .given .1)) in
+    finished-by _ _ _ _ _
+    (only-output _ _ _ _ is hop valid
+    ∙ same-last _ _ _ _ _ (mode-known had) (λ five. c .before .before .before .before .fill-of .ensures .0 five (default-hop _ _ hop five)))
+    (c .before .before .rewrite-checked .ensures)
+
+pub rewrite-spec : {M : Type 1} → statement M
+rewrite-spec =
+    tie.close
+    (tie.spec
+    no-mode-requires
+    returns
+    no-hop-requires
+    returns-2
+    check-table-requires
+    enum-known-number
+    enum-known-records
+    fill-of-requires
+    rewrite-checked-requires
+    returns-3
+    same-length
+    returns-4)

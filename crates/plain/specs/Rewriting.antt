@@ -1,0 +1,28 @@
+-- The rules of the second engine. Its statement is `RewritesBy` of the crate calls, by these rules.
+use Prim.Native.Nat.{ℕ, _*_}
+use mathlib.Core.Path.{_≡_}
+use mathlib.Core.Bool.{Bool, not, _||_}
+use mathlib.Core.List.{List, [], _∷_, _++_}
+use lib.Dec.{eqb, leb}
+use lib.ListN.{length}
+use Rattle.theory.specs.Routes.{All}
+use Rattle.refusals.specs.Rules.{Rule, rule}
+use Rattle.records.specs.Wire.{routes}
+use Rattle.table.specs.TableRules.{tableRules}
+use Rattle.calls.specs.Rewriting.{resultOf, takesSet}
+
+-- Is it a mode of this engine?
+abbrev pub hasMode : ℕ → Bool
+hasMode mode = eqb mode 1 || (eqb mode 4 || eqb mode 5)
+
+-- The rules 1 to 8 and 11, for an output of `room` bytes: there is no work room, so no rule 10.
+unfoldable pub plainRules : List ℕ → ℕ → ℕ → ℕ → List Rule
+plainRules t mode default room =
+    rule 1 0 (hasMode mode)
+    ∷ rule 2 0 (not (eqb mode 5) || leb default 63)
+    ∷ tableRules (takesSet mode) t
+    ++ (rule 11 0 (leb (8 * length (resultOf t mode default)) room) ∷ [])
+
+-- In mode 1 the members' hops are 0.
+abbrev pub Bare : List ℕ → ℕ → Type 0
+Bare t mode = mode ≡ 1 → All (λ r. r .hop ≡ 0) (routes t)

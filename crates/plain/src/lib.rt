@@ -1,0 +1,218 @@
+// The second engine: modes 1, 4 and 5 as a plain recursion over the bits of an address, with no nodes and no work room.
+//
+// A position is a prefix, given by its address and its length; the records lo..hi of the sorted table that lie in it are its run. `set_of` is the candidate
+// set of a position and `write` the entries that document 01's definition gives it and the positions inside it. Both take a position apart by `part_of`.
+// A hop is a u8, NO_HOP for none. A candidate set is a u64 with a bit for each hop, 0 for a hole.
+
+use calls::Rewritten;
+use calls::engine::fill_of;
+use calls::engine::most_records;
+use calls::engine::no_hop;
+use hops::NO_HOP;
+use hops::alone;
+use hops::assign;
+use hops::combine;
+use hops::has;
+use hops::smallest;
+use records::hop_at;
+use records::past;
+use records::put_record;
+use runs::past_own;
+use runs::right_half;
+use runs::split;
+use table::Checked;
+use table::check_table;
+ghost use mathlib.Core.Path.{_≡_};
+ghost use mathlib.Core.Bool.{true, not};
+ghost use Prim.Native.Nat.{_-_, _≤_, _<_};
+ghost use lib.ListN.{length};
+ghost use Rattle.theory.specs.Results.{Cand};
+ghost use Rattle.theory.specs.Routes.{Table};
+ghost use Rattle.records.specs.Wire.{records, routeAt, routes};
+ghost use Rattle.hops.specs.Sets.{ShowsSet};
+ghost use Rattle.runs.specs.Runs.{RunAt};
+ghost use Rattle.calls.specs.Ending.{Fills, Finished};
+ghost use Rattle.calls.specs.Rewriting.{RewritesBy};
+ghost use Rattle.plain.specs.Positions.{Hopped, setAt, entryAt, entriesAt, PartOf};
+ghost use Rattle.plain.specs.Output.{Put};
+ghost use Rattle.plain.specs.Rewriting.{hasMode, plainRules, Bare};
+
+// How a position is taken apart.
+enum Part {
+    // No record lies in its halves: every address of it is answered by `hop`.
+    Uniform {
+        hop: u8,
+    },
+    // The records first..mid lie in its left half, mid..hi in its right half, which begins at the address `right`. What they do not answer `hop` does.
+    Halves {
+        hop: u8,
+        first: usize,
+        mid: usize,
+        right: u32,
+    },
+}
+
+// The hop of the position's own record, which is the one before `first`, or else `cover`.
+fn own_or(table: &[u8], lo: usize, first: usize, cover: u8) -> u8
+    requires { ⌜ first ≤ records (now table) ⌝ }
+    ensures { λ r. ⌜ (lo < first → r ≡ routeAt (now (table .entry)) lo .hop) × (first ≤ lo → r ≡ cover) ⌝ }
+{
+    if lo < first { hop_at(table, lo) } else { cover }
+}
+
+// Takes apart the position of this length at `addr`, whose run is lo..hi; `cover` is the hop of what no record of the run matches.
+fn part_of(table: &[u8], lo: usize, hi: usize, addr: u32, len: u8, cover: u8) -> Part
+    requires { ⌜ (len ≤ 32) × RunAt 32 (now table) lo hi (32 - len) addr ⌝ }
+    requires { ⌜ Hopped (now table) ⌝ }
+    ensures { λ r. ⌜ PartOf (now (table .entry)) lo hi len addr cover r ⌝ }
+{
+    let first = past_own(table, lo, hi, len);
+    let hop = own_or(table, lo, first, cover);
+    if first == hi {
+        return Part::Uniform { hop };
+    }
+    let right = right_half(addr, len);
+    let mid = split(table, first, hi, right);
+    Part::Halves {
+        hop,
+        first,
+        mid,
+        right,
+    }
+}
+
+// The candidate set of the position: that of its one answer, or those of its halves combined.
+fn set_of(table: &[u8], lo: usize, hi: usize, addr: u32, len: u8, cover: u8) -> u64
+    requires { ⌜ (len ≤ 32) × RunAt 32 (now table) lo hi (32 - len) addr ⌝ }
+    requires { ⌜ Hopped (now table) ⌝ }
+    ensures { λ r. ⌜ ShowsSet r (setAt 32 (now (table .entry)) lo hi cover (32 - len) addr) ⌝ }
+{
+    match part_of(table, lo, hi, addr, len, cover) {
+        Part::Uniform { hop } => alone(hop),
+        Part::Halves {
+            hop,
+            first,
+            mid,
+            right,
+        } => {
+            let left = set_of(table, first, mid, addr, len + 1, hop);
+            combine(left, set_of(table, mid, hi, right, len + 1, hop))
+        }
+    }
+}
+
+// Writes the entry of a position with this set, if it gets one and there is room, and says how many it gets: a hole gets none, nor does a position whose
+// set has the hop assigned above; any other gets one with the smallest hop of its set.
+fn write_entry(set: u64, above: u8, addr: u32, len: u8, out: &mut [u8]) -> usize
+    requires { ⌜ len ≤ 32 ⌝ }
+    ensures { λ r. ⌜ ((S : Cand) → ShowsSet set S → Put (entryAt 32 S (32 - len) addr above) r (now (out .entry)) (now (out .exit))) ⌝ }
+{
+    if set == 0 {
+        return 0;
+    }
+    if has(set, above) {
+        return 0;
+    }
+    put_record(out, addr, len, smallest(set));
+    1
+}
+
+// Writes the entries of the position, then those of its left half, then those of its right half, where there is room, and says how many they are; `above`
+// is assigned above it.
+fn write(
+    table: &[u8],
+    lo: usize,
+    hi: usize,
+    addr: u32,
+    len: u8,
+    cover: u8,
+    above: u8,
+    out: &mut [u8],
+) -> usize
+    requires { ⌜ (len ≤ 32) × RunAt 32 (now table) lo hi (32 - len) addr ⌝ }
+    requires { ⌜ Hopped (now table) ⌝ }
+    ensures { λ r. ⌜ Put (entriesAt 32 (now (table .entry)) lo hi cover (32 - len) addr above) r (now (out .entry)) (now (out .exit)) ⌝ }
+{
+    let set = set_of(table, lo, hi, addr, len, cover);
+    let own = write_entry(set, above, addr, len, out);
+    match part_of(table, lo, hi, addr, len, cover) {
+        Part::Uniform { hop: _ } => own,
+        Part::Halves {
+            hop,
+            first,
+            mid,
+            right,
+        } => {
+            let taken = assign(set, above);
+            let at = past(own, out.len());
+            let left = write(table, first, mid, addr, len + 1, hop, taken, &mut out[at..]);
+            let done = own + left;
+            let at = past(done, out.len());
+            done + write(table, mid, hi, right, len + 1, hop, taken, &mut out[at..])
+        }
+    }
+}
+
+// Is the mode none that this engine has?
+fn no_mode(mode: u32) -> bool
+    ensures { λ r. ⌜ r ≡ not (hasMode mode) ⌝ }
+{
+    if mode == 1 {
+        return false;
+    }
+    if mode == 4 {
+        return false;
+    }
+    mode != 5
+}
+
+// The rewrite of a table that keeps the rules and has so many records. Where the output might be too short, a first walk into nothing counts the result's
+// records.
+fn rewrite_checked(table: &[u8], mode: u32, fill: u8, before: usize, output: &mut [u8]) -> Rewritten
+    requires { ⌜ hasMode mode ≡ true ⌝ }
+    requires { ⌜ Table 32 (routes (now table)) × (Hopped (now table) × Bare (now table) mode) ⌝ }
+    requires { ⌜ Fills mode fill ⌝ }
+    requires { ⌜ before ≡ records (now table) ⌝ }
+    ensures { λ r. ⌜ Finished (now (table .entry)) mode fill (now (output .entry)) r (now (output .exit)) ⌝ }
+{
+    if output.len() / 8 < most_records(mode, before) {
+        let mut nothing = [0u8; 0];
+        let count = write(table, 0, before, 0, 0, fill, NO_HOP, &mut nothing);
+        if output.len() / 8 < count {
+            return Rewritten::Refused {
+                number: 11,
+                index: 0,
+            };
+        }
+    }
+    let written = write(table, 0, before, 0, 0, fill, NO_HOP, output);
+    Rewritten::Records {
+        count: written,
+        change: (written as i64) - (before as i64),
+    }
+}
+
+// Rewrites a table in mode 1, 4 or 5 into the output: the number of records written from its start, and how many more they are than the table's; or a
+// refusal. Mode 5 gives the default to what has no route. Mode 1 is mode 4 on the members of a set, whose hops are 0.
+pub fn rewrite(table: &[u8], mode: u32, default: u32, output: &mut [u8]) -> Rewritten
+    ensures { λ r. ⌜ RewritesBy (plainRules (now (table .entry)) mode default (length (now (output .entry)))) (now (table .entry)) mode default (now (output .entry)) r (now (output .exit)) ⌝ }
+{
+    if no_mode(mode) {
+        return Rewritten::Refused {
+            number: 1,
+            index: 0,
+        };
+    }
+    if no_hop(mode, default) {
+        return Rewritten::Refused {
+            number: 2,
+            index: 0,
+        };
+    }
+    match check_table(table, mode == 1) {
+        Checked::Refused { number, index } => Rewritten::Refused { number, index },
+        Checked::Valid(records) => {
+            rewrite_checked(table, mode, fill_of(mode, default), records, output)
+        }
+    }
+}

@@ -144,31 +144,12 @@ fn write(
             mid,
             right,
         } => {
-            let assigned = assign(set, above);
+            let taken = assign(set, above);
             let at = past(own, out.len());
-            let left = write(
-                table,
-                first,
-                mid,
-                addr,
-                len + 1,
-                hop,
-                assigned,
-                &mut out[at..],
-            );
+            let left = write(table, first, mid, addr, len + 1, hop, taken, &mut out[at..]);
             let done = own + left;
             let at = past(done, out.len());
-            done
-                + write(
-                    table,
-                    mid,
-                    hi,
-                    right,
-                    len + 1,
-                    hop,
-                    assigned,
-                    &mut out[at..],
-                )
+            done + write(table, mid, hi, right, len + 1, hop, taken, &mut out[at..])
         }
     }
 }

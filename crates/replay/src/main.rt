@@ -4,13 +4,8 @@
 // and `main`, it is proved that they are safe and end: no contract can say what was read and what was written, which runs show.
 
 use libc::STDIN_FILENO;
-use records::join4;
 use replaying::Turn;
-use replaying::call_of;
-use replaying::cases::keep_answer;
-use replaying::cases::listed_turn;
-use replaying::cases::plain_turn;
-use replaying::form_of;
+use replaying::cases::case_turn;
 use replaying::join2;
 use replaying::last_line;
 use replaying::send;
@@ -43,29 +38,7 @@ fn turn(table: &mut [u8], output: &mut [u8], work: &mut [u32], at: usize, kept: 
     if io::read_full(STDIN_FILENO, &mut table[..size]) < size {
         return last_line(b"case cut short\n", at, kept);
     }
-    let call = call_of(head[0]);
-    if 5 < call {
-        return last_line(b"no such call\n", at, kept);
-    }
-    let asked = join4(head[8], head[9], head[10], head[11]) as usize;
-    if call == 4 {
-        return listed_turn(asked, &table[..size], form_of(head[0]), output, at, kept);
-    }
-    if call == 5 {
-        let end = plain_turn(&head, &table[..size], output, at, kept);
-        return Turn {
-            at: end,
-            more: true,
-        };
-    }
-    if 824480 < asked {
-        return last_line(b"work room too large\n", at, kept);
-    }
-    let end = keep_answer(&head, &table[..size], output, work, at, kept);
-    Turn {
-        at: end,
-        more: true,
-    }
+    case_turn(&head, &table[..size], output, work, at, kept)
 }
 
 // A proved loop has to end, so the turns are counted down from a number that no input uses up.

@@ -240,3 +240,41 @@ pub fn keep_answer(
     }
     keep_held(table, form, at, kept)
 }
+
+// The turn of a case that was read whole: its answer, or the line that ends the run.
+pub fn case_turn(
+    head: &[u8; 16],
+    table: &[u8],
+    output: &mut [u8],
+    work: &mut [u32],
+    at: usize,
+    kept: &mut [u8],
+) -> Turn
+    requires { ⌜ 262144 ≡ length (now output) ⌝ }
+    requires { ⌜ 824480 ≡ length (now work) ⌝ }
+    requires { ⌜ at ≤ length (now kept) ⌝ }
+    requires { ⌜ 1048576 ≤ length (now kept) ⌝ }
+    ensures { λ r. ⌜ r .at ≤ length (now (kept .entry)) ⌝ }
+{
+    let call = call_of(head[0]);
+    if 5 < call {
+        return last_line(b"no such call\n", at, kept);
+    }
+    let asked = join4(head[8], head[9], head[10], head[11]) as usize;
+    if call == 4 {
+        return listed_turn(asked, table, form_of(head[0]), output, at, kept);
+    }
+    if call == 5 {
+        return Turn {
+            at: plain_turn(head, table, output, at, kept),
+            more: true,
+        };
+    }
+    if 824480 < asked {
+        return last_line(b"work room too large\n", at, kept);
+    }
+    Turn {
+        at: keep_answer(head, table, output, work, at, kept),
+        more: true,
+    }
+}

@@ -46,7 +46,7 @@ int main(void)
     uint64_t count = 0, index = 0;
     int64_t change = 0;
     for (; times > 0; times--)
-        refusal = suovvamet_rewrite(table, length, head[3], head[4], output, sizeof output, work, words, &count, &change, &index);
+        refusal = suovvamet_rewrite(table, length, 0, head[3], head[4], output, sizeof output, work, words, &count, &change, &index);
     if (refusal != SUOVVAMET_ANSWERED) {
         print("refused ");
         print_number(refusal);

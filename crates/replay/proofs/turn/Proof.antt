@@ -1,226 +1,183 @@
+-- `turn` is safe and ends. Assumes nothing.
+use Prim.Native.Nat.{ℕ, _≤_}
+use mathlib.Core.Path.{_≡_}
+use mathlib.Core.List.{List, _++_}
+use native.Mathlib.Omega.{arith}
+use lib.ListN.{length, take, drop, length-append, length-take, length-drop}
 use borrow.Author.Needs.{needs}
 use Rattle.replay.proofs.turn.Statement.{statement}
 use Rattle.replay.proofs.turn.Tie as tie
-use Rattle.replay.proofs.turn.Reads as reads
-use Rattle.replay.proofs.turn.Lts as lts
-use Rattle.io.proofs.read_full.Reads as read-full-reads
-use Rattle.records.proofs.join4.Reads as join4-reads
-use Rattle.replaying.proofs.call_of.Reads as call-of-reads
-use Rattle.replaying.proofs.cases.keep_answer.Reads as keep-answer-reads
-use Rattle.replaying.proofs.cases.listed_turn.Reads as listed-turn-reads
-use Rattle.replaying.proofs.form_of.Reads as form-of-reads
-use Rattle.replaying.proofs.join2.Reads as join2-reads
-use Rattle.replaying.proofs.last_line.Reads as last-line-reads
 
--- src/main.rt:31:43
+-- The part of a table that was read has as many bytes as were asked for.
+read-part : (n : ℕ) (table part : List ℕ) → n ≤ length table → length part ≡ length (take n table) → n ≡ length (take n (part ++ drop n table))
+read-part n table part fits same =
+    let size = length-take n table in
+    simp (length-take, length-append, length-drop) (omega arith)
+
 slice-aggregate-read-full : tie.Need-slice-aggregate-read-full
 slice-aggregate-read-full c = search needs
 
--- src/main.rt:31:9
 read-full-requires : tie.Need-read-full-requires
 read-full-requires c κs = search needs
 
--- src/main.rt:33:9
 returns : tie.Need-returns
 returns c = search needs
 
--- src/main.rt:39:26
 slice-aggregate-last-line : tie.Need-slice-aggregate-last-line
 slice-aggregate-last-line c = search needs
 
--- src/main.rt:39:9
 last-line-requires : tie.Need-last-line-requires
 last-line-requires c κs = search needs
 
--- src/main.rt:39:9
 same-length : tie.Need-same-length
 same-length c = search needs
 
--- src/main.rt:39:9
 returns-2 : tie.Need-returns-2
 returns-2 c = search needs
 
--- src/main.rt:41:22
 array-read-join2 : tie.Need-array-read-join2
 array-read-join2 c = search needs
 
--- src/main.rt:41:32
 array-read-join2-2 : tie.Need-array-read-join2-2
 array-read-join2-2 c = search needs
 
--- src/main.rt:41:9
 join2-requires : tie.Need-join2-requires
 join2-requires c κs = search needs
 
--- src/main.rt:42:36
 slice-relend-prefix-read-full : tie.Need-slice-relend-prefix-read-full
 slice-relend-prefix-read-full c = search needs
 
--- src/main.rt:42:36
 slice-aggregate-read-full-2 : tie.Need-slice-aggregate-read-full-2
-slice-aggregate-read-full-2 c = ?
+slice-aggregate-read-full-2 c = simp length-take (omega arith)
 
--- src/main.rt:42:8
 read-full-requires-2 : tie.Need-read-full-requires-2
 read-full-requires-2 c κs = search needs
 
--- src/main.rt:43:26
 slice-aggregate-last-line-2 : tie.Need-slice-aggregate-last-line-2
 slice-aggregate-last-line-2 c = search needs
 
--- src/main.rt:43:9
 last-line-requires-2 : tie.Need-last-line-requires-2
 last-line-requires-2 c κs = search needs
 
--- src/main.rt:43:9
 same-length-2 : tie.Need-same-length-2
 same-length-2 c = search needs
 
--- src/main.rt:43:9
 same-length-3 : tie.Need-same-length-3
 same-length-3 c = search needs
 
--- src/main.rt:43:9
 returns-3 : tie.Need-returns-3
 returns-3 c = search needs
 
--- src/main.rt:45:24
 array-read-call-of : tie.Need-array-read-call-of
 array-read-call-of c = search needs
 
--- src/main.rt:45:9
 call-of-requires : tie.Need-call-of-requires
 call-of-requires c κs = search needs
 
--- src/main.rt:47:26
 slice-aggregate-last-line-3 : tie.Need-slice-aggregate-last-line-3
 slice-aggregate-last-line-3 c = search needs
 
--- src/main.rt:47:9
 last-line-requires-3 : tie.Need-last-line-requires-3
 last-line-requires-3 c κs = search needs
 
--- src/main.rt:47:9
 same-length-4 : tie.Need-same-length-4
 same-length-4 c = search needs
 
--- src/main.rt:47:9
 same-length-5 : tie.Need-same-length-5
 same-length-5 c = search needs
 
--- src/main.rt:47:9
 returns-4 : tie.Need-returns-4
 returns-4 c = search needs
 
--- src/main.rt:49:23
 array-read-join4 : tie.Need-array-read-join4
 array-read-join4 c = search needs
 
--- src/main.rt:49:32
 array-read-join4-2 : tie.Need-array-read-join4-2
 array-read-join4-2 c = search needs
 
--- src/main.rt:49:41
 array-read-join4-3 : tie.Need-array-read-join4-3
 array-read-join4-3 c = search needs
 
--- src/main.rt:49:51
 array-read-join4-4 : tie.Need-array-read-join4-4
 array-read-join4-4 c = search needs
 
--- src/main.rt:49:17
 join4-requires : tie.Need-join4-requires
 join4-requires c κs = search needs
 
--- src/main.rt:49:17
 cast-asked : tie.Need-cast-asked
 cast-asked c = search needs
 
--- src/main.rt:51:35
 slice-reshare-prefix-listed-turn : tie.Need-slice-reshare-prefix-listed-turn
 slice-reshare-prefix-listed-turn c = search needs
 
--- src/main.rt:51:35
 slice-aggregate-listed-turn : tie.Need-slice-aggregate-listed-turn
-slice-aggregate-listed-turn c = ?
+slice-aggregate-listed-turn c =
+    let start = c .before .before .before .before .before .before .before .before .before .before .before .before .before .before .before .before .before .before .before .before in
+    let size = c .before .before .before .before .before .before .before .before .before .before .join2 .ensures .1 in
+    read-part (c .before .before .before .before .before .before .before .before .before .before .join2 .result) (start .args .table .now) (c .before .before .before .before .before .before .before .before .read-full2 .last .1 .0) (omega (arith, size, start .pre .0))
+    (c .before .before .before .before .before .before .before .before .read-full2 .kept .1 .0)
 
--- src/main.rt:51:59
 array-read-form-of : tie.Need-array-read-form-of
 array-read-form-of c = search needs
 
--- src/main.rt:51:51
 form-of-requires : tie.Need-form-of-requires
 form-of-requires c κs = search needs
 
--- src/main.rt:51:9
 listed-turn-requires : tie.Need-listed-turn-requires
 listed-turn-requires c κs = search needs
 
--- src/main.rt:51:9
 same-length-6 : tie.Need-same-length-6
 same-length-6 c = search needs
 
--- src/main.rt:51:9
 same-length-7 : tie.Need-same-length-7
 same-length-7 c = search needs
 
--- src/main.rt:51:9
 same-length-8 : tie.Need-same-length-8
 same-length-8 c = search needs
 
--- src/main.rt:51:9
 returns-5 : tie.Need-returns-5
 returns-5 c = search needs
 
--- src/main.rt:54:26
 slice-aggregate-last-line-4 : tie.Need-slice-aggregate-last-line-4
 slice-aggregate-last-line-4 c = search needs
 
--- src/main.rt:54:9
 last-line-requires-4 : tie.Need-last-line-requires-4
 last-line-requires-4 c κs = search needs
 
--- src/main.rt:54:9
 same-length-9 : tie.Need-same-length-9
 same-length-9 c = search needs
 
--- src/main.rt:54:9
 same-length-10 : tie.Need-same-length-10
 same-length-10 c = search needs
 
--- src/main.rt:54:9
 returns-6 : tie.Need-returns-6
 returns-6 c = search needs
 
--- src/main.rt:56:34
 slice-reshare-prefix-keep-answer : tie.Need-slice-reshare-prefix-keep-answer
 slice-reshare-prefix-keep-answer c = search needs
 
--- src/main.rt:56:34
 slice-aggregate-keep-answer : tie.Need-slice-aggregate-keep-answer
-slice-aggregate-keep-answer c = ?
+slice-aggregate-keep-answer c =
+    let start = c .before .before .before .before .before .before .before .before .before .before .before .before .before .before .before .before .before .before .before .before .before .before in
+    let size = c .before .before .before .before .before .before .before .before .before .before .before .before .join2 .ensures .1 in
+    read-part (c .before .before .before .before .before .before .before .before .before .before .before .before .join2 .result) (start .args .table .now) (c .before .before .before .before .before .before .before .before .before .before .read-full2 .last .1 .0) (omega (arith, size, start .pre .0))
+    (c .before .before .before .before .before .before .before .before .before .before .read-full2 .kept .1 .0)
 
--- src/main.rt:56:9
 keep-answer-requires : tie.Need-keep-answer-requires
 keep-answer-requires c κs = search needs
 
--- src/main.rt:22:1
 same-length-11 : tie.Need-same-length-11
 same-length-11 c = search needs
 
--- src/main.rt:22:1
 same-length-12 : tie.Need-same-length-12
 same-length-12 c = search needs
 
--- src/main.rt:22:1
 same-length-13 : tie.Need-same-length-13
 same-length-13 c = search needs
 
--- src/main.rt:22:1
 same-length-14 : tie.Need-same-length-14
 same-length-14 c = search needs
 
--- src/main.rt:22:1
 returns-7 : tie.Need-returns-7
 returns-7 c = search needs
 

@@ -79,7 +79,8 @@ changes =
     ∷ pos 1
     ∷ []
 
--- A case's call, under either choice on host bits: whatever satisfies the statement is the expected records with the expected change, the rest of the output as it was.
+-- A case's call, under either choice on host bits: whatever satisfies the statement is the expected records with the expected change, the rest of the
+-- output as it was.
 abbrev pub CaseAnswered : Case → ℤ → Type 0
 CaseAnswered c change =
     (form : Form) (o : List ℕ) (words : ℕ) (r : Rewritten) (o′ w′ : List ℕ) → 8200 ≤ length o → 16384 ≤ words

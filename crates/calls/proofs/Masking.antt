@@ -1,15 +1,13 @@
 -- Host bits in a rewrite and in the cover query: an answer under the strict choice is the default's wherever it is not refused by 6, and the masked bytes of
 -- an accepted table are answered as the table. Assumes of a table, where it says so, that its elements are bytes.
-use mathlib.Core.Path.{_≡_, refl, sym, ap, ap₂, subst, _∙_}
+use mathlib.Core.Path.{_≡_, sym, ap, ap₂, subst, _∙_}
 use mathlib.Core.Bool.{Bool, true, not, _||_, _&&_}
 use mathlib.Core.List.{List, [], _∷_, _++_}
 use Prim.Native.Nat.{ℕ, _*_, _/_}
-use native.Mathlib.Omega.{arith}
 use lib.Dec.{eqb, leb}
 use lib.ListN.{length}
-use Rattle.theory.specs.Routes.{Route}
 use Rattle.theory.specs.Results.{result, smallest}
-use Rattle.refusals.specs.Rules.{Rule, rule, Reply, gives, refuses, judge}
+use Rattle.refusals.specs.Rules.{Rule, rule, judge}
 use Rattle.refusals.proofs.Waived.{waived, waived-append, waived-judge, waived-answer}
 use Rattle.records.specs.Wire.{records, routes, Bytes, maskedBytes}
 use Rattle.records.specs.declared.Form.{Form}
@@ -19,12 +17,12 @@ use Rattle.table.specs.Conditions.{Accepted}
 use Rattle.table.proofs.Masking.{strict-waived, masked-routes, masked-length, masked-rules}
 use Rattle.nodecount.specs.Nodes.{nodes}
 use Rattle.calls.specs.declared.Rewritten.{Rewritten}
-use Rattle.calls.specs.declared.Rewritten.the-variants.{Records, Refused}
+use Rattle.calls.specs.declared.Rewritten.the-variants.{Refused}
 use Rattle.calls.specs.declared.Covers.{Covers}
 use Rattle.calls.specs.declared.Covers.the-variants.{Refused as NotAnswered}
 use Rattle.calls.specs.Covering.{coverRules, coveredBy, coversSays, coverReply, Queried}
-use Rattle.calls.specs.Rewriting.{modeOf, resultOf, takesSet, rewriteRules, replyBy, rewriteReply, writtenOf, outputOf, rewrittenSays, RewritesBy, Rewrites}
-use Rattle.calls.proofs.Settled.{rewritten-same, covers-same, rewrite-by-settled, rewrite-settled, covers-settled}
+use Rattle.calls.specs.Rewriting.{modeOf, resultOf, takesSet, rewriteRules, replyBy, rewriteReply, writtenOf, outputOf, RewritesBy, Rewrites}
+use Rattle.calls.proofs.Settled.{rewritten-same, covers-same, rewrite-settled}
 
 -- ---- The strict choice. A rewrite by any engine's rules, and by the same with number 6 waived.
 module _ (rules : List Rule) (t : List ℕ) (mode default : ℕ) (o : List ℕ) (r : Rewritten) (o′ : List ℕ) (one : RewritesBy rules t mode default o r o′) where

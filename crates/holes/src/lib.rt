@@ -101,8 +101,8 @@ fn fits(table: &[u8], records: usize, room: usize) -> bool
     count(table, 0, records, 0, 0) <= room
 }
 
-// Lists the holes of a map's table, read by the form, into the output, as records with byte 5 zero in table order: the number of records written from its start, or the refusal
-// (3 to 8, then 11).
+// Lists the holes of a map's table, read by the form, into the output, as records with byte 5 zero in table order: the number of records written
+// from its start, or the refusal (3 to 8, then 11).
 pub fn unrouted(table: &[u8], form: Form, output: &mut [u8]) -> Listed
     ensures { λ r. ⌜ Lists form (now (table .entry)) (now (output .entry)) r (now (output .exit)) ⌝ }
 {

@@ -1,4 +1,5 @@
--- The statements of the functions for C: for the table read as the flags say there is an answer that satisfies the call's own statement, and the numbers are those of this answer.
+-- The statements of the functions for C: for the table, read as the flags say, there is an answer that satisfies the call's own statement, and the numbers
+-- are those of this answer.
 use Prim.Native.Nat.{ℕ}
 use mathlib.Core.Path.{_≡_}
 use mathlib.Core.List.{List}

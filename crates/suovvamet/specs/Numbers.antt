@@ -1,5 +1,5 @@
--- The flags of the calls, and their answers, in numbers. The count and the change of a rewrite are `countOf` and `changeOf` of the crate calls, the count of a list of what
--- has no route is `listedCount` of the crate holes.
+-- The flags of the calls, and their answers, in numbers. The count and the change of a rewrite are `countOf` and `changeOf` of the crate calls, the count
+-- of a list of what has no route is `listedCount` of the crate holes.
 use Prim.Native.Nat.{ℕ, _%_}
 use Rattle.refusals.specs.Rules.{Reply, gives, refuses}
 use Rattle.records.specs.declared.Form.{Form}

@@ -1,5 +1,5 @@
--- Any call that judges a table, of a set or of a map and read by a form, and nothing else: `says` is what its answers say, `r` its answer, `a` the value that it gives for an
--- accepted table. Assumes nothing.
+-- Any call that judges a table, of a set or of a map and read by a form, and nothing else: `says` is what its answers say, `r` its answer, `a` the
+-- value that it gives for an accepted table. Assumes nothing.
 use mathlib.Core.Path.{_≡_}
 use mathlib.Core.Bool.{Bool}
 use mathlib.Core.List.{List}

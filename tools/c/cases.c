@@ -288,7 +288,7 @@ static const char *run(void)
         size_t words = number(header + 8, 4), room = number(header + 12, 2);
         if (call == 4 && words > MOST_LIST)
             return "output too large";
-        if (header[0] < 4 && words > SUOVVAMET_MOST_WORK)
+        if (call < 4 && words > SUOVVAMET_MOST_WORK)
             return "work room too large";
         for (size_t i = 0; i < around; i++)
             kept[i] = table_room[i];

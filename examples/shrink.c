@@ -44,9 +44,9 @@ int main(int argc, char **argv)
     int is_set = mode == SUOVVAMET_SET || mode == SUOVVAMET_CONSISTENT_SET;
     uint64_t words, count, index;
     int64_t change;
-    uint32_t refusal = suovvamet_work_words(table, length, is_set, &words, &index); /* never more than SUOVVAMET_MOST_WORK */
+    uint32_t refusal = suovvamet_work_words(table, length, 0, is_set, &words, &index); /* never more than SUOVVAMET_MOST_WORK */
     if (refusal == SUOVVAMET_ANSWERED)
-        refusal = suovvamet_rewrite(table, length, mode, 0, output, sizeof output, work, words, &count, &change, &index);
+        refusal = suovvamet_rewrite(table, length, 0, mode, 0, output, sizeof output, work, words, &count, &change, &index);
     if (refusal != SUOVVAMET_ANSWERED) {
         printf("refused %u at %llu\n", (unsigned)refusal, (unsigned long long)index);
         fprintf(stderr, "shrink: %s\n", suovvamet_refusal_text(refusal));

@@ -6,8 +6,9 @@
  * the same for every processor (docs/CORES.md).
  *
  * A table is records of 8 bytes (docs/WIRE.md): four octets of the address, the first one first, then the length (0 to 32), the next hop (0 to
- * 63 in a map, 0 in a set), and two bytes 0; no bit of the address is set past the length; strictly ascending by address, then length;
- * at most 1,024 records.
+ * 63 in a map, 0 in a set), and two bytes 0; strictly ascending by address, then length; at most 1,024 records. Bits of an address past the
+ * length are masked: 10.1.2.3/8 is 10.0.0.0/8, and the order is that of the masked addresses. Under the strict choice (SUOVVAMET_STRICT) a
+ * record that has such bits is refused instead.
  *
  * What the caller owes, in every call:
  *   - a pointer that is followed by a length points to that many elements (bytes of a table or an output, 32-bit words of a work room),
@@ -38,7 +39,13 @@ extern "C" {
 #endif
 
 /* One more whenever something that is declared or promised here changes. */
-#define SUOVVAMET_VERSION 4
+#define SUOVVAMET_VERSION 5
+
+/*
+ * How a table is read, in every call: 0, or SUOVVAMET_STRICT for the strict choice. The other bits of the flags are kept for later and ignored;
+ * leave them 0. What is not refused by SUOVVAMET_HOST_BITS under the strict choice is answered, set and written as without it.
+ */
+#define SUOVVAMET_STRICT 1u
 
 /* The refusals, in the order in which they are checked, but that 5 to 8 go record by record: the first bad record, its lowest number. */
 enum suovvamet_refusal {
@@ -48,9 +55,9 @@ enum suovvamet_refusal {
     SUOVVAMET_TABLE_LENGTH = 3,   /* the table's length is not a multiple of 8 */
     SUOVVAMET_RECORDS = 4,        /* the table has more than 1,024 records */
     SUOVVAMET_PREFIX_LENGTH = 5,  /* a record's length is above 32 */
-    SUOVVAMET_HOST_BITS = 6,      /* a record has bits of the address set past its length */
+    SUOVVAMET_HOST_BITS = 6,      /* a record has bits of the address set past its length, and the choice is strict */
     SUOVVAMET_HOP = 7,            /* a record's hop is above 63, or not 0 in a set, or one of its last two bytes is not 0 */
-    SUOVVAMET_ORDER = 8,          /* a record is not strictly after the one before it */
+    SUOVVAMET_ORDER = 8,          /* a record is not strictly after the one before it, both masked */
     SUOVVAMET_QUERY_LENGTH = 9,   /* the cover query's length is above 32 */
     SUOVVAMET_WORK_ROOM = 10,     /* the work room has fewer than 160 words for each node of the table */
     SUOVVAMET_OUTPUT = 11         /* the output has fewer than 8 bytes for each record of the result or the list */
@@ -81,7 +88,7 @@ enum suovvamet_mode {
  * that number less the number of the table's records. The bytes of the output after these records stay as they were, and after a refusal
  * all of them. default_hop is read in mode 5 alone. Refusals 1 to 8, 10 and 11.
  */
-uint32_t suovvamet_rewrite(const uint8_t *table, uint64_t table_length, uint32_t mode, uint32_t default_hop, uint8_t *output,
+uint32_t suovvamet_rewrite(const uint8_t *table, uint64_t table_length, uint32_t flags, uint32_t mode, uint32_t default_hop, uint8_t *output,
                            uint64_t output_length, uint32_t *work, uint64_t work_length, uint64_t *count, int64_t *change, uint64_t *index);
 
 /*
@@ -89,39 +96,39 @@ uint32_t suovvamet_rewrite(const uint8_t *table, uint64_t table_length, uint32_t
  * suovvamet_rewrite, lent any work room, does not refuse by 10, both give the same numbers and the same output in these modes. It takes no
  * memory but stack and, on large tables, more time (docs/PERFORMANCE.md). Refusals 1 to 8 and 11.
  */
-uint32_t suovvamet_rewrite_plain(const uint8_t *table, uint64_t table_length, uint32_t mode, uint32_t default_hop, uint8_t *output,
-                                 uint64_t output_length, uint64_t *count, int64_t *change, uint64_t *index);
+uint32_t suovvamet_rewrite_plain(const uint8_t *table, uint64_t table_length, uint32_t flags, uint32_t mode, uint32_t default_hop,
+                                 uint8_t *output, uint64_t output_length, uint64_t *count, int64_t *change, uint64_t *index);
 
 /*
  * Does the set cover the prefix of this address and length, each of its addresses lying under some member? Then *covered is 1, else 0.
  * The first octet of the address is the most significant; bits past the length are ignored. Refusals 3 to 10.
  */
-uint32_t suovvamet_covers(const uint8_t *table, uint64_t table_length, uint32_t address, uint32_t length, uint32_t *work,
+uint32_t suovvamet_covers(const uint8_t *table, uint64_t table_length, uint32_t flags, uint32_t address, uint32_t length, uint32_t *work,
                           uint64_t work_length, uint32_t *covered, uint64_t *index);
 
 /*
  * The longest match of the address in a map: *found is 1 and *hop and *length are those of the record, or, where no record matches, all
  * three are 0. Refusals 3 to 8.
  */
-uint32_t suovvamet_lookup(const uint8_t *table, uint64_t table_length, uint32_t address, uint32_t *found, uint32_t *hop,
+uint32_t suovvamet_lookup(const uint8_t *table, uint64_t table_length, uint32_t flags, uint32_t address, uint32_t *found, uint32_t *hop,
                           uint32_t *length, uint64_t *index);
 
 /* The number of addresses with a longest match in a map, 0 to 4294967296, in *addresses. Refusals 3 to 8. */
-uint32_t suovvamet_addresses_held(const uint8_t *table, uint64_t table_length, uint64_t *addresses, uint64_t *index);
+uint32_t suovvamet_addresses_held(const uint8_t *table, uint64_t table_length, uint32_t flags, uint64_t *addresses, uint64_t *index);
 
 /*
  * The words of work room that a rewrite of the table or a cover query needs, in *words: with as many no call refuses by number 10, with one less
  * each does. The table is read as a set where is_set is not 0, else as a map. Refusals 3 to 8.
  */
-uint32_t suovvamet_work_words(const uint8_t *table, uint64_t table_length, uint32_t is_set, uint64_t *words, uint64_t *index);
+uint32_t suovvamet_work_words(const uint8_t *table, uint64_t table_length, uint32_t flags, uint32_t is_set, uint64_t *words, uint64_t *index);
 
 /*
  * Lists what has no route in a map: the widest prefixes none of whose addresses has one, as records with hop 0 in the order of a table, in the
  * output from its start; *count is their number. The bytes of the output after these records stay as they were, and after a refusal all of
  * them. Refusals 3 to 8 and 11.
  */
-uint32_t suovvamet_unrouted(const uint8_t *table, uint64_t table_length, uint8_t *output, uint64_t output_length, uint64_t *count,
-                            uint64_t *index);
+uint32_t suovvamet_unrouted(const uint8_t *table, uint64_t table_length, uint32_t flags, uint8_t *output, uint64_t output_length,
+                            uint64_t *count, uint64_t *index);
 
 /* A refusal in words, for a person to read. It is C, no function of the library, and proved by nothing. */
 static inline const char *suovvamet_refusal_text(uint32_t refusal)

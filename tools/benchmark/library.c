@@ -50,12 +50,12 @@ int main(void)
     int64_t change = 0;
     for (; times > 0; times--)
         if (head[3] == LIST)
-            refusal = suovvamet_unrouted(table, length, output, SUOVVAMET_MOST_UNROUTED, &count, &index);
+            refusal = suovvamet_unrouted(table, length, 0, output, SUOVVAMET_MOST_UNROUTED, &count, &index);
         else if (head[3] >= PLAIN)
-            refusal = suovvamet_rewrite_plain(table, length, head[3] - PLAIN, head[4], output, SUOVVAMET_MOST_OUTPUT, &count, &change, &index);
+            refusal = suovvamet_rewrite_plain(table, length, 0, head[3] - PLAIN, head[4], output, SUOVVAMET_MOST_OUTPUT, &count, &change, &index);
         else
             refusal =
-                suovvamet_rewrite(table, length, head[3], head[4], output, SUOVVAMET_MOST_OUTPUT, work, words, &count, &change, &index);
+                suovvamet_rewrite(table, length, 0, head[3], head[4], output, SUOVVAMET_MOST_OUTPUT, work, words, &count, &change, &index);
     if (refusal != SUOVVAMET_ANSWERED) {
         print("refused ");
         print_number(refusal);

@@ -6,6 +6,9 @@
 #include "platform.h"
 #include "suovvamet.h"
 
+/* A case's first byte is its call, and so much more under the strict choice. */
+enum { STRICT_CASE = 128 };
+
 enum { HEADER = 16, MOST_BYTES = 65535, MOST_LIST = 262144, EDGE = 64, SHIFTS = 4 };
 
 static uint8_t table_room[EDGE + SHIFTS + MOST_BYTES + EDGE], kept[sizeof table_room], output_room[EDGE + SHIFTS + MOST_LIST + EDGE];
@@ -109,10 +112,10 @@ static int answered(uint32_t refusal, const struct guarded *index, int values_ze
  * Holds the words that the library says the table needs to what a call said that was lent so many: number 10 is due below them alone, and a
  * refused table is refused alike.
  */
-static void promise_words(size_t length, int is_set, size_t words, uint32_t refusal, uint64_t at)
+static void promise_words(size_t length, uint32_t flags, int is_set, size_t words, uint32_t refusal, uint64_t at)
 {
     struct guarded needed = unset, index = unset;
-    uint32_t own = suovvamet_work_words(table, length, is_set ? 0x100 : 0, &needed.value, &index.value);
+    uint32_t own = suovvamet_work_words(table, length, flags, is_set ? 0x100 : 0, &needed.value, &index.value);
     promise_guards(&needed);
     promise_guards(&index);
     if (own != SUOVVAMET_ANSWERED) {
@@ -168,18 +171,18 @@ static void promise_output(size_t count, size_t room)
 }
 
 /* By the engine over nodes, or by the plain one, which is lent no room. */
-static void rewrite(int plain, size_t length, uint32_t mode, uint32_t default_hop, size_t room, size_t words)
+static void rewrite(int plain, size_t length, uint32_t flags, uint32_t mode, uint32_t default_hop, size_t room, size_t words)
 {
     struct guarded count = unset, index = unset, change_room = unset;
     int64_t *change = (int64_t *)&change_room.value;
     fill_output(room);
     uint32_t refusal =
-        plain ? suovvamet_rewrite_plain(table, length, mode, default_hop, output, room, &count.value, change, &index.value)
-              : suovvamet_rewrite(table, length, mode, default_hop, output, room, work, words, &count.value, change, &index.value);
+        plain ? suovvamet_rewrite_plain(table, length, flags, mode, default_hop, output, room, &count.value, change, &index.value)
+              : suovvamet_rewrite(table, length, flags, mode, default_hop, output, room, work, words, &count.value, change, &index.value);
     promise_guards(&count);
     promise_guards(&change_room);
     if (!plain)
-        promise_words(length, mode <= SUOVVAMET_CONSISTENT_SET, words, refusal, index.value);
+        promise_words(length, flags, mode <= SUOVVAMET_CONSISTENT_SET, words, refusal, index.value);
     if (answered(refusal, &index, count.value == 0 && *change == 0)) {
         print_records((size_t)count.value, mode > SUOVVAMET_CONSISTENT_SET);
         print(*change < 0 ? "change -" : "change ");
@@ -189,24 +192,24 @@ static void rewrite(int plain, size_t length, uint32_t mode, uint32_t default_ho
     promise_output((size_t)count.value, room);
 }
 
-static void covers(size_t length, uint32_t address, uint32_t query, size_t words)
+static void covers(size_t length, uint32_t flags, uint32_t address, uint32_t query, size_t words)
 {
     struct guarded32 covered = unset32;
     struct guarded index = unset;
-    uint32_t refusal = suovvamet_covers(table, length, address, query, work, words, &covered.value, &index.value);
+    uint32_t refusal = suovvamet_covers(table, length, flags, address, query, work, words, &covered.value, &index.value);
     promise_guards32(&covered);
-    promise_words(length, 1, words, refusal, index.value);
+    promise_words(length, flags, 1, words, refusal, index.value);
     if (answered(refusal, &index, covered.value == 0)) {
         print(covered.value ? "covered\n" : "uncovered\n");
         promise(covered.value <= 1, "covered is no 0 or 1");
     }
 }
 
-static void lookup(size_t length, uint32_t address)
+static void lookup(size_t length, uint32_t flags, uint32_t address)
 {
     struct guarded32 found = unset32, hop = unset32, matched = unset32;
     struct guarded index = unset;
-    uint32_t refusal = suovvamet_lookup(table, length, address, &found.value, &hop.value, &matched.value, &index.value);
+    uint32_t refusal = suovvamet_lookup(table, length, flags, address, &found.value, &hop.value, &matched.value, &index.value);
     promise_guards32(&found);
     promise_guards32(&hop);
     promise_guards32(&matched);
@@ -225,10 +228,10 @@ static void lookup(size_t length, uint32_t address)
     }
 }
 
-static void addresses_held(size_t length)
+static void addresses_held(size_t length, uint32_t flags)
 {
     struct guarded addresses = unset, index = unset;
-    uint32_t refusal = suovvamet_addresses_held(table, length, &addresses.value, &index.value);
+    uint32_t refusal = suovvamet_addresses_held(table, length, flags, &addresses.value, &index.value);
     promise_guards(&addresses);
     if (answered(refusal, &index, addresses.value == 0)) {
         print("addresses ");
@@ -237,11 +240,11 @@ static void addresses_held(size_t length)
     }
 }
 
-static void unrouted(size_t length, size_t room)
+static void unrouted(size_t length, uint32_t flags, size_t room)
 {
     struct guarded count = unset, index = unset;
     fill_output(room);
-    uint32_t refusal = suovvamet_unrouted(table, length, output, room, &count.value, &index.value);
+    uint32_t refusal = suovvamet_unrouted(table, length, flags, output, room, &count.value, &index.value);
     promise_guards(&count);
     if (answered(refusal, &index, count.value == 0)) {
         print_records((size_t)count.value, 0);
@@ -277,26 +280,29 @@ static const char *run(void)
             table_room[i] = pattern(i);
         if (got < HEADER || platform_read(table, length) < length)
             return "case cut short";
-        if (header[0] > 5)
+        uint32_t call = header[0] % STRICT_CASE;
+        if (call > 5)
             return "no such call";
+        uint32_t flags = header[0] < STRICT_CASE ? 0 : SUOVVAMET_STRICT;
+        flags |= filler(at) & ~(uint32_t)SUOVVAMET_STRICT; /* bits that are ignored */
         size_t words = number(header + 8, 4), room = number(header + 12, 2);
-        if (header[0] == 4 && words > MOST_LIST)
+        if (call == 4 && words > MOST_LIST)
             return "output too large";
-        if (header[0] < 4 && words > SUOVVAMET_MOST_WORK)
+        if (call < 4 && words > SUOVVAMET_MOST_WORK)
             return "work room too large";
         for (size_t i = 0; i < around; i++)
             kept[i] = table_room[i];
-        int borrows = header[0] <= 1;
+        int borrows = call <= 1;
         size_t before = (size_t)(work - work_room), all = before + words + EDGE;
         for (size_t i = 0; borrows && i < all; i++)
             work_room[i] = filler(i);
-        switch (header[0]) {
-        case 0: rewrite(0, length, header[1], header[2], room, words); break;
-        case 1: covers(length, number(header + 4, 4), header[3], words); break;
-        case 2: lookup(length, number(header + 4, 4)); break;
-        case 3: addresses_held(length); break;
-        case 4: unrouted(length, words); break;
-        case 5: rewrite(1, length, header[1], header[2], room, 0); break;
+        switch (call) {
+        case 0: rewrite(0, length, flags, header[1], header[2], room, words); break;
+        case 1: covers(length, flags, number(header + 4, 4), header[3], words); break;
+        case 2: lookup(length, flags, number(header + 4, 4)); break;
+        case 3: addresses_held(length, flags); break;
+        case 4: unrouted(length, flags, words); break;
+        case 5: rewrite(1, length, flags, header[1], header[2], room, 0); break;
         }
         uint32_t left = 0, round = 0;
         for (size_t i = 0; borrows && i < all; i++)

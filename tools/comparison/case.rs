@@ -13,6 +13,9 @@ pub const UNROUTED: u8 = 4;
 /// A rewrite by the plain engine, which is lent no work room.
 pub const PLAIN: u8 = 5;
 
+/// Added to the call where host bits are refused, not masked.
+pub const STRICT: u8 = 128;
+
 /// The most words of work room that a case asks for: 160 for each of 5,153 nodes.
 pub const MOST_WORK: u32 = 824_480;
 
@@ -22,6 +25,7 @@ pub const MOST_LIST: u32 = 262_144;
 #[derive(Clone)]
 pub struct Case {
     pub call: u8,
+    pub strict: bool,
     pub mode: u8,
     pub default: u8,
     pub query_length: u8,
@@ -34,7 +38,7 @@ pub struct Case {
 
 impl Case {
     pub fn write(&self, to: &mut Vec<u8>) {
-        to.extend([self.call, self.mode, self.default, self.query_length]);
+        to.extend([self.call + if self.strict { STRICT } else { 0 }, self.mode, self.default, self.query_length]);
         to.extend(self.query.to_be_bytes());
         to.extend(self.work.to_be_bytes());
         to.extend(self.room.to_be_bytes());
@@ -54,7 +58,8 @@ impl Case {
             return Err("case cut short");
         }
         let case = Case {
-            call: head[0],
+            call: head[0] % STRICT,
+            strict: head[0] >= STRICT,
             mode: head[1],
             default: head[2],
             query_length: head[3],
@@ -87,6 +92,9 @@ impl Case {
             HELD => "addresses held".to_string(),
             _ => "list of what has no route".to_string(),
         };
+        if self.strict {
+            text.push_str(", strict");
+        }
         let _ = match self.call {
             UNROUTED => writeln!(text, "; {} bytes of output, {} bytes of table", self.work, self.table.len()),
             PLAIN => writeln!(text, "; {} bytes of output, {} bytes of table", self.room, self.table.len()),

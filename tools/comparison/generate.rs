@@ -286,6 +286,19 @@ fn ask(random: &mut Random, case: &mut Case, routes: &[Route]) {
     }
 }
 
+/// Sets host bits in some of the records, or in none or all.
+fn loosen(random: &mut Random, table: &mut [u8]) {
+    let loosened = random.pick(&[0, 10, 50, 100]);
+    for record in table.chunks_exact_mut(8) {
+        if random.chance(loosened) {
+            let any = random.address();
+            let tail = random.pick(&[1, any, u32::MAX]) & !mask((record[4] as u32).min(32));
+            let address = u32::from_be_bytes([record[0], record[1], record[2], record[3]]);
+            record[..4].copy_from_slice(&(address | tail).to_be_bytes());
+        }
+    }
+}
+
 pub const ROOMS: [&str; 7] = ["exact", "roomy", "one word short", "one byte short", "both one short", "no work room", "no output"];
 
 /// Sets the rooms of a case by what the model needs.
@@ -331,7 +344,7 @@ fn make_room(random: &mut Random, case: &mut Case, rooms: usize) {
 }
 
 fn blank(call: u8, mode: u8) -> Case {
-    Case { call, mode, default: 0, query_length: 0, query: 0, work: 0, room: 0, table: Vec::new() }
+    Case { call, strict: false, mode, default: 0, query_length: 0, query: 0, work: 0, room: 0, table: Vec::new() }
 }
 
 /// A call on an accepted table. What `rooms` says of a room that the call is not lent is passed over.
@@ -356,6 +369,10 @@ fn whole(random: &mut Random, call: u8, mode: u8, shape: usize, rooms: usize) ->
     }
     ask(random, &mut case, &routes);
     case.table = table_of(&routes);
+    case.strict = random.chance(25);
+    if !case.strict {
+        loosen(random, &mut case.table);
+    }
     make_room(random, &mut case, rooms);
     let rooms = if call == LOOKUP || call == HELD { "none lent" } else { ROOMS[rooms] };
     Made { case, shape: SHAPES[shape], rooms, damage: None }
@@ -397,8 +414,9 @@ pub fn pairs(call: u8) -> Vec<(u8, u8, Order)> {
     pairs
 }
 
-/// Damages record `at` so that it deserves `number`. Order (8) comes first where it is wanted, as it moves records.
-fn spoil(random: &mut Random, table: &mut [u8], at: usize, number: u8, is_set: bool) {
+/// Damages record `at` so that it deserves `number`. Order (8) comes first where it is wanted, as it moves records. A record that stands there
+/// twice may have other host bits, where they are masked.
+fn spoil(random: &mut Random, table: &mut [u8], at: usize, number: u8, is_set: bool, strict: bool) {
     let (from, to) = (8 * at, 8 * at + 8);
     match number {
         5 => table[from + 4] = random.pick(&[33, 33, 34, 64, 128, 255]),
@@ -408,7 +426,12 @@ fn spoil(random: &mut Random, table: &mut [u8], at: usize, number: u8, is_set: b
             1 => table[from + 6] = random.pick(&[1, 128, 255]),
             _ => table[from + 7] = random.pick(&[1, 128, 255]),
         },
-        _ if random.chance(50) => table.copy_within(from - 8..from, from),
+        _ if random.chance(50) => {
+            table.copy_within(from - 8..from, from);
+            if !strict {
+                loosen(random, &mut table[from..to]);
+            }
+        }
         _ => {
             for byte in from..to {
                 table.swap(byte - 8, byte);
@@ -456,6 +479,10 @@ fn damaged(random: &mut Random, call: u8, first: u8, second: u8, order: Order, s
         routes = without_hops(routes);
     }
     case.table = table_of(&routes);
+    case.strict = has(6) || random.chance(25);
+    if !case.strict {
+        loosen(random, &mut case.table);
+    }
     ask(random, &mut case, &routes);
     case.query_length = if has(9) { random.pick(&[33, 33, 34, 64, 255]) } else { random.pick(&[0, 8, 31, 32]) };
     if call == UNROUTED {
@@ -495,7 +522,7 @@ fn damaged(random: &mut Random, call: u8, first: u8, second: u8, order: Order, s
     faults.sort_by_key(|&(number, _)| number != 8);
     for (number, at) in faults {
         if (5..=8).contains(&number) {
-            spoil(random, &mut case.table, at, number, set);
+            spoil(random, &mut case.table, at, number, set, case.strict);
         }
     }
     if has(3) {
@@ -707,6 +734,19 @@ pub fn fixed() -> Vec<Made> {
     for (first, second, order) in pairs(UNROUTED) {
         if second == 11 && first != 4 {
             list.push(damaged(random, UNROUTED, first, second, order, Size::Few));
+        }
+    }
+    // Host bits, masked and refused: the octets of 10.0.0.0/8 in the wrong order; two records that mask to one prefix; records in order only once they
+    // are masked; every bit past the length set.
+    for text in ["0.0.0.10/8>1", "10.1.2.3/8>1 10.4.5.6/8>1", "10.9.0.0/8>1 10.1.0.0/16>2", "255.255.255.255/0>1 255.255.255.255/1>2"]
+    {
+        for call in [REWRITE, COVER, LOOKUP, HELD, UNROUTED] {
+            for strict in [false, true] {
+                let hops = if call == COVER { without_hops(prefixes(text)) } else { prefixes(text) };
+                let mut made = edge(call, 4, 0, 8, &table_of(&hops));
+                made.case.strict = strict;
+                list.push(made);
+            }
         }
     }
     // Every rewrite of the list by the plain engine.

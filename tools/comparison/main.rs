@@ -54,10 +54,12 @@ fn listed_by_crate(routes: &[Route], list: &[Route]) -> bool {
 
 /// The answer that is expected: refusals 1 to 9 and the list of what has no route by the model, all else by the crate.
 fn expected(case: &Case) -> Answer {
-    let routes = match model::accepted(case, Fault::None) {
-        Err((number, at)) => return Answer::Refused(number, at),
-        Ok(routes) => routes,
-    };
+    if let Err((number, at)) = model::accepted(case, Fault::None) {
+        return Answer::Refused(number, at);
+    }
+    // The records as they stand: the crate does its own masking.
+    let record = |r: &[u8]| (u32::from_be_bytes([r[0], r[1], r[2], r[3]]), r[4], r[5]);
+    let routes: Vec<Route> = case.table.chunks(8).map(record).collect();
     let work_short = || (case.work as usize) < 160 * oracle::nodes(&routes);
     match case.call {
         REWRITE if work_short() => Answer::Refused(10, 0),
@@ -163,6 +165,14 @@ impl Counts {
         if let Answer::Refused(number, _) = answer {
             self.add(format!("refusal  {number:2}"));
         }
+        let host_bits =
+            made.case.table.chunks_exact(8).any(|r| r[4] < 32 && u32::from_be_bytes([r[0], r[1], r[2], r[3]]) << r[4] != 0);
+        let reading = match (made.case.strict, host_bits) {
+            (true, _) => "strict",
+            (false, true) => "masked, with host bits",
+            (false, false) => "masked, with none",
+        };
+        self.add(format!("reading  {reading}"));
         self.add(format!("shape    {}", made.shape));
         self.add(format!("rooms    {}", made.rooms));
         if let Some(damage) = made.damage.as_ref().filter(|damage| damage.second != 0) {

@@ -41,10 +41,13 @@ pub enum Fault {
     HolesByLength,
     PlainTakesMode3,
     PlainNeedsWork,
+    HostBitsRefused,
+    OrderUnmasked,
+    RoutesUnmasked,
 }
 
 /// Each planted mistake and what it does wrong.
-pub const FAULTS: [(Fault, &str); 32] = [
+pub const FAULTS: [(Fault, &str); 35] = [
     (Fault::LargestHop, "modes 4, 5: the largest hop of a set instead of the smallest"),
     (Fault::HoleIsEmptySet, "mode 4: a hole taken as an empty set"),
     (Fault::AlwaysSmallest, "modes 4, 5: the smallest hop even where the hop above is in the set"),
@@ -63,7 +66,7 @@ pub const FAULTS: [(Fault, &str); 32] = [
     (Fault::AddressesWrap, "addresses held: counted in 32 bits"),
     (Fault::NodeShortOfFive, "work room: no node at the depth that equals a record's length"),
     (Fault::NodesNotShared, "work room: records share no node"),
-    (Fault::HostBitsMasked, "number 6: never given"),
+    (Fault::HostBitsMasked, "number 6: not given under the strict choice"),
     (Fault::EqualRecordsTaken, "number 8: a record equal to the one before is taken"),
     (Fault::OrderBeforeHop, "numbers 7 and 8: checked in the other order"),
     (Fault::LastBadRecord, "numbers 5 to 8: the last bad record named"),
@@ -77,6 +80,9 @@ pub const FAULTS: [(Fault, &str); 32] = [
     (Fault::HolesByLength, "list of what has no route: in the order of the lengths"),
     (Fault::PlainTakesMode3, "plain engine: mode 3 answered"),
     (Fault::PlainNeedsWork, "plain engine: number 10 given"),
+    (Fault::HostBitsRefused, "number 6: given without the strict choice"),
+    (Fault::OrderUnmasked, "number 8: judged on the address as it stands"),
+    (Fault::RoutesUnmasked, "the wire: host bits taken into the route"),
 ];
 
 /// The first `length` bits set.
@@ -93,14 +99,20 @@ fn address_of(record: &[u8], fault: Fault) -> u32 {
     u32::from_be_bytes(octets)
 }
 
+/// A record's address without the bits past its length.
+fn masked(record: &[u8], fault: Fault) -> u32 {
+    address_of(record, fault) & mask((record[4] as u32).min(32))
+}
+
 /// The lowest number against a record, whose index is not 0 where there is one before it.
-fn bad_record(record: &[u8], before: Option<&[u8]>, is_map: bool, fault: Fault) -> Option<u8> {
-    let address = |r: &[u8]| address_of(r, fault);
+fn bad_record(record: &[u8], before: Option<&[u8]>, is_map: bool, strict: bool, fault: Fault) -> Option<u8> {
+    let address = |r: &[u8]| if fault == Fault::OrderUnmasked { address_of(r, fault) } else { masked(r, fault) };
     let (here, length, hop) = (address(record), record[4], record[5]);
     if length > 32 {
         return Some(5);
     }
-    if here & !mask(length as u32) != 0 && fault != Fault::HostBitsMasked {
+    let host_bits = address_of(record, fault) & !mask(length as u32) != 0;
+    if host_bits && (strict || fault == Fault::HostBitsRefused) && fault != Fault::HostBitsMasked {
         return Some(6);
     }
     let most = if is_map || fault == Fault::SetTakesHops { 63 } else { 0 };
@@ -151,7 +163,7 @@ pub fn accepted(case: &Case, fault: Fault) -> Result<Vec<Route>, (u8, usize)> {
     let mut bad = None;
     for (i, record) in table.chunks(8).enumerate() {
         let before = if i == 0 { None } else { Some(&table[8 * i - 8..8 * i]) };
-        if let Some(number) = bad_record(record, before, is_map, fault) {
+        if let Some(number) = bad_record(record, before, is_map, case.strict, fault) {
             if bad.is_none() || fault == Fault::LastBadRecord {
                 bad = Some((number, i));
             }
@@ -166,7 +178,8 @@ pub fn accepted(case: &Case, fault: Fault) -> Result<Vec<Route>, (u8, usize)> {
     if case.call == COVER && case.query_length > 32 {
         return Err((9, 0));
     }
-    Ok(table.chunks(8).map(|r| (address_of(r, fault), r[4], r[5])).collect())
+    let address = |r: &[u8]| if fault == Fault::RoutesUnmasked { address_of(r, fault) } else { masked(r, fault) };
+    Ok(table.chunks(8).map(|r| (address(r), r[4], r[5])).collect())
 }
 
 /// The root and, for each record of length L, a node at each of the depths 5, 10, up to 5 * floor(L/5).

@@ -11,11 +11,13 @@ use borrow.Author.Tests.{leb-true, le-leb, lt-leb}
 use Rattle.theory.specs.Results.{startOf, throughout}
 use Rattle.theory.specs.Routes.{held, All, Aligned, Valid}
 use Rattle.theory.proofs.Maximal.{throughout-agree}
+use Rattle.words.proofs.PrefixLaws.{start-small}
 use Rattle.table.specs.Checking.{checkReply}
 use Rattle.table.specs.Conditions.{Lawful}
 use Rattle.nodecount.specs.Nodes.{nodes}
 use Rattle.refusals.specs.Rules.{Rule, rule, gives, refuses, judge}
 use Rattle.records.specs.Wire.{records, routes, Bytes}
+use Rattle.records.specs.declared.Form.{Form}
 use Rattle.table.specs.TableRules.{tableRules}
 use Rattle.refusals.proofs.Judged.{kept-next, broken-here, all-next, some-here}
 use Rattle.records.proofs.Reading.{length-routes}
@@ -32,7 +34,7 @@ use Rattle.aggregate.specs.Walks.{whole, Ready}
 
 -- ---- The rewrite.
 
-module _ (t : List ℕ) (mode default room words : ℕ) where
+module _ (form : Form) (t : List ℕ) (mode default room words : ℕ) where
   abbrev known : Bool
   known = leb 1 mode && leb mode 5
 
@@ -41,35 +43,35 @@ module _ (t : List ℕ) (mode default room words : ℕ) where
   rooms = rule 10 0 (leb (160 * nodes 32 (routes t)) words) ∷ rule 11 0 (leb (8 * length (resultOf t mode default)) room) ∷ []
 
   -- Number 1.
-  pub not-a-mode : (leb 1 mode && leb mode 5) ≡ false → rewriteReply t mode default room words ≡ refuses 1 0
+  pub not-a-mode : (leb 1 mode && leb mode 5) ≡ false → rewriteReply form t mode default room words ≡ refuses 1 0
   unfolding replyBy rewriteRules
-  not-a-mode e = refused-mode known t mode default rooms (resultOf t mode default) e
+  not-a-mode e = refused-mode known form t mode default rooms (resultOf t mode default) e
 
   module _ (is : (leb 1 mode && leb mode 5) ≡ true) where
     -- Number 2.
-    pub not-a-hop : (not (eqb mode 5) || leb default 63) ≡ false → rewriteReply t mode default room words ≡ refuses 2 0
+    pub not-a-hop : (not (eqb mode 5) || leb default 63) ≡ false → rewriteReply form t mode default room words ≡ refuses 2 0
     unfolding replyBy rewriteRules
-    not-a-hop e = refused-default known t mode default rooms (resultOf t mode default) is e
+    not-a-hop e = refused-default known form t mode default rooms (resultOf t mode default) is e
 
     module _ (ok : (not (eqb mode 5) || leb default 63) ≡ true) where
       -- Numbers 3 to 8.
-      pub not-a-table : {n i : ℕ} → checkReply (takesSet mode) t ≡ refuses n i → rewriteReply t mode default room words ≡ refuses n i
+      pub not-a-table : {n i : ℕ} → checkReply form (takesSet mode) t ≡ refuses n i → rewriteReply form t mode default room words ≡ refuses n i
       unfolding replyBy rewriteRules
-      not-a-table e = refused-table known t mode default rooms (resultOf t mode default) is ok e
+      not-a-table e = refused-table known form t mode default rooms (resultOf t mode default) is ok e
 
-      module _ {k : ℕ} (valid : checkReply (takesSet mode) t ≡ gives k) where
+      module _ {k : ℕ} (valid : checkReply form (takesSet mode) t ≡ gives k) where
         -- Past the table's rules the rooms decide.
-        past-table : rewriteReply t mode default room words
+        past-table : rewriteReply form t mode default room words
             ≡ judge (rule 10 0 (leb (160 * nodes 32 (routes t)) words) ∷ rule 11 0 (leb (8 * length (resultOf t mode default)) room) ∷ []) (resultOf t mode default)
         unfolding replyBy rewriteRules
-        past-table = last-decide known t mode default rooms (resultOf t mode default) is ok valid
+        past-table = last-decide known form t mode default rooms (resultOf t mode default) is ok valid
 
         -- Number 10.
-        pub short-room : words < 160 * nodes 32 (routes t) → rewriteReply t mode default room words ≡ refuses 10 0
+        pub short-room : words < 160 * nodes 32 (routes t) → rewriteReply form t mode default room words ≡ refuses 10 0
         short-room h = past-table ∙ broken-here _ 10 0 _ (lt-leb (160 * nodes 32 (routes t)) words h)
 
         -- Past it only the output's room does.
-        pub only-output : 160 * nodes 32 (routes t) ≤ words → rewriteReply t mode default room words ≡ lastReply t mode default room
+        pub only-output : 160 * nodes 32 (routes t) ≤ words → rewriteReply form t mode default room words ≡ lastReply t mode default room
         only-output h = past-table ∙ kept-next _ 10 0 _ (le-leb (160 * nodes 32 (routes t)) words h)
 
 -- Rule 1 says that the mode is one of the five.
@@ -78,10 +80,10 @@ mode-range mode e = let p = and-eq-true-iff (leb 1 mode) (leb mode 5) .0 e in (l
 
 -- ---- What a table that keeps the rules is good for.
 
-module _ (s : Bool) (t : List ℕ) (k : ℕ) (valid : checkReply s t ≡ gives k) where
+module _ (form : Form) (s : Bool) (t : List ℕ) (k : ℕ) (valid : checkReply form s t ≡ gives k) where
   -- Its records are those of the root.
   pub checked-node : Bytes t → Node t 0 (records t) 0 0
-  checked-node bytes = let lawful = checked-lawful s t k valid bytes in root-node t (lawful .table) (hops-below s (lawful .hops))
+  checked-node bytes = let lawful = checked-lawful form s t k valid bytes in root-node t (lawful .table) (hops-below s (lawful .hops))
 
 -- The walks can begin.
 pub ready : (mode : ℕ) (t : List ℕ) → Lawful (takesSet mode) (routes t) → Ready t mode
@@ -94,40 +96,36 @@ ready mode t lawful =
 
 -- ---- The cover query.
 
-module _ (t : List ℕ) (address len words : ℕ) where
+module _ (form : Form) (t : List ℕ) (address len words : ℕ) where
   -- Numbers 3 to 8.
-  pub query-table : {n i : ℕ} → checkReply true t ≡ refuses n i → coverReply t address len words ≡ refuses n i
+  pub query-table : {n i : ℕ} → checkReply form true t ≡ refuses n i → coverReply form t address len words ≡ refuses n i
   unfolding coverRules
-  query-table {n} {i} e = some-here _ (records t) n i (tableRules true t) _ e
+  query-table {n} {i} e = some-here _ (records t) n i (tableRules form true t) _ e
 
-  module _ {k : ℕ} (valid : checkReply true t ≡ gives k) where
+  module _ {k : ℕ} (valid : checkReply form true t ≡ gives k) where
     -- Past the set's rules the query's length and the room decide.
-    query-next : coverReply t address len words
+    query-next : coverReply form t address len words
         ≡ judge (rule 9 0 (leb len 32) ∷ rule 10 0 (leb (160 * nodes 32 (routes t)) words) ∷ []) (coveredBy t address len)
     unfolding coverRules
-    query-next = all-next _ (records t) (tableRules true t) _ valid
+    query-next = all-next _ (records t) (tableRules form true t) _ valid
 
     -- Number 9.
-    pub query-long : 32 < len → coverReply t address len words ≡ refuses 9 0
+    pub query-long : 32 < len → coverReply form t address len words ≡ refuses 9 0
     query-long h = query-next ∙ broken-here _ 9 0 _ (lt-leb len 32 h)
 
     module _ (short : len ≤ 32) where
       -- Number 10.
-      pub query-room : words < 160 * nodes 32 (routes t) → coverReply t address len words ≡ refuses 10 0
+      pub query-room : words < 160 * nodes 32 (routes t) → coverReply form t address len words ≡ refuses 10 0
       query-room h = query-next ∙ kept-next _ 9 0 _ (le-leb len 32 short) ∙ broken-here _ 10 0 _ (lt-leb (160 * nodes 32 (routes t)) words h)
 
       -- Past it the query is answered.
-      pub query-answered : 160 * nodes 32 (routes t) ≤ words → coverReply t address len words ≡ gives (coveredBy t address len)
+      pub query-answered : 160 * nodes 32 (routes t) ≤ words → coverReply form t address len words ≡ gives (coveredBy t address len)
       unfolding judge
       query-answered h = query-next ∙ rw (le-leb len 32 short, le-leb (160 * nodes 32 (routes t)) words h)
 
--- The start of a block is no more than the address,
-pub start-small : (n x : ℕ) → x < 2 ^ 32 → startOf n x < 2 ^ 32
-start-small n x h = omega (arith, div-mul-le-self x (2 ^ n))
-
--- and, wide, still an address.
+-- The wide query is an address.
 pub query-within : (address len : ℕ) → address < 2 ^ 32 → startOf (32 - len) address * 2 ^ spare < 2 ^ wide
-query-within address len h = let s = start-small (32 - len) address h in omega arith
+query-within address len h = let s = start-small 32 (32 - len) address h in omega arith
 
 module _ (t : List ℕ) (address len : ℕ) (short : len ≤ 32) where
   sizes : wide - len ≡ (32 - len) + spare

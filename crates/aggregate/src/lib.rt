@@ -10,10 +10,12 @@ use calls::engine::most_records;
 use calls::engine::no_hop;
 use cover::query::covers_in_aggregate;
 use nodecount::count_nodes;
+use records::Form;
 use table::Checked;
 use table::check_table;
 use walks::prepare;
 use walks::write;
+use words::prefix::masked;
 ghost use mathlib.Core.Path.{_≡_};
 ghost use mathlib.Core.Bool.{not, _&&_};
 ghost use Prim.Native.Nat.{_-_, _*_, _^_, _≤_};
@@ -85,12 +87,13 @@ fn rewrite_checked(
 // The rewrite, but for the room, in which it leaves words.
 fn rewrite_in(
     table: &[u8],
+    form: Form,
     mode: u32,
     default: u32,
     output: &mut [u8],
     work: &mut [u32],
 ) -> Rewritten
-    ensures { λ r. ⌜ RewritesIn (now (table .entry)) mode default (now (output .entry)) (length (now (work .entry))) r (now (output .exit)) ⌝ }
+    ensures { λ r. ⌜ RewritesIn form (now (table .entry)) mode default (now (output .entry)) (length (now (work .entry))) r (now (output .exit)) ⌝ }
 {
     if no_mode(mode) {
         return Rewritten::Refused {
@@ -104,7 +107,7 @@ fn rewrite_in(
             index: 0,
         };
     }
-    match check_table(table, mode <= 2) {
+    match check_table(table, form, mode <= 2) {
         Checked::Refused { number, index } => Rewritten::Refused { number, index },
         Checked::Valid(records) => {
             if work.len() / 160 < count_nodes(table) {
@@ -118,36 +121,36 @@ fn rewrite_in(
     }
 }
 
-// Rewrites a table in a mode, 1 to 5, into the output: the number of records written from its start, and how many more they are than the
+// Rewrites a table, read by the form, in a mode, 1 to 5, into the output: the number of records written from its start, and how many more they are than the
 // table's; or a refusal. Mode 5 gives the default to what has no route. The room is zero throughout afterwards.
 pub fn rewrite(
     table: &[u8],
+    form: Form,
     mode: u32,
     default: u32,
     output: &mut [u8],
     work: &mut [u32],
 ) -> Rewritten
-    ensures { λ r. ⌜ Rewrites (now (table .entry)) mode default (now (output .entry)) (length (now (work .entry))) r (now (output .exit)) (now (work .exit)) ⌝ }
+    ensures { λ r. ⌜ Rewrites form (now (table .entry)) mode default (now (output .entry)) (length (now (work .entry))) r (now (output .exit)) (now (work .exit)) ⌝ }
 {
-    let answer = rewrite_in(table, mode, default, output, work);
+    let answer = rewrite_in(table, form, mode, default, output, work);
     clear(work);
     answer
 }
 
 // The query as a wide address, without the bits past its length.
-fn masked(address: u32, len: usize) -> u64
+fn wide_query(address: u32, len: usize) -> u64
     requires { ⌜ len ≤ 32 ⌝ }
     ensures { λ r. ⌜ r ≡ startOf (32 - len) address * 2 ^ spare ⌝ }
 {
-    let below = 32 - len;
-    (((address as u64) >> below) << below) * 8
+    (masked(address, len as u8) as u64) * 8
 }
 
 // The cover query, for a room of so many words.
-fn covers_in(table: &[u8], address: u32, len: u32, room: usize) -> Covers
-    ensures { λ r. ⌜ coversSays r ≡ coverReply (now (table .entry)) address len room ⌝ }
+fn covers_in(table: &[u8], form: Form, address: u32, len: u32, room: usize) -> Covers
+    ensures { λ r. ⌜ coversSays r ≡ coverReply form (now (table .entry)) address len room ⌝ }
 {
-    match check_table(table, true) {
+    match check_table(table, form, true) {
         Checked::Refused { number, index } => Covers::Refused { number, index },
         Checked::Valid(records) => {
             if 32 < len {
@@ -163,7 +166,7 @@ fn covers_in(table: &[u8], address: u32, len: u32, room: usize) -> Covers
                 };
             }
             let n = len as usize;
-            if covers_in_aggregate(table, 0, records as u16, 0, 0, masked(address, n), n) {
+            if covers_in_aggregate(table, 0, records as u16, 0, 0, wide_query(address, n), n) {
                 Covers::Covered
             } else {
                 Covers::Uncovered
@@ -172,11 +175,11 @@ fn covers_in(table: &[u8], address: u32, len: u32, room: usize) -> Covers
     }
 }
 
-// Does the set cover every address of the prefix? Bits of the address past the length are ignored. The room is zero throughout afterwards.
-pub fn covers(table: &[u8], address: u32, len: u32, work: &mut [u32]) -> Covers
-    ensures { λ r. ⌜ Queried (now (table .entry)) address len (length (now (work .entry))) r (now (work .exit)) ⌝ }
+// Does the set, read by the form, cover every address of the prefix? Bits of the address past the length are ignored. The room is zero throughout afterwards.
+pub fn covers(table: &[u8], form: Form, address: u32, len: u32, work: &mut [u32]) -> Covers
+    ensures { λ r. ⌜ Queried form (now (table .entry)) address len (length (now (work .entry))) r (now (work .exit)) ⌝ }
 {
-    let answer = covers_in(table, address, len, work.len());
+    let answer = covers_in(table, form, address, len, work.len());
     clear(work);
     answer
 }

@@ -1,4 +1,5 @@
 // Rewrites one table again and again, by either engine, or lists what has no route in it, so that the time of a call can be measured (tools/bench).
+// Host bits are masked.
 //
 // Reads from standard input 8 bytes and then a table, at most 8,200 bytes of it. Numbers stand most significant byte first.
 //
@@ -15,6 +16,7 @@ use holes::Listed;
 use holes::unrouted;
 use libc::STDIN_FILENO;
 use libc::STDOUT_FILENO;
+use records::Form;
 ghost use Prim.Native.Nat.{_≤_};
 
 // The number of three bytes.
@@ -70,20 +72,20 @@ fn repeat(
 ) -> Rewritten {
     let mut left = more;
     while 0 < left {
-        rewrite(table, mode, default, output, work);
+        rewrite(table, Form { strict: false }, mode, default, output, work);
         left -= 1;
     }
-    rewrite(table, mode, default, output, work)
+    rewrite(table, Form { strict: false }, mode, default, output, work)
 }
 
 // The same by the plain engine.
 fn repeat_plain(more: u32, table: &[u8], mode: u32, default: u32, output: &mut [u8]) -> Rewritten {
     let mut left = more;
     while 0 < left {
-        plain::rewrite(table, mode, default, output);
+        plain::rewrite(table, Form { strict: false }, mode, default, output);
         left -= 1;
     }
-    plain::rewrite(table, mode, default, output)
+    plain::rewrite(table, Form { strict: false }, mode, default, output)
 }
 
 // How many words are lent of those asked for, where there are so many.
@@ -112,10 +114,10 @@ fn repeat_in(
 fn repeat_list(more: u32, table: &[u8], output: &mut [u8]) -> Listed {
     let mut left = more;
     while 0 < left {
-        unrouted(table, output);
+        unrouted(table, Form { strict: false }, output);
         left -= 1;
     }
-    unrouted(table, output)
+    unrouted(table, Form { strict: false }, output)
 }
 
 // The same in an output of its own, and the last answer as a line.

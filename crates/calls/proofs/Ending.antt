@@ -23,6 +23,7 @@ use Rattle.refusals.proofs.Judged.{gives-any, kept-next, broken-here, all-next,
 use Rattle.records.specs.Wire.{records, routes, Bytes, bytesOf, laid}
 use Rattle.records.proofs.Reading.{length-routes}
 use Rattle.records.proofs.Written.{length-bytes}
+use Rattle.records.specs.declared.Form.{Form}
 use Rattle.table.specs.Checking.{checkReply}
 use Rattle.table.specs.Conditions.{Lawful}
 use Rattle.table.specs.TableRules.{tableRules}
@@ -34,28 +35,28 @@ use Rattle.calls.specs.Rewriting.{modeOf, resultOf, takesSet, replyBy, w
 use Rattle.calls.proofs.Tested.{rulesWith}
 
 -- ---- The rules 1 to 8, where `known` says whether the engine has the mode and `last` are the rules past the table's.
-module _ (known : Bool) (t : List ℕ) (mode default : ℕ) (last : List Rule) {A : Type 0} (a : A) where
+module _ (known : Bool) (form : Form) (t : List ℕ) (mode default : ℕ) (last : List Rule) {A : Type 0} (a : A) where
   -- Number 1.
   pub refused-mode : known ≡ false
-      → judge (rulesWith known t mode default last) a ≡ refuses 1 0
+      → judge (rulesWith known form t mode default last) a ≡ refuses 1 0
   refused-mode e = broken-here a 1 0 _ e
 
   module _ (is : known ≡ true) where
     -- Number 2.
     pub refused-default : (not (eqb mode 5) || leb default 63) ≡ false
-        → judge (rulesWith known t mode default last) a ≡ refuses 2 0
+        → judge (rulesWith known form t mode default last) a ≡ refuses 2 0
     refused-default e = kept-next a 1 0 _ is ∙ broken-here a 2 0 _ e
 
     module _ (ok : (not (eqb mode 5) || leb default 63) ≡ true) where
       -- Numbers 3 to 8.
-      pub refused-table : {n i : ℕ} → checkReply (takesSet mode) t ≡ refuses n i
-          → judge (rulesWith known t mode default last) a ≡ refuses n i
-      refused-table {n} {i} e = kept-next a 1 0 _ is ∙ kept-next a 2 0 _ ok ∙ some-here a (records t) n i (tableRules (takesSet mode) t) last e
+      pub refused-table : {n i : ℕ} → checkReply form (takesSet mode) t ≡ refuses n i
+          → judge (rulesWith known form t mode default last) a ≡ refuses n i
+      refused-table {n} {i} e = kept-next a 1 0 _ is ∙ kept-next a 2 0 _ ok ∙ some-here a (records t) n i (tableRules form (takesSet mode) t) last e
 
       -- Past the table's rules the last decide.
-      pub last-decide : {k : ℕ} → checkReply (takesSet mode) t ≡ gives k
-          → judge (rulesWith known t mode default last) a ≡ judge last a
-      last-decide valid = kept-next a 1 0 _ is ∙ kept-next a 2 0 _ ok ∙ all-next a (records t) (tableRules (takesSet mode) t) last valid
+      pub last-decide : {k : ℕ} → checkReply form (takesSet mode) t ≡ gives k
+          → judge (rulesWith known form t mode default last) a ≡ judge last a
+      last-decide valid = kept-next a 1 0 _ is ∙ kept-next a 2 0 _ ok ∙ all-next a (records t) (tableRules form (takesSet mode) t) last valid
 
 module _ (rules : List Rule) (t : List ℕ) (mode default : ℕ) (o : List ℕ) where
   -- A refusal leaves the output.
@@ -112,14 +113,14 @@ pub default-hop : (mode default : ℕ) → (not (eqb mode 5) || leb default 63) 
 default-hop mode default e five = leb-true default 63 (rw (eq-eqb mode 5 five) at e)
 
 -- ---- What a table that keeps the rules is good for.
-module _ (s : Bool) (t : List ℕ) (k : ℕ) (valid : checkReply s t ≡ gives k) where
+module _ (form : Form) (s : Bool) (t : List ℕ) (k : ℕ) (valid : checkReply form s t ≡ gives k) where
   -- The check counts its records.
   pub checked-count : k ≡ records t
-  checked-count = let e = gives-any (tableRules s t) (records t) k (records t) valid in cc
+  checked-count = let e = gives-any (tableRules form s t) (records t) k (records t) valid in cc
 
   -- Its routes are lawful.
   pub checked-lawful : Bytes t → Lawful s (routes t)
-  checked-lawful bytes = accepted-table (records t) k s t bytes valid .0
+  checked-lawful bytes = accepted-table (records t) k form s t bytes valid .0
 
   -- They are at most 1,024.
   pub checked-few : Bytes t → k ≤ 1024

@@ -19,11 +19,12 @@ use Rattle.refusals.specs.Rules.{Rule, Reply, gives, refuses, judge}
 use Rattle.refusals.specs.Order.{First, None}
 use Rattle.refusals.proofs.Judged.{Broken, InOrder, gives-any, gives-exactly, refuses-exactly}
 use Rattle.records.specs.Wire.{records, routes, bytesOf, Bytes}
+use Rattle.records.specs.declared.Form.{Form}
 use Rattle.records.proofs.Written.{length-bytes, records-bytes, routes-bytes, bytes-small}
 use Rattle.table.specs.TableRules.{topHop}
 use Rattle.table.specs.Conditions.{Accepted, Lawful}
-use Rattle.table.proofs.Accepted.{not-refused, accepted}
-use Rattle.table.proofs.Tables.{accepted-table, table-accepted}
+use Rattle.table.proofs.Accepted.{not-refused}
+use Rattle.table.proofs.Tables.{accepted-table, accepted-written}
 use Rattle.calls.specs.declared.Rewritten.{Rewritten}
 use Rattle.calls.specs.declared.Rewritten.the-variants.{Records, Refused}
 use Rattle.calls.specs.Conditions.{Answerable, Guarded}
@@ -106,7 +107,7 @@ hop-kept (suc (suc (suc (suc (suc zero))))) d m f hops h (inr from) = hop-of (ta
 hop-kept (suc (suc (suc (suc (suc (suc n)))))) d m f hops h from = absurd (omega arith)
 
 -- ---- A table t, rewritten by an engine.
-module _ (rules : List Rule) (t : List ℕ) (mode default : ℕ) (o : List ℕ) (guarded : Guarded rules t mode default (length o)) (r : Rewritten) (o′ : List ℕ)
+module _ (form : Form) (rules : List Rule) (t : List ℕ) (mode default : ℕ) (o : List ℕ) (guarded : Guarded form rules t mode default (length o)) (r : Rewritten) (o′ : List ℕ)
     (ok : RewritesBy rules t mode default o r o′) where
   -- ---- Demand 2.
   -- An answer with records says that the reply is the result.
@@ -115,7 +116,7 @@ module _ (rules : List Rule) (t : List ℕ) (mode default : ℕ) (o : List ℕ) 
 
   -- It is the number of the result's records and the change, and the output has them from its start.
   pub by-records : (count : ℕ) (change : ℤ) → r ≡ Records count change
-      → Answerable t mode default (length o) × (count ≡ length (resultOf t mode default))
+      → Answerable form t mode default (length o) × (count ≡ length (resultOf t mode default))
       × (change ≡ pos (length (resultOf t mode default)) -ℤ pos (records t))
       × (o′ ≡ bytesOf (resultOf t mode default) ++ drop (8 * length (resultOf t mode default)) o)
   by-records count change e =
@@ -141,7 +142,7 @@ module _ (rules : List Rule) (t : List ℕ) (mode default : ℕ) (o : List ℕ) 
           kept (gives rs) h = let z : _≡_ {A = ℕ} 0 1 = cc in absurd (omega arith)
 
   module _ (count : ℕ) (change : ℤ) (answered : r ≡ Records count change) where
-    pub by-answerable : Answerable t mode default (length o)
+    pub by-answerable : Answerable form t mode default (length o)
     by-answerable = by-records count change answered .0
 
     pub by-counted : count ≡ length (resultOf t mode default)
@@ -160,7 +161,7 @@ module _ (rules : List Rule) (t : List ℕ) (mode default : ℕ) (o : List ℕ) 
       -- The table of bytes is one of routes, with hops in range.
       pub by-lawful : Lawful (takesSet mode) (routes t)
       by-lawful =
-          accepted-table (records t) (records t) (takesSet mode) t bytes (not-refused (takesSet mode) t (records t) (by-answerable .accepted)) .0
+          accepted-table (records t) (records t) form (takesSet mode) t bytes (not-refused form (takesSet mode) t (records t) (by-answerable .accepted)) .0
 
       -- So is the result.
       pub by-table : Table 32 (resultOf t mode default)
@@ -196,17 +197,16 @@ module _ (rules : List Rule) (t : List ℕ) (mode default : ℕ) (o : List ℕ) 
           below true k = omega arith
           below false k = omega arith
 
-      -- They are an accepted table again where they are at most 1,024.
-      pub by-output-accepted : count ≤ 1024 → Accepted (takesSet mode) (take (8 * count) o′)
-      by-output-accepted few =
+      -- They are an accepted table again, under either choice on host bits, where they are at most 1,024.
+      pub by-output-accepted : count ≤ 1024 → (other : Form) → Accepted other (takesSet mode) (take (8 * count) o′)
+      by-output-accepted few other =
           rw by-written
-          (accepted (takesSet mode) (bytesOf (resultOf t mode default)) count
-          (table-accepted count (takesSet mode) (resultOf t mode default)
+          (accepted-written other (takesSet mode) (resultOf t mode default)
           (record {
             table = by-table;
             hops = by-hops;
             few = let e = by-counted in omega arith;
-          })))
+          }))
 
       -- ---- Demand 3: rewriting again.
       -- Their result in the same mode is they themselves.
@@ -218,29 +218,29 @@ module _ (rules : List Rule) (t : List ℕ) (mode default : ℕ) (o : List ℕ) 
           ∙ result-again smallest smallest-chooses 32 (modeOf mode default) (by-lawful .table)
 
       -- They are answerable again where they are at most 1,024 and the output is long enough for them.
-      pub again-answerable : count ≤ 1024 → (room : ℕ) → 8 * count ≤ room → Answerable (take (8 * count) o′) mode default room
+      pub again-answerable : count ≤ 1024 → (room : ℕ) → 8 * count ≤ room → Answerable form (take (8 * count) o′) mode default room
       again-answerable few room fits =
           record {
             known-mode = by-answerable .known-mode;
             small-default = by-answerable .small-default;
-            accepted = by-output-accepted few;
+            accepted = by-output-accepted few form;
             enough-output = let e = by-counted in rw by-again (omega arith);
           }
 
 -- Rewritten again in their mode, by the same engine or another and without refusal, the records of an output are given back with change 0: as many records,
 -- and the same bytes from the output's start.
-pub again-by : (rules : List Rule) (t : List ℕ) (mode default : ℕ) (o : List ℕ) → Guarded rules t mode default (length o) → (count : ℕ) (change : ℤ) (o′ : List ℕ)
+pub again-by : (form : Form) (rules : List Rule) (t : List ℕ) (mode default : ℕ) (o : List ℕ) → Guarded form rules t mode default (length o) → (count : ℕ) (change : ℤ) (o′ : List ℕ)
     → RewritesBy rules t mode default o (Records count change) o′ → Bytes t
-    → (more : List Rule) (p : List ℕ) → Guarded more (take (8 * count) o′) mode default (length p) → (q : Rewritten) (p′ : List ℕ)
+    → (more : List Rule) (p : List ℕ) → Guarded form more (take (8 * count) o′) mode default (length p) → (q : Rewritten) (p′ : List ℕ)
     → RewritesBy more (take (8 * count) o′) mode default p q p′
     → (number : ℕ) (other : ℤ) → q ≡ Records number other → (q ≡ Records count (pos 0)) × (take (8 * count) p′ ≡ take (8 * count) o′)
-again-by rules t mode default o guarded count change o′ ok bytes more p guards q p′ b number other e =
-    let f = by-records more (take (8 * count) o′) mode default p guards q p′ b number other e in
-    let counted : count ≡ length (resultOf t mode default) = by-counted rules t mode default o guarded (Records count change) o′ ok count change refl in
+again-by form rules t mode default o guarded count change o′ ok bytes more p guards q p′ b number other e =
+    let f = by-records form more (take (8 * count) o′) mode default p guards q p′ b number other e in
+    let counted : count ≡ length (resultOf t mode default) = by-counted form rules t mode default o guarded (Records count change) o′ ok count change refl in
     let written : take (8 * count) o′ ≡ bytesOf (resultOf t mode default) =
-    by-written rules t mode default o guarded (Records count change) o′ ok count change refl in
+    by-written form rules t mode default o guarded (Records count change) o′ ok count change refl in
     let again : resultOf (take (8 * count) o′) mode default ≡ resultOf t mode default =
-    by-again rules t mode default o guarded (Records count change) o′ ok count change refl bytes in
+    by-again form rules t mode default o guarded (Records count change) o′ ok count change refl bytes in
     let size : length (resultOf (take (8 * count) o′) mode default) ≡ length (resultOf t mode default) = ap (λ (l : List Route). length l) again in
     let before : records (take (8 * count) o′) ≡ length (resultOf t mode default) =
     ap (λ (l : List ℕ). records l) written ∙ records-bytes (resultOf t mode default) in
@@ -249,42 +249,42 @@ again-by rules t mode default o guarded count change o′ ok bytes more p guards
     f .2 ∙ ap₂ (λ (a b : ℕ). pos a -ℤ pos b) size before ∙ +ℤ-invr (pos (length (resultOf t mode default))) in (
       e ∙ ap₂ Records en ec,
       ap (λ (n : ℕ). take (8 * n) p′) (sym en)
-          ∙ by-written more (take (8 * count) o′) mode default p guards q p′ b number other e ∙ ap bytesOf again ∙ sym written,
+          ∙ by-written form more (take (8 * count) o′) mode default p guards q p′ b number other e ∙ ap bytesOf again ∙ sym written,
     )
 
 -- ---- Demand 3: two tables t and s, each rewritten by an engine, the same or another, without refusal.
-module _ (rules : List Rule) (t : List ℕ) (bytes : Bytes t) (o : List ℕ) (count : ℕ) (change : ℤ) (o′ : List ℕ)
+module _ (form : Form) (rules : List Rule) (t : List ℕ) (bytes : Bytes t) (o : List ℕ) (count : ℕ) (change : ℤ) (o′ : List ℕ)
     (more : List Rule) (s : List ℕ) (small : Bytes s) (p : List ℕ) (number : ℕ) (other : ℤ) (p′ : List ℕ) where
   -- The same bytes are written exactly when the results are the same.
-  same-results-by : (mode d e : ℕ) → Guarded rules t mode d (length o) → RewritesBy rules t mode d o (Records count change) o′
-      → Guarded more s mode e (length p) → RewritesBy more s mode e p (Records number other) p′
+  same-results-by : (mode d e : ℕ) → Guarded form rules t mode d (length o) → RewritesBy rules t mode d o (Records count change) o′
+      → Guarded form more s mode e (length p) → RewritesBy more s mode e p (Records number other) p′
       → take (8 * count) o′ ≡ take (8 * number) p′ ↔ resultOf t mode d ≡ resultOf s mode e
   same-results-by mode d e g a h b =
-      let f = by-written rules t mode d o g (Records count change) o′ a count change refl in
-      let k = by-written more s mode e p h (Records number other) p′ b number other refl in
-      let u = by-table rules t mode d o g (Records count change) o′ a count change refl bytes .valid in
-      let v = by-table more s mode e p h (Records number other) p′ b number other refl small .valid in (
+      let f = by-written form rules t mode d o g (Records count change) o′ a count change refl in
+      let k = by-written form more s mode e p h (Records number other) p′ b number other refl in
+      let u = by-table form rules t mode d o g (Records count change) o′ a count change refl bytes .valid in
+      let v = by-table form more s mode e p h (Records number other) p′ b number other refl small .valid in (
         λ q. sym (routes-bytes (resultOf t mode d) u) ∙ ap routes (sym f ∙ q ∙ k) ∙ routes-bytes (resultOf s mode e) v,
         λ q. f ∙ ap bytesOf q ∙ sym k,
       )
 
   -- Mode 4: exactly when they send all addresses the same way, no route included.
-  pub drop-by : (d e : ℕ) → Guarded rules t 4 d (length o) → RewritesBy rules t 4 d o (Records count change) o′
-      → Guarded more s 4 e (length p) → RewritesBy more s 4 e p (Records number other) p′
+  pub drop-by : (d e : ℕ) → Guarded form rules t 4 d (length o) → RewritesBy rules t 4 d o (Records count change) o′
+      → Guarded form more s 4 e (length p) → RewritesBy more s 4 e p (Records number other) p′
       → take (8 * count) o′ ≡ take (8 * number) p′ ↔ Alike 32 (answer 32 (routes t)) (answer 32 (routes s))
   unfolding resultOf
   drop-by d e g a h b = Iff·trans (same-results-by 4 d e g a h b) (drop-alike smallest smallest-chooses 32 (routes t) (routes s))
 
   -- Mode 5, at one default: exactly when they do once unrouted addresses have the default.
-  pub fill-by : (d : ℕ) → Guarded rules t 5 d (length o) → RewritesBy rules t 5 d o (Records count change) o′
-      → Guarded more s 5 d (length p) → RewritesBy more s 5 d p (Records number other) p′
+  pub fill-by : (d : ℕ) → Guarded form rules t 5 d (length o) → RewritesBy rules t 5 d o (Records count change) o′
+      → Guarded form more s 5 d (length p) → RewritesBy more s 5 d p (Records number other) p′
       → take (8 * count) o′ ≡ take (8 * number) p′ ↔ Alike 32 (filled d (answer 32 (routes t))) (filled d (answer 32 (routes s)))
   unfolding resultOf
   fill-by d g a h b = Iff·trans (same-results-by 5 d d g a h b) (fill-alike smallest smallest-chooses 32 d (routes t) (routes s))
 
   -- Mode 1: exactly when they hold the same addresses.
-  pub set-by : (d e : ℕ) → Guarded rules t 1 d (length o) → RewritesBy rules t 1 d o (Records count change) o′
-      → Guarded more s 1 e (length p) → RewritesBy more s 1 e p (Records number other) p′
+  pub set-by : (d e : ℕ) → Guarded form rules t 1 d (length o) → RewritesBy rules t 1 d o (Records count change) o′
+      → Guarded form more s 1 e (length p) → RewritesBy more s 1 e p (Records number other) p′
       → take (8 * count) o′ ≡ take (8 * number) p′ ↔ ((x : ℕ) → x < 2 ^ 32 → held 32 (routes t) x ≡ held 32 (routes s) x)
   unfolding resultOf
   set-by d e g a h b = Iff·trans (same-results-by 1 d e g a h b) (set-alike smallest smallest-chooses 32 (routes t) (routes s))

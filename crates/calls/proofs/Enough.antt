@@ -8,6 +8,7 @@ use Rattle.theory.specs.Results.{smallest}
 use Rattle.theory.proofs.Chosen.{smallest-chooses}
 use Rattle.theory.proofs.Lengths.{most-of, result-length}
 use Rattle.records.specs.Wire.{Bytes, records, routes}
+use Rattle.records.specs.declared.Form.{Form}
 use Rattle.table.specs.Conditions.{Accepted}
 use Rattle.table.proofs.Accepted.{not-refused}
 use Rattle.nodecount.specs.Nodes.{nodes}
@@ -17,11 +18,11 @@ use Rattle.calls.specs.Conditions.{Answerable}
 use Rattle.calls.specs.Rewriting.{modeOf, resultOf, takesSet}
 
 -- With such rooms an accepted table is answered in every mode, mode 5 given a hop: none is refused for room.
-pub rooms-enough : (t : List ℕ) (mode default room words : ℕ) → Bytes t → (1 ≤ mode) × (mode ≤ 5) → (mode ≡ 5 → default ≤ 63) → Accepted (takesSet mode) t
-    → 8200 ≤ room → 824480 ≤ words → Answerable t mode default room × (160 * nodes 32 (routes t) ≤ words)
+pub rooms-enough : (form : Form) (t : List ℕ) (mode default room words : ℕ) → Bytes t → (1 ≤ mode) × (mode ≤ 5) → (mode ≡ 5 → default ≤ 63) → Accepted form (takesSet mode) t
+    → 8200 ≤ room → 824480 ≤ words → Answerable form t mode default room × (160 * nodes 32 (routes t) ≤ words)
 unfolding resultOf
-rooms-enough t mode default room words bytes known small accepted output work =
-    let lawful = accepted-table (records t) (records t) (takesSet mode) t bytes (not-refused (takesSet mode) t (records t) accepted) .0 in (
+rooms-enough form t mode default room words bytes known small accepted output work =
+    let lawful = accepted-table (records t) (records t) form (takesSet mode) t bytes (not-refused form (takesSet mode) t (records t) accepted) .0 in (
       record {
         known-mode = known;
         small-default = small;

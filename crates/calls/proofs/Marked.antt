@@ -14,7 +14,9 @@ use Rattle.theory.proofs.Quick.{ortcOf, setsOf}
 use Rattle.theory.proofs.Computed.{set-computed, drop-computed}
 use Rattle.theory.proofs.Cases.{route, Case, cases, Answered, worked}
 use Rattle.refusals.specs.Rules.{gives, judge}
-use Rattle.records.specs.Wire.{routeAt, routesFrom, routes, bytesOf}
+use Rattle.records.specs.Wire.{rawAt, routeAt, routesFrom, routes, bytesOf}
+use Rattle.records.specs.declared.Form.{Form}
+use Rattle.records.specs.Forms.{strictly}
 use Rattle.table.specs.TableRules.{recordRules, rulesFrom, tableRules}
 use Rattle.nodecount.specs.Nodes.{nodes, brought, fresh}
 use Rattle.table.proofs.Accepted.{accepted}
@@ -25,6 +27,7 @@ use Rattle.calls.specs.Conditions.{RewriteCondition}
 use Rattle.refusals.specs.Order.{None}
 use Rattle.calls.specs.Rewriting.{modeOf, resultOf, takesSet, Rewrites}
 use Rattle.table.proofs.Accepted.{accepted-exactly}
+use Rattle.table.proofs.Masking.{accepted-any}
 use Rattle.calls.proofs.Refusals.{answerable-exactly, empty-table, empty-nodes}
 use Rattle.calls.proofs.Results.{rewrite-result}
 
@@ -76,11 +79,12 @@ changes =
     ∷ pos 1
     ∷ []
 
--- A case's call: whatever satisfies the statement is the expected records with the expected change, the rest of the output as it was.
+-- A case's call, under either choice on host bits: whatever satisfies the statement is the expected records with the expected change, the rest of the
+-- output as it was.
 abbrev pub CaseAnswered : Case → ℤ → Type 0
 CaseAnswered c change =
-    (o : List ℕ) (words : ℕ) (r : Rewritten) (o′ w′ : List ℕ) → 8200 ≤ length o → 16384 ≤ words
-    → Rewrites (bytesOf (c .table)) (numberOf (c .mode)) (defaultOf (c .mode)) o words r o′ w′
+    (form : Form) (o : List ℕ) (words : ℕ) (r : Rewritten) (o′ w′ : List ℕ) → 8200 ≤ length o → 16384 ≤ words
+    → Rewrites form (bytesOf (c .table)) (numberOf (c .mode)) (defaultOf (c .mode)) o words r o′ w′
     → (r ≡ Records (length (c .expected)) change) × (o′ ≡ bytesOf (c .expected) ++ drop (8 * length (c .expected)) o)
 
 -- P holds of each case with its change, and there are as many.
@@ -96,7 +100,7 @@ Each P (c ∷ cs) (d ∷ ds) = P c d × Each P cs ds
 abbrev Ready : Case → ℤ → Type 0
 Ready c change =
     T (leb (defaultOf (c .mode)) 63)
-    × (judge {A = ℕ} (tableRules (takesSet (numberOf (c .mode))) (bytesOf (c .table))) 0 ≡ gives 0)
+    × (judge {A = ℕ} (tableRules strictly (takesSet (numberOf (c .mode))) (bytesOf (c .table))) 0 ≡ gives 0)
     × (routes (bytesOf (c .table)) ≡ c .table)
     × T (leb (160 * nodes 32 (c .table)) 16384)
     × T (leb (8 * length (c .expected)) 8200)
@@ -104,8 +108,8 @@ Ready c change =
 
 case-answered : (c : Case) (change : ℤ) → Ready c change → result smallest 32 (c .mode) (c .table) ≡ c .expected → CaseAnswered c change
 unfolding resultOf
-case-answered c change k e o words r o′ w′ long wide ok =
-    let f = rewrite-result t mode default o words r o′ w′ ok none in (
+case-answered c change k e form o words r o′ w′ long wide ok =
+    let f = rewrite-result form t mode default o words r o′ w′ ok none in (
       f .0 ∙ ap₂ Records size (ap₂ (λ (a b : ℕ). pos a -ℤ pos b) size (records-bytes (c .table)) ∙ k .5),
       f .1 ∙ ap (λ (rs : List Route). bytesOf rs ++ drop (8 * length rs) o) made,
     )
@@ -125,20 +129,20 @@ case-answered c change k e o words r o′ w′ long wide ok =
     size : length (result smallest 32 (modeOf mode default) (routes t)) ≡ length (c .expected)
     size = ap (λ (rs : List Route). length rs) made
 
-    none : None (RewriteCondition t mode default (length o) words)
+    none : None (RewriteCondition form t mode default (length o) words)
     none =
-        answerable-exactly t mode default (length o) words .1 (
+        answerable-exactly form t mode default (length o) words .1 (
           record {
             known-mode = number-known (c .mode);
             small-default = λ q. leb→le (defaultOf (c .mode)) 63 (k .0);
-            accepted = accepted (takesSet mode) t 0 (k .1);
+            accepted = accepted-any form (takesSet mode) t (accepted strictly (takesSet mode) t 0 (k .1));
             enough-output = omega (arith, leb→le (8 * length (c .expected)) 8200 (k .4), size);
           },
           rw (k .2) (omega (arith, leb→le (160 * nodes 32 (c .table)) 16384 (k .3))),
         )
 
 ready : Each Ready cases changes
-unfolding cases changes route judge tableRules rulesFrom recordRules routeAt routesFrom routes bytesOf nodes brought fresh
+unfolding cases changes route judge tableRules rulesFrom recordRules rawAt routeAt routesFrom routes bytesOf nodes brought fresh
 ready = ((tt, refl, refl, tt, tt, refl), ((tt, refl, refl, tt, tt, refl), ((tt, refl, refl, tt, tt, refl), ((tt, refl, refl, tt, tt, refl), ((tt, refl, refl, tt, tt, refl), ((tt, refl, refl, tt, tt, refl), ((tt, refl, refl, tt, tt, refl), ((tt, refl, refl, tt, tt, refl), ((tt, refl, refl, tt, tt, refl), ((tt, refl, refl, tt, tt, refl), ((tt, refl, refl, tt, tt, refl), ((tt, refl, refl, tt, tt, refl), ((tt, refl, refl, tt, tt, refl), ((tt, refl, refl, tt, tt, refl), tt))))))))))))))
 
 each-answered : (cs : List Case) (ds : List ℤ) → Each Ready cs ds → Answered cs → Each CaseAnswered cs ds
@@ -162,22 +166,22 @@ empty-result (suc (suc (suc (suc zero)))) d low high = drop-computed smallest sm
 empty-result (suc (suc (suc (suc (suc n))))) d low high = absurd (omega arith)
 
 -- It is answered with no record and change 0.
-pub empty-answered : (mode default : ℕ) (o : List ℕ) (words : ℕ) (r : Rewritten) (o′ w′ : List ℕ) → 1 ≤ mode → mode ≤ 4 → 160 ≤ words
-    → Rewrites [] mode default o words r o′ w′ → (r ≡ Records 0 (pos 0)) × (o′ ≡ o)
+pub empty-answered : (form : Form) (mode default : ℕ) (o : List ℕ) (words : ℕ) (r : Rewritten) (o′ w′ : List ℕ) → 1 ≤ mode → mode ≤ 4 → 160 ≤ words
+    → Rewrites form [] mode default o words r o′ w′ → (r ≡ Records 0 (pos 0)) × (o′ ≡ o)
 unfolding resultOf bytesOf
-empty-answered mode default o words r o′ w′ low high enough ok =
-    let f = rewrite-result [] mode default o words r o′ w′ ok none in (
+empty-answered form mode default o words r o′ w′ low high enough ok =
+    let f = rewrite-result form [] mode default o words r o′ w′ ok none in (
       f .0 ∙ ap (λ (rs : List Route). Records (length rs) (pos (length rs) -ℤ pos 0)) (empty-result mode default low high),
       f .1 ∙ ap (λ (rs : List Route). bytesOf rs ++ drop (8 * length rs) o) (empty-result mode default low high),
     )
   where
-    none : None (RewriteCondition [] mode default (length o) words)
+    none : None (RewriteCondition form [] mode default (length o) words)
     none =
-        answerable-exactly [] mode default (length o) words .1 (
+        answerable-exactly form [] mode default (length o) words .1 (
           record {
             known-mode = (low, omega arith);
             small-default = λ e. absurd (omega arith);
-            accepted = accepted-exactly (takesSet mode) [] .1 (empty-table (takesSet mode));
+            accepted = accepted-exactly form (takesSet mode) [] .1 (empty-table form (takesSet mode));
             enough-output = rw (empty-result mode default low high) (omega arith);
           },
           rw empty-nodes enough,

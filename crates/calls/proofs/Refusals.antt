@@ -15,6 +15,7 @@ use Rattle.refusals.specs.Order.{rank, Earlier, First, None}
 use Rattle.refusals.proofs.Judged.{Broken, earlier-not, gives-exactly}
 use Rattle.refusals.proofs.Answered.{refused-exactly}
 use Rattle.records.specs.Wire.{routes, routesFrom}
+use Rattle.records.specs.declared.Form.{Form}
 use Rattle.table.specs.Conditions.{TableCondition, not-whole, too-many, of-record}
 use Rattle.table.proofs.Accepted.{accepted-exactly}
 use Rattle.table.proofs.Tested.{table-numbers}
@@ -36,56 +37,56 @@ holds (yes p) n = p
 holds (no p) n = absurd (n p)
 
 -- ---- What it is to have none of a rewrite's conditions.
-module _ (t : List ℕ) (mode default room words : ℕ) where
-  none→answerable : None (RewriteCondition t mode default room words) → Answerable t mode default room × (160 * nodes 32 (routes t) ≤ words)
+module _ (form : Form) (t : List ℕ) (mode default room words : ℕ) where
+  none→answerable : None (RewriteCondition form t mode default room words) → Answerable form t mode default room × (160 * nodes 32 (routes t) ≤ words)
   none→answerable none = (
     record {
       known-mode = (holds (decLe 1 mode) (λ f. none 1 0 (no-mode (λ h. f (h .0)))), holds (decLe mode 5) (λ f. none 1 0 (no-mode (λ h. f (h .1)))));
       small-default = λ e. holds (decLe default 63) (λ f. none 2 0 (large-default e (omega arith)));
-      accepted = accepted-exactly (takesSet mode) t .1 (λ n i c. none n i (of-table c));
+      accepted = accepted-exactly form (takesSet mode) t .1 (λ n i c. none n i (of-table c));
       enough-output = holds (decLe (8 * length (resultOf t mode default)) room) (λ f. none 11 0 (short-output (omega arith)));
     },
     holds (decLe (160 * nodes 32 (routes t)) words) (λ f. none 10 0 (short-work (omega arith))),
   )
 
-  answerable→none : Answerable t mode default room × (160 * nodes 32 (routes t) ≤ words) → None (RewriteCondition t mode default room words)
+  answerable→none : Answerable form t mode default room × (160 * nodes 32 (routes t) ≤ words) → None (RewriteCondition form t mode default room words)
   answerable→none (a, work) n i (no-mode f) = f (a .known-mode)
   answerable→none (a, work) n i (large-default e h) = let d = a .small-default e in omega arith
-  answerable→none (a, work) n i (of-table c) = accepted-exactly (takesSet mode) t .0 (a .accepted) n i c
+  answerable→none (a, work) n i (of-table c) = accepted-exactly form (takesSet mode) t .0 (a .accepted) n i c
   answerable→none (a, work) n i (short-work h) = omega arith
   answerable→none (a, work) n i (short-output h) = omega (arith, a .enough-output)
 
   -- None holds exactly when the rewrite is answerable and the room is enough.
-  pub answerable-exactly : None (RewriteCondition t mode default room words) ↔ (Answerable t mode default room × (160 * nodes 32 (routes t) ≤ words))
+  pub answerable-exactly : None (RewriteCondition form t mode default room words) ↔ (Answerable form t mode default room × (160 * nodes 32 (routes t) ≤ words))
   answerable-exactly = (none→answerable, answerable→none)
 
   -- So the rules of the engine over nodes are guarded.
-  pub rewrite-guarded : Guarded (rewriteRules t mode default room words) t mode default room
+  pub rewrite-guarded : Guarded form (rewriteRules form t mode default room words) t mode default room
   unfolding replyBy
   rewrite-guarded rs e =
       none→answerable
-      (gives-exactly (rewriteRules t mode default room words) (rewrite-tests t mode default room words) (resultOf t mode default) .0 e .0) .0
+      (gives-exactly (rewriteRules form t mode default room words) (rewrite-tests form t mode default room words) (resultOf t mode default) .0 e .0) .0
 
 -- ---- A rewrite. Engines has the argument, for any engine.
-module _ (t : List ℕ) (mode default : ℕ) (o : List ℕ) (words : ℕ) where
+module _ (form : Form) (t : List ℕ) (mode default : ℕ) (o : List ℕ) (words : ℕ) where
   abbrev rules : List Rule
-  rules = rewriteRules t mode default (length o) words
+  rules = rewriteRules form t mode default (length o) words
 
-  abbrev tests : (n i : ℕ) → Broken (rewriteRules t mode default (length o) words) n i ↔ RewriteCondition t mode default (length o) words n i
-  tests = rewrite-tests t mode default (length o) words
+  abbrev tests : (n i : ℕ) → Broken (rewriteRules form t mode default (length o) words) n i ↔ RewriteCondition form t mode default (length o) words n i
+  tests = rewrite-tests form t mode default (length o) words
 
   -- The right reply gives the result exactly when no condition holds.
-  pub reply-gives : {rs : List Route} → rewriteReply t mode default (length o) words ≡ gives rs
-      ↔ (None (RewriteCondition t mode default (length o) words) × (resultOf t mode default ≡ rs))
+  pub reply-gives : {rs : List Route} → rewriteReply form t mode default (length o) words ≡ gives rs
+      ↔ (None (RewriteCondition form t mode default (length o) words) × (resultOf t mode default ≡ rs))
   reply-gives = by-gives rules tests t mode default
 
-  module _ (r : Rewritten) (o′ w′ : List ℕ) (ok : Rewrites t mode default o words r o′ w′) where
+  module _ (r : Rewritten) (o′ w′ : List ℕ) (ok : Rewrites form t mode default o words r o′ w′) where
     -- It is refused with a number and an index exactly when their condition holds and none before it in document 01's order does.
-    pub rewrite-refused : (number index : ℕ) → r ≡ Refused number index ↔ First (RewriteCondition t mode default (length o) words) number index
-    rewrite-refused = by-refused rules tests t mode default o r o′ (ok .inner) (rewrite-ranked t mode default (length o) words .order)
+    pub rewrite-refused : (number index : ℕ) → r ≡ Refused number index ↔ First (RewriteCondition form t mode default (length o) words) number index
+    rewrite-refused = by-refused rules tests t mode default o r o′ (ok .inner) (rewrite-ranked form t mode default (length o) words .order)
 
     -- It is answered with records exactly when no condition holds.
-    pub rewrite-accepted : ((count : ℕ) × ((change : ℤ) × (r ≡ Records count change))) ↔ None (RewriteCondition t mode default (length o) words)
+    pub rewrite-accepted : ((count : ℕ) × ((change : ℤ) × (r ≡ Records count change))) ↔ None (RewriteCondition form t mode default (length o) words)
     rewrite-accepted = by-accepted rules tests t mode default o r o′ (ok .inner)
 
     -- A refusal leaves the output as it was, has count 0 and change 0, and the room is zero.
@@ -99,65 +100,65 @@ module _ (t : List ℕ) (mode default : ℕ) (o : List ℕ) (words : ℕ) where
     pub rewrite-numbers : (number index : ℕ) → r ≡ Refused number index → (1 ≤ number) × (number ≤ 11) × (number ≡ 9 → ⊥)
     rewrite-numbers number index e = go number index (rewrite-refused number index .0 e .0)
       where
-        go : (n i : ℕ) → RewriteCondition t mode default (length o) words n i → (1 ≤ n) × (n ≤ 11) × (n ≡ 9 → ⊥)
+        go : (n i : ℕ) → RewriteCondition form t mode default (length o) words n i → (1 ≤ n) × (n ≤ 11) × (n ≡ 9 → ⊥)
         go n i (no-mode f) = (omega arith, omega arith, λ z. omega arith)
         go n i (large-default p q) = (omega arith, omega arith, λ z. omega arith)
-        go n i (of-table c) = let k = table-numbers (takesSet mode) t n i c in (omega (arith, k .0), omega (arith, k .1), λ z. omega (arith, k .1))
+        go n i (of-table c) = let k = table-numbers form (takesSet mode) t n i c in (omega (arith, k .0), omega (arith, k .1), λ z. omega (arith, k .1))
         go n i (short-work h) = (omega arith, omega arith, λ z. omega arith)
         go n i (short-output h) = (omega arith, omega arith, λ z. omega arith)
 
 -- ---- The cover query.
-module _ (t : List ℕ) (address len words : ℕ) (r : Covers) (w′ : List ℕ) (ok : Queried t address len words r w′) where
+module _ (form : Form) (t : List ℕ) (address len words : ℕ) (r : Covers) (w′ : List ℕ) (ok : Queried form t address len words r w′) where
   -- It is refused with a number and an index exactly when their condition holds and none before it in document 01's order does.
-  pub covers-refused : (number index : ℕ) → r ≡ NotAnswered number index ↔ First (CoverCondition t len words) number index
+  pub covers-refused : (number index : ℕ) → r ≡ NotAnswered number index ↔ First (CoverCondition form t len words) number index
   covers-refused number index =
-      refused-exactly coversSays covers-same (coverRules t len words) (cover-tests t len words) (cover-ranked t len words .order) (coveredBy t address len)
+      refused-exactly coversSays covers-same (coverRules form t len words) (cover-tests form t len words) (cover-ranked form t len words .order) (coveredBy t address len)
       r (ok .answer) (NotAnswered number index) number index refl
 
   -- It is answered exactly when no condition holds.
-  pub covers-answered : (b : Bool) → coversSays r ≡ gives b ↔ (None (CoverCondition t len words) × (coveredBy t address len ≡ b))
+  pub covers-answered : (b : Bool) → coversSays r ≡ gives b ↔ (None (CoverCondition form t len words) × (coveredBy t address len ≡ b))
   covers-answered b =
-      let exactly = gives-exactly (coverRules t len words) (cover-tests t len words) (coveredBy t address len) in
+      let exactly = gives-exactly (coverRules form t len words) (cover-tests form t len words) (coveredBy t address len) in
       (λ e. exactly .0 (sym (ok .answer) ∙ e), λ f. ok .answer ∙ exactly .1 f)
 
   -- It gives the numbers 3 to 10 alone.
   pub covers-numbers : (number index : ℕ) → r ≡ NotAnswered number index → (3 ≤ number) × (number ≤ 10)
   covers-numbers number index e = go number index (covers-refused number index .0 e .0)
     where
-      go : (n i : ℕ) → CoverCondition t len words n i → (3 ≤ n) × (n ≤ 10)
-      go n i (of-set c) = let k = table-numbers true t n i c in (omega (arith, k .0), omega (arith, k .1))
+      go : (n i : ℕ) → CoverCondition form t len words n i → (3 ≤ n) × (n ≤ 10)
+      go n i (of-set c) = let k = table-numbers form true t n i c in (omega (arith, k .0), omega (arith, k .1))
       go n i (long-query h) = (omega arith, omega arith)
       go n i (short-room h) = (omega arith, omega arith)
 
 -- ---- The least room.
 
 -- The empty table has none of a table's conditions.
-pub empty-table : (s : Bool) (n i : ℕ) → TableCondition s [] n i → ⊥
-empty-table s n i (not-whole f) = f refl
-empty-table s n i (too-many h) = omega arith
-empty-table s n i (of-record h c) = omega arith
+pub empty-table : (form : Form) (s : Bool) (n i : ℕ) → TableCondition form s [] n i → ⊥
+empty-table form s n i (not-whole f) = f refl
+empty-table form s n i (too-many h) = omega arith
+empty-table form s n i (of-record h c) = omega arith
 
 -- It has one node, the root.
 pub empty-nodes : nodes 32 (routes []) ≡ 1
 unfolding nodes brought routes routesFrom
 empty-nodes = refl
 
-module _ (mode default : ℕ) (o : List ℕ) (words : ℕ) (r : Rewritten) (o′ w′ : List ℕ) (ok : Rewrites [] mode default o words r o′ w′) where
+module _ (form : Form) (mode default : ℕ) (o : List ℕ) (words : ℕ) (r : Rewritten) (o′ w′ : List ℕ) (ok : Rewrites form [] mode default o words r o′ w′) where
   -- An empty table in any mode, with a hop for a default where it is read, is refused by number 10 exactly when the room is below 160 words.
   pub empty-room : (1 ≤ mode) × (mode ≤ 5) → (mode ≡ 5 → default ≤ 63) → r ≡ Refused 10 0 ↔ words < 160
   unfolding rank
-  empty-room known small = (λ e. tenth 10 0 (rewrite-refused [] mode default o words r o′ w′ ok 10 0 .0 e .0) refl, λ h. rewrite-refused [] mode default o words r o′ w′ ok 10 0 .1 (short-work (rw empty-nodes h), earlier))
+  empty-room known small = (λ e. tenth 10 0 (rewrite-refused form [] mode default o words r o′ w′ ok 10 0 .0 e .0) refl, λ h. rewrite-refused form [] mode default o words r o′ w′ ok 10 0 .1 (short-work (rw empty-nodes h), earlier))
     where
-      tenth : (n i : ℕ) → RewriteCondition [] mode default (length o) words n i → n ≡ 10 → words < 160
+      tenth : (n i : ℕ) → RewriteCondition form [] mode default (length o) words n i → n ≡ 10 → words < 160
       tenth n i (no-mode f) e = absurd (omega arith)
       tenth n i (large-default p q) e = absurd (omega arith)
-      tenth n i (of-table c) e = absurd (empty-table (takesSet mode) n i c)
+      tenth n i (of-table c) e = absurd (empty-table form (takesSet mode) n i c)
       tenth n i (short-work h) e = rw empty-nodes at h
       tenth n i (short-output h) e = absurd (omega arith)
 
-      earlier : (m j : ℕ) → Earlier m j 10 0 → RewriteCondition [] mode default (length o) words m j → ⊥
+      earlier : (m j : ℕ) → Earlier m j 10 0 → RewriteCondition form [] mode default (length o) words m j → ⊥
       earlier m j l (no-mode f) = f known
       earlier m j l (large-default p q) = let d = small p in omega arith
-      earlier m j l (of-table c) = empty-table (takesSet mode) m j c
+      earlier m j l (of-table c) = empty-table form (takesSet mode) m j c
       earlier m j l (short-work h) = earlier-not 10 0 10 0 l l
       earlier m j l (short-output h) = earlier-not 11 0 10 0 l (inl (omega arith))

@@ -7,6 +7,7 @@ use native.Mathlib.Omega.{arith}
 use lib.ListN.{length, replicate}
 use Rattle.refusals.specs.Rules.{Rule, Reply, gives, refuses}
 use Rattle.records.specs.Wire.{records}
+use Rattle.records.specs.declared.Form.{Form}
 use Rattle.calls.specs.declared.Rewritten.{Rewritten}
 use Rattle.calls.specs.declared.Rewritten.the-variants.{Records, Refused}
 use Rattle.calls.specs.declared.Covers.{Covers}
@@ -41,16 +42,16 @@ pub rewrite-by-settled : (rules : List Rule) (t : List ℕ) (mode default : ℕ)
 rewrite-by-settled rules t mode default o r r₁ o′ o₁ a b = (rewritten-same r r₁ (a .answer ∙ sym (b .answer)), a .output ∙ sym (b .output))
 
 -- The statement of a rewrite settles the answer, the output and the room.
-pub rewrite-settled : (t : List ℕ) (mode default : ℕ) (o : List ℕ) (words : ℕ) (r r₁ : Rewritten) (o′ o₁ w′ w₁ : List ℕ)
-    → Rewrites t mode default o words r o′ w′ → Rewrites t mode default o words r₁ o₁ w₁ → (r ≡ r₁) × (o′ ≡ o₁) × (w′ ≡ w₁)
-rewrite-settled t mode default o words r r₁ o′ o₁ w′ w₁ a b =
-    let s = rewrite-by-settled (rewriteRules t mode default (length o) words) t mode default o r r₁ o′ o₁ (a .inner) (b .inner) in
+pub rewrite-settled : (form : Form) (t : List ℕ) (mode default : ℕ) (o : List ℕ) (words : ℕ) (r r₁ : Rewritten) (o′ o₁ w′ w₁ : List ℕ)
+    → Rewrites form t mode default o words r o′ w′ → Rewrites form t mode default o words r₁ o₁ w₁ → (r ≡ r₁) × (o′ ≡ o₁) × (w′ ≡ w₁)
+rewrite-settled form t mode default o words r r₁ o′ o₁ w′ w₁ a b =
+    let s = rewrite-by-settled (rewriteRules form t mode default (length o) words) t mode default o r r₁ o′ o₁ (a .inner) (b .inner) in
     (s .0, s .1, a .zero ∙ sym (b .zero))
 
 -- The statement of the cover query settles the answer and the room.
-pub covers-settled : (t : List ℕ) (address len words : ℕ) (r r₁ : Covers) (w′ w₁ : List ℕ)
-    → Queried t address len words r w′ → Queried t address len words r₁ w₁ → (r ≡ r₁) × (w′ ≡ w₁)
-covers-settled t address len words r r₁ w′ w₁ a b = (covers-same r r₁ (a .answer ∙ sym (b .answer)), a .zero ∙ sym (b .zero))
+pub covers-settled : (form : Form) (t : List ℕ) (address len words : ℕ) (r r₁ : Covers) (w′ w₁ : List ℕ)
+    → Queried form t address len words r w′ → Queried form t address len words r₁ w₁ → (r ≡ r₁) × (w′ ≡ w₁)
+covers-settled form t address len words r r₁ w′ w₁ a b = (covers-same r r₁ (a .answer ∙ sym (b .answer)), a .zero ∙ sym (b .zero))
 
 -- ---- For every input some answer satisfies the statement, so that none asks the impossible.
 pub rewritten-of : (q : Reply Written) → (r : Rewritten) × (rewrittenSays r ≡ q)
@@ -58,10 +59,10 @@ rewritten-of (gives w) = (Records (w .count) (w .change), refl)
 rewritten-of (refuses number index) = (Refused number index, refl)
 
 -- Of a rewrite.
-pub rewrite-met : (t : List ℕ) (mode default : ℕ) (o : List ℕ) (words : ℕ)
-    → (r : Rewritten) × ((o′ : List ℕ) × ((w′ : List ℕ) × Rewrites t mode default o words r o′ w′))
-rewrite-met t mode default o words =
-    let reply = rewriteReply t mode default (length o) words in
+pub rewrite-met : (form : Form) (t : List ℕ) (mode default : ℕ) (o : List ℕ) (words : ℕ)
+    → (r : Rewritten) × ((o′ : List ℕ) × ((w′ : List ℕ) × Rewrites form t mode default o words r o′ w′))
+rewrite-met form t mode default o words =
+    let reply = rewriteReply form t mode default (length o) words in
     let a = rewritten-of (writtenOf (records t) reply) in
     (a .0, (outputOf o reply, (replicate words 0, record { inner = record { answer = a .1; output = refl }; zero = refl })))
 
@@ -71,7 +72,7 @@ covers-of (gives false) = (Uncovered, refl)
 covers-of (refuses number index) = (NotAnswered number index, refl)
 
 -- Of the cover query.
-pub covers-met : (t : List ℕ) (address len words : ℕ) → (r : Covers) × ((w′ : List ℕ) × Queried t address len words r w′)
-covers-met t address len words =
-    let a = covers-of (coverReply t address len words) in
+pub covers-met : (form : Form) (t : List ℕ) (address len words : ℕ) → (r : Covers) × ((w′ : List ℕ) × Queried form t address len words r w′)
+covers-met form t address len words =
+    let a = covers-of (coverReply form t address len words) in
     (a .0, (replicate words 0, record { answer = a .1; zero = refl }))

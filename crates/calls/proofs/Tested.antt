@@ -14,6 +14,7 @@ use Rattle.refusals.specs.Order.{rank}
 use Rattle.refusals.proofs.Judged.{Broken}
 use Rattle.refusals.proofs.Ranked.{broken-left, broken-right, sound-each, sound-append, Ranked, ranked-append, singles}
 use Rattle.records.specs.Wire.{routes}
+use Rattle.records.specs.declared.Form.{Form}
 use Rattle.table.specs.Conditions.{TableCondition}
 use Rattle.table.specs.TableRules.{tableRules}
 use Rattle.table.proofs.Tested.{table-tests, table-ranked}
@@ -45,50 +46,50 @@ default-failed : (mode default : ℕ) → mode ≡ 5 → 63 < default → (not (
 default-failed mode default e h = rw (eq-eqb mode 5 e, lt-leb default 63 h)
 
 -- ---- The rules of any engine: 1 and 2, the table's, then its last. `known` says whether it has the mode.
-abbrev pub rulesWith : Bool → List ℕ → ℕ → ℕ → List Rule → List Rule
-rulesWith known t mode default last =
-    rule 1 0 known ∷ rule 2 0 (not (eqb mode 5) || leb default 63) ∷ tableRules (takesSet mode) t ++ last
+abbrev pub rulesWith : Bool → Form → List ℕ → ℕ → ℕ → List Rule → List Rule
+rulesWith known form t mode default last =
+    rule 1 0 known ∷ rule 2 0 (not (eqb mode 5) || leb default 63) ∷ tableRules form (takesSet mode) t ++ last
 
-module _ (known : Bool) (t : List ℕ) (mode default : ℕ) (last : List Rule) where
+module _ (known : Bool) (form : Form) (t : List ℕ) (mode default : ℕ) (last : List Rule) where
   abbrev table : List Rule
-  table = tableRules (takesSet mode) t
+  table = tableRules form (takesSet mode) t
 
   abbrev front : List Rule
   front = rule 1 0 known ∷ rule 2 0 (not (eqb mode 5) || leb default 63) ∷ []
 
   -- They stand in the order of the checks where the last do.
-  pub ranked-with : (q : ℕ) → 7 ≤ q → Ranked 7 q last → Ranked 1 q (rulesWith known t mode default last)
+  pub ranked-with : (q : ℕ) → 7 ≤ q → Ranked 7 q last → Ranked 1 q (rulesWith known form t mode default last)
   unfolding rank
   ranked-with q le ranked =
       ranked-append 1 4 q front (table ++ last) (omega arith) (omega arith) (singles 1 4 front refl .1)
-      (ranked-append 4 7 q table last (omega arith) le (table-ranked (takesSet mode) t) ranked)
+      (ranked-append 4 7 q table last (omega arith) le (table-ranked form (takesSet mode) t) ranked)
 
   -- What each that is broken stands for.
   pub broken-with : (Holds : ℕ → ℕ → Type 0) → (known ≡ false → Holds 1 0) → (mode ≡ 5 → 63 < default → Holds 2 0)
-      → ((n i : ℕ) → TableCondition (takesSet mode) t n i → Holds n i) → ((n i : ℕ) → Broken last n i → Holds n i)
-      → (n i : ℕ) → Broken (rulesWith known t mode default last) n i → Holds n i
+      → ((n i : ℕ) → TableCondition form (takesSet mode) t n i → Holds n i) → ((n i : ℕ) → Broken last n i → Holds n i)
+      → (n i : ℕ) → Broken (rulesWith known form t mode default last) n i → Holds n i
   broken-with Holds one two of-records behind =
       sound-append Holds front (table ++ last)
       (sound-each Holds front (one, (λ e. let f = default-refuted mode default e in two (f .0) (f .1), tt)))
-      (sound-append Holds table last (λ n i b. of-records n i (table-tests (takesSet mode) t n i .0 b)) behind)
+      (sound-append Holds table last (λ n i b. of-records n i (table-tests form (takesSet mode) t n i .0 b)) behind)
 
   -- And back.
-  pub breaks-mode : known ≡ false → Broken (rulesWith known t mode default last) 1 0
+  pub breaks-mode : known ≡ false → Broken (rulesWith known form t mode default last) 1 0
   breaks-mode e = inl (e, refl, refl)
 
-  pub breaks-default : mode ≡ 5 → 63 < default → Broken (rulesWith known t mode default last) 2 0
+  pub breaks-default : mode ≡ 5 → 63 < default → Broken (rulesWith known form t mode default last) 2 0
   breaks-default e h = inr (inl (default-failed mode default e h, refl, refl))
 
-  pub breaks-table : (n i : ℕ) → TableCondition (takesSet mode) t n i → Broken (rulesWith known t mode default last) n i
-  breaks-table n i c = inr (inr (broken-left table last n i (table-tests (takesSet mode) t n i .1 c)))
+  pub breaks-table : (n i : ℕ) → TableCondition form (takesSet mode) t n i → Broken (rulesWith known form t mode default last) n i
+  breaks-table n i c = inr (inr (broken-left table last n i (table-tests form (takesSet mode) t n i .1 c)))
 
-  pub breaks-last : (n i : ℕ) → Broken last n i → Broken (rulesWith known t mode default last) n i
+  pub breaks-last : (n i : ℕ) → Broken last n i → Broken (rulesWith known form t mode default last) n i
   breaks-last n i b = inr (inr (broken-right table last n i b))
 
 -- ---- The rules of a rewrite.
-module _ (t : List ℕ) (mode default room words : ℕ) where
+module _ (form : Form) (t : List ℕ) (mode default room words : ℕ) where
   abbrev Holds : ℕ → ℕ → Type 0
-  Holds = RewriteCondition t mode default room words
+  Holds = RewriteCondition form t mode default room words
 
   abbrev known : Bool
   known = leb 1 mode && leb mode 5
@@ -97,55 +98,55 @@ module _ (t : List ℕ) (mode default room words : ℕ) where
   behind = rule 10 0 (leb (160 * nodes 32 (routes t)) words) ∷ rule 11 0 (leb (8 * length (resultOf t mode default)) room) ∷ []
 
   -- They stand in the order of the checks.
-  pub rewrite-ranked : Ranked 1 11 (rewriteRules t mode default room words)
+  pub rewrite-ranked : Ranked 1 11 (rewriteRules form t mode default room words)
   unfolding rewriteRules rank
-  rewrite-ranked = ranked-with known t mode default behind 11 (omega arith) (singles 7 11 behind refl .1)
+  rewrite-ranked = ranked-with known form t mode default behind 11 (omega arith) (singles 7 11 behind refl .1)
 
-  rewrite-broken : (n i : ℕ) → Broken (rewriteRules t mode default room words) n i → Holds n i
+  rewrite-broken : (n i : ℕ) → Broken (rewriteRules form t mode default room words) n i → Holds n i
   unfolding rewriteRules
   rewrite-broken =
-      broken-with known t mode default behind Holds (λ e. no-mode (mode-refuted mode e)) large-default (λ n i c. of-table c)
+      broken-with known form t mode default behind Holds (λ e. no-mode (mode-refuted mode e)) large-default (λ n i c. of-table c)
       (sound-each Holds behind (
         λ e. short-work (leb-false (160 * nodes 32 (routes t)) words e),
         (λ e. short-output (leb-false (8 * length (resultOf t mode default)) room e), tt),
       ))
 
-  rewrite-breaks : (n i : ℕ) → Holds n i → Broken (rewriteRules t mode default room words) n i
+  rewrite-breaks : (n i : ℕ) → Holds n i → Broken (rewriteRules form t mode default room words) n i
   unfolding rewriteRules
-  rewrite-breaks n i (no-mode f) = breaks-mode known t mode default behind (mode-failed mode f)
-  rewrite-breaks n i (large-default e h) = breaks-default known t mode default behind e h
-  rewrite-breaks n i (of-table c) = breaks-table known t mode default behind n i c
-  rewrite-breaks n i (short-work h) = breaks-last known t mode default behind n i (inl (lt-leb (160 * nodes 32 (routes t)) words h, refl, refl))
+  rewrite-breaks n i (no-mode f) = breaks-mode known form t mode default behind (mode-failed mode f)
+  rewrite-breaks n i (large-default e h) = breaks-default known form t mode default behind e h
+  rewrite-breaks n i (of-table c) = breaks-table known form t mode default behind n i c
+  rewrite-breaks n i (short-work h) = breaks-last known form t mode default behind n i (inl (lt-leb (160 * nodes 32 (routes t)) words h, refl, refl))
   rewrite-breaks n i (short-output h) =
-      breaks-last known t mode default behind n i (inr (inl (lt-leb (8 * length (resultOf t mode default)) room h, refl, refl)))
+      breaks-last known form t mode default behind n i (inr (inl (lt-leb (8 * length (resultOf t mode default)) room h, refl, refl)))
 
   -- They test the conditions of a rewrite.
-  pub rewrite-tests : (n i : ℕ) → Broken (rewriteRules t mode default room words) n i ↔ RewriteCondition t mode default room words n i
+  pub rewrite-tests : (n i : ℕ) → Broken (rewriteRules form t mode default room words) n i ↔ RewriteCondition form t mode default room words n i
   rewrite-tests n i = (rewrite-broken n i, rewrite-breaks n i)
 
 -- ---- The rules of the cover query.
-module _ (t : List ℕ) (len words : ℕ) where
+module _ (form : Form) (t : List ℕ) (len words : ℕ) where
   abbrev last : List Rule
   last = rule 9 0 (leb len 32) ∷ rule 10 0 (leb (160 * nodes 32 (routes t)) words) ∷ []
 
   -- They stand in the order of the checks.
-  pub cover-ranked : Ranked 4 10 (coverRules t len words)
+  pub cover-ranked : Ranked 4 10 (coverRules form t len words)
   unfolding coverRules rank
-  cover-ranked = ranked-append 4 7 10 (tableRules true t) last (omega arith) (omega arith) (table-ranked true t) (singles 7 10 last refl .1)
+  cover-ranked = ranked-append 4 7 10 (tableRules form true t) last (omega arith) (omega arith) (table-ranked form true t) (singles 7 10 last refl .1)
 
-  cover-broken : (n i : ℕ) → Broken (coverRules t len words) n i → CoverCondition t len words n i
+  cover-broken : (n i : ℕ) → Broken (coverRules form t len words) n i → CoverCondition form t len words n i
   unfolding coverRules
   cover-broken =
-      sound-append (CoverCondition t len words) (tableRules true t) last (λ n i b. of-set (table-tests true t n i .0 b))
-      (sound-each (CoverCondition t len words) last
+      sound-append (CoverCondition form t len words) (tableRules form true t) last (λ n i b. of-set (table-tests form true t n i .0 b))
+      (sound-each (CoverCondition form t len words) last
       (λ e. long-query (leb-false len 32 e), (λ e. short-room (leb-false (160 * nodes 32 (routes t)) words e), tt)))
 
-  cover-breaks : (n i : ℕ) → CoverCondition t len words n i → Broken (coverRules t len words) n i
+  cover-breaks : (n i : ℕ) → CoverCondition form t len words n i → Broken (coverRules form t len words) n i
   unfolding coverRules
-  cover-breaks n i (of-set c) = broken-left (tableRules true t) last n i (table-tests true t n i .1 c)
-  cover-breaks n i (long-query h) = broken-right (tableRules true t) last n i (inl (lt-leb len 32 h, refl, refl))
-  cover-breaks n i (short-room h) = broken-right (tableRules true t) last n i (inr (inl (lt-leb (160 * nodes 32 (routes t)) words h, refl, refl)))
+  cover-breaks n i (of-set c) = broken-left (tableRules form true t) last n i (table-tests form true t n i .1 c)
+  cover-breaks n i (long-query h) = broken-right (tableRules form true t) last n i (inl (lt-leb len 32 h, refl, refl))
+  cover-breaks n i (short-room h) = broken-right (tableRules form true t) last n i (inr (inl (lt-leb (160 * nodes 32 (routes t)) words h, refl, refl)))
 
   -- They test the conditions of the cover query.
-  pub cover-tests : (n i : ℕ) → Broken (coverRules t len words) n i ↔ CoverCondition t len words n i
+  pub cover-tests : (n i : ℕ) → Broken (coverRules form t len words) n i ↔ CoverCondition form t len words n i
   cover-tests n i = (cover-broken n i, cover-breaks n i)

@@ -1,4 +1,5 @@
--- The statement of a rewrite: for every table, mode, default, output and room, what it answers and what stands in the output and the room then.
+-- The statement of a rewrite: for every table, read by a form, mode, default, output and room, what it answers and what stands in the output and the room
+-- then.
 use Prim.Native.Nat.{ℕ, _*_}
 use mathlib.Core.Path.{_≡_}
 use mathlib.Core.Bool.{Bool, cond, not, _||_, _&&_}
@@ -10,6 +11,7 @@ use Rattle.theory.specs.Routes.{Route}
 use Rattle.theory.specs.Results.{Mode, aggregateSet, aggregateConsistentSet, aggregateConsistentMap, aggregateMapDrop, aggregateMapFill, result, smallest}
 use Rattle.refusals.specs.Rules.{Rule, rule, Reply, gives, refuses, judge}
 use Rattle.records.specs.Wire.{records, routes, bytesOf}
+use Rattle.records.specs.declared.Form.{Form}
 use Rattle.table.specs.TableRules.{tableRules}
 use Rattle.nodecount.specs.Nodes.{nodes}
 use Rattle.calls.specs.declared.Rewritten.{Rewritten}
@@ -33,11 +35,11 @@ abbrev pub takesSet : ℕ → Bool
 takesSet mode = leb mode 2
 
 -- Document 01's rules 1 to 8, 10 and 11, for an output of `room` bytes and a work room of `words` words.
-unfoldable pub rewriteRules : List ℕ → ℕ → ℕ → ℕ → ℕ → List Rule
-rewriteRules t mode default room words =
+unfoldable pub rewriteRules : Form → List ℕ → ℕ → ℕ → ℕ → ℕ → List Rule
+rewriteRules form t mode default room words =
     rule 1 0 (leb 1 mode && leb mode 5)
     ∷ rule 2 0 (not (eqb mode 5) || leb default 63)
-    ∷ tableRules (takesSet mode) t
+    ∷ tableRules form (takesSet mode) t
     ++ (rule 10 0 (leb (160 * nodes 32 (routes t)) words) ∷ rule 11 0 (leb (8 * length (resultOf t mode default)) room) ∷ [])
 
 -- What a rewrite gives: the number of records, and the change, records out minus records in.
@@ -50,8 +52,8 @@ unfoldable pub replyBy : List Rule → List ℕ → ℕ → ℕ → Reply (List 
 replyBy rules t mode default = judge rules (resultOf t mode default)
 
 -- That of the engine over nodes.
-abbrev pub rewriteReply : List ℕ → ℕ → ℕ → ℕ → ℕ → Reply (List Route)
-rewriteReply t mode default room words = replyBy (rewriteRules t mode default room words) t mode default
+abbrev pub rewriteReply : Form → List ℕ → ℕ → ℕ → ℕ → ℕ → Reply (List Route)
+rewriteReply form t mode default room words = replyBy (rewriteRules form t mode default room words) t mode default
 
 -- What it is to say, of a table with so many records.
 abbrev pub writtenOf : ℕ → Reply (List Route) → Reply Written
@@ -83,10 +85,10 @@ pub record RewritesBy (rules : List Rule) (t : List ℕ) (mode default : ℕ) (o
   pub output : o′ ≡ outputOf o (replyBy rules t mode default)
 
 -- That of the engine over nodes, which was lent a room of so many words, but for what becomes of the room.
-abbrev pub RewritesIn : List ℕ → ℕ → ℕ → List ℕ → ℕ → Rewritten → List ℕ → Type 0
-RewritesIn t mode default o words r o′ = RewritesBy (rewriteRules t mode default (length o) words) t mode default o r o′
+abbrev pub RewritesIn : Form → List ℕ → ℕ → ℕ → List ℕ → ℕ → Rewritten → List ℕ → Type 0
+RewritesIn form t mode default o words r o′ = RewritesBy (rewriteRules form t mode default (length o) words) t mode default o r o′
 
 -- The whole statement: and the room is zero throughout.
-pub record Rewrites (t : List ℕ) (mode default : ℕ) (o : List ℕ) (words : ℕ) (r : Rewritten) (o′ work′ : List ℕ) : Type 0 where
-  pub inner : RewritesIn t mode default o words r o′
+pub record Rewrites (form : Form) (t : List ℕ) (mode default : ℕ) (o : List ℕ) (words : ℕ) (r : Rewritten) (o′ work′ : List ℕ) : Type 0 where
+  pub inner : RewritesIn form t mode default o words r o′
   pub zero : work′ ≡ replicate words 0

@@ -84,8 +84,8 @@ pub fn with_slot(occupied: u32, b: usize) -> u32
     }
 }
 
-// The first of the records i..hi that stands at the wide address `past` or after it; hi where none does. The addresses are compared as they
-// stand in the records, which is quicker.
+// The first of the records i..hi that stands at the wide address `past` or after it; hi where none does. The addresses are compared with the
+// narrow limit, which is quicker than widening each.
 pub fn first_past(table: &[u8], i: usize, hi: usize, past: u64) -> usize
     requires { ⌜ (i ≤ hi) × (hi ≤ records (now table)) ⌝ }
     requires { ⌜ past ≤ 2 ^ 36 ⌝ }

@@ -20,6 +20,7 @@ use Rattle.refusals.proofs.Answered.{unique, given-exactly, refused-exactly}
 use Rattle.refusals.proofs.Judged.{Broken, gives-any, refuses-any}
 use Rattle.refusals.proofs.Ranked.{broken-left, broken-right, sound-each, sound-append, singles, ranked-append, Ranked}
 use Rattle.records.specs.Wire.{records, routes, Bytes, bytesOf}
+use Rattle.records.specs.declared.Form.{Form}
 use Rattle.records.proofs.Reading.{length-routes}
 use Rattle.records.proofs.Written.{length-bytes, routes-bytes}
 use Rattle.table.specs.Conditions.{TableCondition, Accepted}
@@ -48,29 +49,29 @@ listed-same (Refused n i) (Records m) e = let z : _≡_ {A = ℕ} 0 1 = cc in ab
 listed-same (Refused m i) (Refused n j) e = cc
 
 -- ---- The rules test the conditions, and stand in the order of the checks.
-module _ (t : List ℕ) (room : ℕ) where
+module _ (form : Form) (t : List ℕ) (room : ℕ) where
   abbrev Holds : ℕ → ℕ → Type 0
-  Holds = UnroutedCondition t room
+  Holds = UnroutedCondition form t room
 
   abbrev last : List Rule
   last = rule 11 0 (leb (8 * length (holesOf t)) room) ∷ []
 
-  pub unrouted-ranked : Ranked 4 11 (unroutedRules t room)
+  pub unrouted-ranked : Ranked 4 11 (unroutedRules form t room)
   unfolding unroutedRules rank
-  unrouted-ranked = ranked-append 4 7 11 (tableRules false t) last (omega arith) (omega arith) (table-ranked false t) (singles 7 11 last refl .1)
+  unrouted-ranked = ranked-append 4 7 11 (tableRules form false t) last (omega arith) (omega arith) (table-ranked form false t) (singles 7 11 last refl .1)
 
-  unrouted-broken : (n i : ℕ) → Broken (unroutedRules t room) n i → Holds n i
+  unrouted-broken : (n i : ℕ) → Broken (unroutedRules form t room) n i → Holds n i
   unfolding unroutedRules
   unrouted-broken =
-      sound-append Holds (tableRules false t) last (λ n i b. of-table (table-tests false t n i .0 b))
+      sound-append Holds (tableRules form false t) last (λ n i b. of-table (table-tests form false t n i .0 b))
       (sound-each Holds last (λ e. short-output (leb-false (8 * length (holesOf t)) room e), tt))
 
-  unrouted-breaks : (n i : ℕ) → Holds n i → Broken (unroutedRules t room) n i
+  unrouted-breaks : (n i : ℕ) → Holds n i → Broken (unroutedRules form t room) n i
   unfolding unroutedRules
-  unrouted-breaks n i (of-table c) = broken-left (tableRules false t) last n i (table-tests false t n i .1 c)
-  unrouted-breaks n i (short-output h) = broken-right (tableRules false t) last n i (inl (lt-leb (8 * length (holesOf t)) room h, refl, refl))
+  unrouted-breaks n i (of-table c) = broken-left (tableRules form false t) last n i (table-tests form false t n i .1 c)
+  unrouted-breaks n i (short-output h) = broken-right (tableRules form false t) last n i (inl (lt-leb (8 * length (holesOf t)) room h, refl, refl))
 
-  pub unrouted-tests : (n i : ℕ) → Broken (unroutedRules t room) n i ↔ UnroutedCondition t room n i
+  pub unrouted-tests : (n i : ℕ) → Broken (unroutedRules form t room) n i ↔ UnroutedCondition form t room n i
   unrouted-tests n i = (unrouted-broken n i, unrouted-breaks n i)
 
   -- What can be decided holds if its contrary is impossible.
@@ -79,42 +80,42 @@ module _ (t : List ℕ) (room : ℕ) where
   holds (no p) n = absurd (n p)
 
   -- None holds exactly for an accepted table whose list fits the output.
-  pub none-exactly : None (UnroutedCondition t room) ↔ (Accepted false t × (8 * length (holesOf t) ≤ room))
+  pub none-exactly : None (UnroutedCondition form t room) ↔ (Accepted form false t × (8 * length (holesOf t) ≤ room))
   none-exactly = (
     λ none. (
-      accepted-exactly false t .1 (λ n i c. none n i (of-table c)),
+      accepted-exactly form false t .1 (λ n i c. none n i (of-table c)),
       holds (decLe (8 * length (holesOf t)) room) (λ f. none 11 0 (short-output (omega arith))),
     ),
     λ (ok, fits) n i c. go ok fits n i c,
   )
     where
-      go : Accepted false t → 8 * length (holesOf t) ≤ room → (n i : ℕ) → Holds n i → ⊥
-      go ok fits n i (of-table c) = accepted-exactly false t .0 ok n i c
+      go : Accepted form false t → 8 * length (holesOf t) ≤ room → (n i : ℕ) → Holds n i → ⊥
+      go ok fits n i (of-table c) = accepted-exactly form false t .0 ok n i c
       go ok fits n i (short-output h) = omega arith
 
 -- ---- No second answer and no second output satisfies the statement, and for every input some do.
-pub unrouted-settled : (t o : List ℕ) (r r₁ : Listed) (o′ o₁ : List ℕ) → Lists t o r o′ → Lists t o r₁ o₁ → (r ≡ r₁) × (o′ ≡ o₁)
-unrouted-settled t o r r₁ o′ o₁ a b = (listed-same r r₁ (a .answer ∙ sym (b .answer)), a .output ∙ sym (b .output))
+pub unrouted-settled : (form : Form) (t o : List ℕ) (r r₁ : Listed) (o′ o₁ : List ℕ) → Lists form t o r o′ → Lists form t o r₁ o₁ → (r ≡ r₁) × (o′ ≡ o₁)
+unrouted-settled form t o r r₁ o′ o₁ a b = (listed-same r r₁ (a .answer ∙ sym (b .answer)), a .output ∙ sym (b .output))
 
 listed-of : (q : Reply ℕ) → (r : Listed) × (listedSays r ≡ q)
 listed-of (gives n) = (Records n, refl)
 listed-of (refuses n i) = (Refused n i, refl)
 
-pub unrouted-met : (t o : List ℕ) → (r : Listed) × ((o′ : List ℕ) × Lists t o r o′)
-unrouted-met t o =
-    let a = listed-of (judge (unroutedRules t (length o)) (length (holesOf t))) in
-    (a .0, (outputOf o (judge (unroutedRules t (length o)) (holesOf t)), record { answer = a .1; output = refl }))
+pub unrouted-met : (form : Form) (t o : List ℕ) → (r : Listed) × ((o′ : List ℕ) × Lists form t o r o′)
+unrouted-met form t o =
+    let a = listed-of (judge (unroutedRules form t (length o)) (length (holesOf t))) in
+    (a .0, (outputOf o (judge (unroutedRules form t (length o)) (holesOf t)), record { answer = a .1; output = refl }))
 
-module _ (t o : List ℕ) (r : Listed) (o′ : List ℕ) (ok : Lists t o r o′) where
+module _ (form : Form) (t o : List ℕ) (r : Listed) (o′ : List ℕ) (ok : Lists form t o r o′) where
   abbrev rules : List Rule
-  rules = unroutedRules t (length o)
+  rules = unroutedRules form t (length o)
 
   -- ---- Refusals.
 
   -- It is refused with a number and an index exactly when they are those of the first condition that holds: of 3 to 8, then 11.
-  pub unrouted-refused : (n i : ℕ) → r ≡ Refused n i ↔ First (UnroutedCondition t (length o)) n i
+  pub unrouted-refused : (n i : ℕ) → r ≡ Refused n i ↔ First (UnroutedCondition form t (length o)) n i
   unrouted-refused n i =
-      refused-exactly listedSays listed-same rules (unrouted-tests t (length o)) (unrouted-ranked t (length o) .order) (length (holesOf t)) r (ok .answer)
+      refused-exactly listedSays listed-same rules (unrouted-tests form t (length o)) (unrouted-ranked form t (length o) .order) (length (holesOf t)) r (ok .answer)
       (Refused n i) n i refl
 
   -- A refusal leaves the output as it was.
@@ -126,20 +127,20 @@ module _ (t o : List ℕ) (r : Listed) (o′ : List ℕ) (ok : Lists t o r o′)
   pub unrouted-numbers : (n i : ℕ) → r ≡ Refused n i → ((3 ≤ n) × (n ≤ 8)) ⊎ (n ≡ 11)
   unrouted-numbers n i e = go n i (unrouted-refused n i .0 e .0)
     where
-      go : (n i : ℕ) → UnroutedCondition t (length o) n i → ((3 ≤ n) × (n ≤ 8)) ⊎ (n ≡ 11)
-      go n i (of-table c) = inl (table-numbers false t n i c)
+      go : (n i : ℕ) → UnroutedCondition form t (length o) n i → ((3 ≤ n) × (n ≤ 8)) ⊎ (n ≡ 11)
+      go n i (of-table c) = inl (table-numbers form false t n i c)
       go n i (short-output h) = inr refl
 
   -- ---- Answers.
 
   -- It answers with a number exactly for an accepted table whose list has so many records and fits the output.
-  pub unrouted-listed : (count : ℕ) → r ≡ Records count ↔ (Accepted false t × (8 * length (holesOf t) ≤ length o) × (length (holesOf t) ≡ count))
+  pub unrouted-listed : (count : ℕ) → r ≡ Records count ↔ (Accepted form false t × (8 * length (holesOf t) ≤ length o) × (length (holesOf t) ≡ count))
   unrouted-listed count =
       let exactly =
-      given-exactly listedSays listed-same rules (unrouted-tests t (length o)) (unrouted-ranked t (length o) .order) (length (holesOf t)) r (ok .answer)
+      given-exactly listedSays listed-same rules (unrouted-tests form t (length o)) (unrouted-ranked form t (length o) .order) (length (holesOf t)) r (ok .answer)
       (Records count) count refl in (
-        λ e. let f = exactly .0 e in let k = none-exactly t (length o) .0 (f .0) in (k .0, k .1, f .1),
-        λ f. exactly .1 (none-exactly t (length o) .1 (f .0, f .1), f .2),
+        λ e. let f = exactly .0 e in let k = none-exactly form t (length o) .0 (f .0) in (k .0, k .1, f .1),
+        λ f. exactly .1 (none-exactly form t (length o) .1 (f .0, f .1), f .2),
       )
 
   -- Answered or refused, the output keeps its length.
@@ -180,10 +181,10 @@ module _ (t o : List ℕ) (r : Listed) (o′ : List ℕ) (ok : Lists t o r o′)
     unrouted-reads = ap routes unrouted-written ∙ routes-bytes (holesOf t) (holes-table 32 (routes t) .valid)
 
     -- An address lies in a listed prefix exactly when lookup, in whatever way it is called, finds no route for it.
-    pub unrouted-addresses : (x : ℕ) → x < 2 ^ 32 → (a : Lookup) → lookupSays a ≡ lookupReply t x
+    pub unrouted-addresses : (x : ℕ) → x < 2 ^ 32 → (a : Lookup) → lookupSays a ≡ lookupReply form t x
         → (held 32 (routes (take (8 * count) o′)) x ≡ true) ↔ (a ≡ NoRoute)
     unrouted-addresses x lt a said =
-        let none = lookup-none-exactly t x a said in
+        let none = lookup-none-exactly form t x a said in
         let hold = holes-hold 32 (routes t) x lt in
         let miss-is = miss-held t x in (
           λ h. none .1 (unrouted-listed count .0 answered .0, miss-is .0 (hold .0 (ap (λ (u : List Route). held 32 u x) (sym unrouted-reads) ∙ h))),
@@ -209,5 +210,5 @@ module _ (t o : List ℕ) (r : Listed) (o′ : List ℕ) (ok : Lists t o r o′)
     -- They are at most 22,528, and fewer for fewer records.
     pub unrouted-most : Bytes t → count ≤ 21 * records t + 1024
     unrouted-most bytes =
-        let valid = not-refused false t (records t) (unrouted-listed count .0 answered .0) in
-        omega (arith, counted, holes-sure (accepted-run t valid bytes), ap length (whole-holes t valid))
+        let valid = not-refused form false t (records t) (unrouted-listed count .0 answered .0) in
+        omega (arith, counted, holes-sure (accepted-run form t valid bytes), ap length (whole-holes form t valid))

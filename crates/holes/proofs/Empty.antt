@@ -8,6 +8,7 @@ use lib.ListN.{length, take}
 use Rattle.refusals.specs.Order.{Earlier}
 use Rattle.refusals.proofs.Judged.{earlier-not}
 use Rattle.records.specs.Wire.{routesFrom, routes, route, bytesOf}
+use Rattle.records.specs.declared.Form.{Form}
 use Rattle.table.specs.Conditions.{Accepted}
 use Rattle.table.proofs.Accepted.{accepted-exactly}
 use Rattle.calls.proofs.Refusals.{empty-table}
@@ -26,17 +27,17 @@ empty-holes = holes-empty 32 32 0
 empty-one : length (holesOf []) ≡ 1
 empty-one = ap length empty-holes
 
-module _ (o : List ℕ) (r : Listed) (o′ : List ℕ) (ok : Lists [] o r o′) where
+module _ (form : Form) (o : List ℕ) (r : Listed) (o′ : List ℕ) (ok : Lists form [] o r o′) where
   -- With room for a record it is listed,
   pub empty-listed : 8 ≤ length o → (r ≡ Records 1) × (take 8 o′ ≡ bytesOf (route 0 0 0 ∷ []))
   empty-listed room =
-      let e = unrouted-listed [] o r o′ ok 1 .1 (accepted-exactly false [] .1 (empty-table false), omega (arith, empty-one), empty-one) in
-      (e, unrouted-written [] o r o′ ok 1 e ∙ ap bytesOf empty-holes)
+      let e = unrouted-listed form [] o r o′ ok 1 .1 (accepted-exactly form false [] .1 (empty-table form false), omega (arith, empty-one), empty-one) in
+      (e, unrouted-written form [] o r o′ ok 1 e ∙ ap bytesOf empty-holes)
 
   -- without it is refused.
   pub empty-short : length o < 8 → r ≡ Refused 11 0
-  empty-short short = unrouted-refused [] o r o′ ok 11 0 .1 (short-output (omega (arith, empty-one)), earlier)
+  empty-short short = unrouted-refused form [] o r o′ ok 11 0 .1 (short-output (omega (arith, empty-one)), earlier)
     where
-      earlier : (m j : ℕ) → Earlier m j 11 0 → UnroutedCondition [] (length o) m j → ⊥
-      earlier m j l (of-table c) = empty-table false m j c
+      earlier : (m j : ℕ) → Earlier m j 11 0 → UnroutedCondition form [] (length o) m j → ⊥
+      earlier m j l (of-table c) = empty-table form false m j c
       earlier m j l (short-output h) = earlier-not 11 0 11 0 l l

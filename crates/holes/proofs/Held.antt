@@ -11,6 +11,7 @@ use Rattle.theory.specs.Results.{maximal}
 use Rattle.theory.specs.Reach.{sizes}
 use Rattle.theory.proofs.Maximal.{maximal-agree}
 use Rattle.records.specs.Wire.{routes}
+use Rattle.records.specs.declared.Form.{Form}
 use Rattle.lookup.specs.Calls.{heldSays, heldReply}
 use Rattle.lookup.specs.declared.answers.AddressesHeld.{AddressesHeld}
 use Rattle.lookup.specs.declared.answers.AddressesHeld.the-variants.{Count}
@@ -32,18 +33,18 @@ none-long : (rs : List Route) → length rs ≡ 0 → rs ≡ []
 none-long [] e = refl
 none-long (r ∷ rs) e = absurd (omega arith)
 
-module _ (t : List ℕ) (r : AddressesHeld) (e : heldSays r ≡ heldReply t) (n : ℕ) (q : r ≡ Count n)
-    (o : List ℕ) (l : Listed) (o′ : List ℕ) (ok : Lists t o l o′) (count : ℕ) (answered : l ≡ Records count) where
+module _ (form : Form) (t : List ℕ) (r : AddressesHeld) (e : heldSays r ≡ heldReply form t) (n : ℕ) (q : r ≡ Count n)
+    (o : List ℕ) (l : Listed) (o′ : List ℕ) (ok : Lists form t o l o′) (count : ℕ) (answered : l ≡ Records count) where
   -- The addresses held and the sizes of the listed holes make 2 ^ 32.
   pub held-and-listed : n + sizes 32 (routes (take (8 * count) o′)) ≡ 2 ^ 32
   held-and-listed =
-      ap (λ (rs : List Route). n + sizes 32 rs) (unrouted-reads t o l o′ ok count answered ∙ same-list t) ∙ held-holes t r e n q
+      ap (λ (rs : List Route). n + sizes 32 rs) (unrouted-reads form t o l o′ ok count answered ∙ same-list t) ∙ held-holes form t r e n q
 
   -- They are 2 ^ 32 exactly when the list is empty.
   pub held-none-listed : (n ≡ 2 ^ 32) ↔ (count ≡ 0)
   held-none-listed =
-      let whole = held-whole t r e n q in
-      let size : length (holesOf t) ≡ count = unrouted-listed t o l o′ ok count .0 answered .2 in (
+      let whole = held-whole form t r e n q in
+      let size : length (holesOf t) ≡ count = unrouted-listed form t o l o′ ok count .0 answered .2 in (
         λ p. sym size ∙ ap (λ (rs : List Route). length rs) (same-list t ∙ whole .0 p),
         λ z. whole .1 (sym (same-list t) ∙ none-long (holesOf t) (size ∙ z)),
       )

@@ -9,3 +9,4 @@ pub mod Calls
 pub mod Rewritten
 pub mod Empty
 pub mod Held
+pub mod Masking

@@ -11,6 +11,7 @@ use Rattle.theory.specs.Routes.{Route}
 use Rattle.refusals.specs.Rules.{Rule, rule, gives, refuses, judge}
 use Rattle.refusals.proofs.Judged.{gives-exactly, kept-next, broken-here, all-next, some-here}
 use Rattle.records.specs.Wire.{records, Bytes, bytesOf, laid}
+use Rattle.records.specs.declared.Form.{Form}
 use Rattle.table.specs.Checking.{checkReply}
 use Rattle.table.specs.TableRules.{tableRules}
 use Rattle.table.proofs.Tables.{accepted-table}
@@ -25,29 +26,29 @@ use Rattle.holes.specs.Holes.{holesIn, holesAt}
 use Rattle.holes.specs.Listing.{holesOf, unroutedRules, Lists}
 
 -- ---- The rules, one after the other.
-module _ (t : List ℕ) (room : ℕ) where
+module _ (form : Form) (t : List ℕ) (room : ℕ) where
   -- The rule of the output.
   abbrev last : List Rule
   last = rule 11 0 (leb (8 * length (holesOf t)) room) ∷ []
 
   module _ {A : Type 0} (a : A) where
     -- A table that is refused.
-    refused-reply : {k i : ℕ} → checkReply false t ≡ refuses k i → judge (unroutedRules t room) a ≡ refuses k i
+    refused-reply : {k i : ℕ} → checkReply form false t ≡ refuses k i → judge (unroutedRules form t room) a ≡ refuses k i
     unfolding unroutedRules
-    refused-reply {k} {i} e = some-here a (records t) k i (tableRules false t) last e
+    refused-reply {k} {i} e = some-here a (records t) k i (tableRules form false t) last e
 
-    module _ {n : ℕ} (valid : checkReply false t ≡ gives n) where
+    module _ {n : ℕ} (valid : checkReply form false t ≡ gives n) where
       -- One that is not: the list is given where it fits the output.
-      given-reply : 8 * length (holesOf t) ≤ room → judge (unroutedRules t room) a ≡ gives a
+      given-reply : 8 * length (holesOf t) ≤ room → judge (unroutedRules form t room) a ≡ gives a
       unfolding unroutedRules judge
       given-reply le =
-          all-next a (records t) {c = n} (tableRules false t) last valid
+          all-next a (records t) {c = n} (tableRules form false t) last valid
           ∙ kept-next a 11 0 [] (le-leb (8 * length (holesOf t)) room le)
 
-      short-reply : room < 8 * length (holesOf t) → judge (unroutedRules t room) a ≡ refuses 11 0
+      short-reply : room < 8 * length (holesOf t) → judge (unroutedRules form t room) a ≡ refuses 11 0
       unfolding unroutedRules
       short-reply lt =
-          all-next a (records t) {c = n} (tableRules false t) last valid
+          all-next a (records t) {c = n} (tableRules form false t) last valid
           ∙ broken-here a 11 0 [] (lt-leb (8 * length (holesOf t)) room lt)
 
 -- ---- The output's room, as the code asks for it.
@@ -61,17 +62,17 @@ module _ (t : List ℕ) (n : ℕ) (o : List ℕ) {b : Bool} (asked : b ≡ leb (
 -- ---- The statement.
 
 -- The table is refused.
-pub lists-refused : (t o : List ℕ) {k i : ℕ} → checkReply false t ≡ refuses k i → Lists t o (Refused k i) o
-lists-refused t o e =
+pub lists-refused : (form : Form) (t o : List ℕ) {k i : ℕ} → checkReply form false t ≡ refuses k i → Lists form t o (Refused k i) o
+lists-refused form t o e =
     record {
-      answer = sym (refused-reply t (length o) (length (holesOf t)) e);
-      output = sym (ap (outputOf o) (refused-reply t (length o) (holesOf t) e));
+      answer = sym (refused-reply form t (length o) (length (holesOf t)) e);
+      output = sym (ap (outputOf o) (refused-reply form t (length o) (holesOf t) e));
     }
 
-module _ (t : List ℕ) {n : ℕ} (valid : checkReply false t ≡ gives n) where
+module _ (form : Form) (t : List ℕ) {n : ℕ} (valid : checkReply form false t ≡ gives n) where
   -- The check says how many records there are,
   all-records : records t ≡ n
-  all-records = gives-exactly (tableRules false t) (table-tests false t) (records t) .0 valid .1
+  all-records = gives-exactly (tableRules form false t) (table-tests form false t) (records t) .0 valid .1
 
   -- so its holes are those of its run.
   pub whole-holes : holesAt t 0 n 0 0 ≡ holesOf t
@@ -81,33 +82,33 @@ module _ (t : List ℕ) {n : ℕ} (valid : checkReply false t ≡ gives n) where
   module _ (bytes : Bytes t) where
     pub accepted-run : RunAt 32 t 0 n 32 0
     accepted-run =
-        subst (λ (k : ℕ). RunAt 32 t 0 k 32 0) all-records (whole-run 32 (accepted-table (records t) n false t bytes valid .0 .table))
+        subst (λ (k : ℕ). RunAt 32 t 0 k 32 0) all-records (whole-run 32 (accepted-table (records t) n form false t bytes valid .0 .table))
 
     pub accepted-few : n ≤ 1024
     accepted-few =
-        let k = accepted-table (records t) n false t bytes valid in
+        let k = accepted-table (records t) n form false t bytes valid in
         let few = k .0 .few in
         let size = k .1 in
         omega (arith, all-records)
 
   -- The list fits the output, and is written.
   pub lists-given : (o : List ℕ) {o′ : List ℕ} {count : ℕ} → 8 * length (holesAt t 0 n 0 0) ≤ length o → count ≡ length (holesAt t 0 n 0 0)
-      → o′ ≡ laid 0 (bytesOf (holesAt t 0 n 0 0)) o → Lists t o (Records count) o′
+      → o′ ≡ laid 0 (bytesOf (holesAt t 0 n 0 0)) o → Lists form t o (Records count) o′
   lists-given o fits counted wrote =
       let le : 8 * length (holesOf t) ≤ length o = rw whole-holes at fits in
       record {
-        answer = ap gives (counted ∙ ap length whole-holes) ∙ sym (given-reply t (length o) (length (holesOf t)) valid le);
+        answer = ap gives (counted ∙ ap length whole-holes) ∙ sym (given-reply form t (length o) (length (holesOf t)) valid le);
         output =
             wrote ∙ ap (λ (rs : List Route). laid 0 (bytesOf rs) o) whole-holes
             ∙ laid-output (holesOf t) o
-            ∙ sym (ap (outputOf o) (given-reply t (length o) (holesOf t) valid le));
+            ∙ sym (ap (outputOf o) (given-reply form t (length o) (holesOf t) valid le));
       }
 
   -- It does not, and nothing is.
-  pub lists-short : (o : List ℕ) → length o < 8 * length (holesAt t 0 n 0 0) → Lists t o (Refused 11 0) o
+  pub lists-short : (o : List ℕ) → length o < 8 * length (holesAt t 0 n 0 0) → Lists form t o (Refused 11 0) o
   lists-short o short =
       let lt : length o < 8 * length (holesOf t) = rw whole-holes at short in
       record {
-        answer = sym (short-reply t (length o) (length (holesOf t)) valid lt);
-        output = sym (ap (outputOf o) (short-reply t (length o) (holesOf t) valid lt));
+        answer = sym (short-reply form t (length o) (length (holesOf t)) valid lt);
+        output = sym (ap (outputOf o) (short-reply form t (length o) (holesOf t) valid lt));
       }

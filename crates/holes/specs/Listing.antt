@@ -1,4 +1,4 @@
--- The statement of the call: for every table and output, what it answers and what stands in the output then.
+-- The statement of the call: for every table, read by a form, and every output, what it answers and what stands in the output then.
 use Prim.Native.Nat.{ℕ, _*_}
 use mathlib.Core.Path.{_≡_}
 use mathlib.Core.Bool.{false}
@@ -8,6 +8,7 @@ use lib.ListN.{length}
 use Rattle.theory.specs.Routes.{Route}
 use Rattle.refusals.specs.Rules.{Rule, rule, Reply, gives, refuses, judge}
 use Rattle.records.specs.Wire.{routes}
+use Rattle.records.specs.declared.Form.{Form}
 use Rattle.table.specs.TableRules.{tableRules}
 use Rattle.calls.specs.Rewriting.{outputOf}
 use Rattle.holes.specs.declared.Listed.{Listed}
@@ -19,8 +20,8 @@ abbrev pub holesOf : List ℕ → List Route
 holesOf t = holes 32 (routes t)
 
 -- The rules 3 to 8, then 11, for an output of `room` bytes.
-unfoldable pub unroutedRules : List ℕ → ℕ → List Rule
-unroutedRules t room = tableRules false t ++ (rule 11 0 (leb (8 * length (holesOf t)) room) ∷ [])
+unfoldable pub unroutedRules : Form → List ℕ → ℕ → List Rule
+unroutedRules form t room = tableRules form false t ++ (rule 11 0 (leb (8 * length (holesOf t)) room) ∷ [])
 
 -- An answer gives the number of records written, or a refusal.
 abbrev pub listedSays : Listed → Reply ℕ
@@ -34,6 +35,6 @@ listedCount (Refused number index) = 0
 
 -- The statement: the table t and the output o were lent, r was answered, and the output is o′ then. Where no rule is broken the holes' records stand at its
 -- start and their number is given; the rest is as it was, and after a refusal all of it is.
-pub record Lists (t o : List ℕ) (r : Listed) (o′ : List ℕ) : Type 0 where
-  pub answer : listedSays r ≡ judge (unroutedRules t (length o)) (length (holesOf t))
-  pub output : o′ ≡ outputOf o (judge (unroutedRules t (length o)) (holesOf t))
+pub record Lists (form : Form) (t o : List ℕ) (r : Listed) (o′ : List ℕ) : Type 0 where
+  pub answer : listedSays r ≡ judge (unroutedRules form t (length o)) (length (holesOf t))
+  pub output : o′ ≡ outputOf o (judge (unroutedRules form t (length o)) (holesOf t))

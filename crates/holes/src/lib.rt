@@ -3,6 +3,7 @@
 // A plain recursion over the bits of an address: a position in which no record lies is a hole, one with a record of its own has a route throughout, and
 // any other is looked at half by half.
 
+use records::Form;
 use records::write_record;
 use runs::past_own;
 use runs::right_half;
@@ -100,12 +101,12 @@ fn fits(table: &[u8], records: usize, room: usize) -> bool
     count(table, 0, records, 0, 0) <= room
 }
 
-// Lists the holes of a map's table into the output, as records with byte 5 zero in table order: the number of records written from its start, or the refusal
-// (3 to 8, then 11).
-pub fn unrouted(table: &[u8], output: &mut [u8]) -> Listed
-    ensures { λ r. ⌜ Lists (now (table .entry)) (now (output .entry)) r (now (output .exit)) ⌝ }
+// Lists the holes of a map's table, read by the form, into the output, as records with byte 5 zero in table order: the number of records written
+// from its start, or the refusal (3 to 8, then 11).
+pub fn unrouted(table: &[u8], form: Form, output: &mut [u8]) -> Listed
+    ensures { λ r. ⌜ Lists form (now (table .entry)) (now (output .entry)) r (now (output .exit)) ⌝ }
 {
-    match check_table(table, false) {
+    match check_table(table, form, false) {
         Checked::Refused { number, index } => Listed::Refused { number, index },
         Checked::Valid(records) => {
             if fits(table, records, output.len() / 8) {

@@ -14,6 +14,7 @@ use Rattle.theory.proofs.LongestMatch.{lookup-found, lookup-held}
 use Rattle.theory.proofs.Reach.{reach-matched, reach-holes, reach-whole}
 use Rattle.refusals.specs.Order.{First}
 use Rattle.records.specs.Wire.{routes}
+use Rattle.records.specs.declared.Form.{Form}
 use Rattle.table.specs.Conditions.{TableCondition, Accepted}
 use Rattle.table.proofs.Alone.{table-unique, table-gives, table-refuses}
 use Rattle.lookup.specs.declared.answers.Lookup.{Lookup}
@@ -23,7 +24,7 @@ use Rattle.lookup.specs.declared.answers.AddressesHeld.the-variants.{Cou
 use Rattle.lookup.specs.Calls.{lookupSays, lookupReply, heldSays, heldReply}
 
 -- ---- Answers that say the same are the same.
-lookup-same : (a b : Lookup) → lookupSays a ≡ lookupSays b → a ≡ b
+pub lookup-same : (a b : Lookup) → lookupSays a ≡ lookupSays b → a ≡ b
 lookup-same (Route h l) (Route i m) e = cc
 lookup-same (Route h l) NoRoute e = let z : _≡_ {A = ℕ} 0 1 = cc in absurd (omega arith)
 lookup-same (Route h l) (NotLooked n i) e = let z : _≡_ {A = ℕ} 0 1 = cc in absurd (omega arith)
@@ -34,33 +35,34 @@ lookup-same (NotLooked n i) (Route h l) e = let z : _≡_ {A = ℕ} 0 1 = cc in 
 lookup-same (NotLooked n i) NoRoute e = let z : _≡_ {A = ℕ} 0 1 = cc in absurd (omega arith)
 lookup-same (NotLooked m i) (NotLooked n j) e = cc
 
-count-same : (a b : AddressesHeld) → heldSays a ≡ heldSays b → a ≡ b
+pub count-same : (a b : AddressesHeld) → heldSays a ≡ heldSays b → a ≡ b
 count-same (Count m) (Count n) e = cc
 count-same (Count m) (NotCounted n i) e = let z : _≡_ {A = ℕ} 0 1 = cc in absurd (omega arith)
 count-same (NotCounted n i) (Count m) e = let z : _≡_ {A = ℕ} 0 1 = cc in absurd (omega arith)
 count-same (NotCounted m i) (NotCounted n j) e = cc
 
 -- ---- Lookup.
-module _ (t : List ℕ) (x : ℕ) where
-  -- There is no match exactly where no member matches.
-  pub miss-held : lookup 32 (routes t) x ≡ miss ↔ held 32 (routes t) x ≡ false
-  miss-held = go (lookup 32 (routes t) x) (held 32 (routes t) x) (lookup-held 32 (routes t) x)
-    where
-      go : (m : Match) (h : Bool) → isMiss m ≡ not h → m ≡ miss ↔ h ≡ false
-      go miss false e = (λ p. refl, λ p. refl)
-      go miss true e = let z : _≡_ {A = ℕ} 0 1 = cc in absurd (omega arith)
-      go (hit l k) false e = let z : _≡_ {A = ℕ} 0 1 = cc in absurd (omega arith)
-      go (hit l k) true e = (λ p. let z : _≡_ {A = ℕ} 0 1 = cc in absurd (omega arith), λ p. let z : _≡_ {A = ℕ} 0 1 = cc in absurd (omega arith))
 
+-- There is no match exactly where no member matches.
+pub miss-held : (t : List ℕ) (x : ℕ) → lookup 32 (routes t) x ≡ miss ↔ held 32 (routes t) x ≡ false
+miss-held t x = go (lookup 32 (routes t) x) (held 32 (routes t) x) (lookup-held 32 (routes t) x)
+  where
+    go : (m : Match) (h : Bool) → isMiss m ≡ not h → m ≡ miss ↔ h ≡ false
+    go miss false e = (λ p. refl, λ p. refl)
+    go miss true e = let z : _≡_ {A = ℕ} 0 1 = cc in absurd (omega arith)
+    go (hit l k) false e = let z : _≡_ {A = ℕ} 0 1 = cc in absurd (omega arith)
+    go (hit l k) true e = (λ p. let z : _≡_ {A = ℕ} 0 1 = cc in absurd (omega arith), λ p. let z : _≡_ {A = ℕ} 0 1 = cc in absurd (omega arith))
+
+module _ (form : Form) (t : List ℕ) (x : ℕ) where
   -- No second answer satisfies the statement.
-  pub lookup-unique : (a b : Lookup) → lookupSays a ≡ lookupReply t x → lookupSays b ≡ lookupReply t x → a ≡ b
-  lookup-unique = table-unique lookupSays lookup-same false t (lookup 32 (routes t) x)
+  pub lookup-unique : (a b : Lookup) → lookupSays a ≡ lookupReply form t x → lookupSays b ≡ lookupReply form t x → a ≡ b
+  lookup-unique = table-unique lookupSays lookup-same form false t (lookup 32 (routes t) x)
 
-  module _ (r : Lookup) (e : lookupSays r ≡ lookupReply t x) where
+  module _ (r : Lookup) (e : lookupSays r ≡ lookupReply form t x) where
     -- It answers a route exactly for an accepted table of which that is the longest match.
-    pub lookup-route-exactly : (hop len : ℕ) → r ≡ Route hop len ↔ (Accepted false t × (lookup 32 (routes t) x ≡ hit len hop))
+    pub lookup-route-exactly : (hop len : ℕ) → r ≡ Route hop len ↔ (Accepted form false t × (lookup 32 (routes t) x ≡ hit len hop))
     lookup-route-exactly hop len =
-        table-gives lookupSays lookup-same false t (lookup 32 (routes t) x) r e (Route hop len) (hit len hop) refl
+        table-gives lookupSays lookup-same form false t (lookup 32 (routes t) x) r e (Route hop len) (hit len hop) refl
 
     -- That is a member that matches, and no member that matches is longer.
     pub lookup-longest : (hop len : ℕ) → r ≡ Route hop len
@@ -68,27 +70,27 @@ module _ (t : List ℕ) (x : ℕ) where
     lookup-longest hop len q = lookup-found 32 (routes t) x (lookup-route-exactly hop len .0 q .1)
 
     -- It answers that there is no route exactly for an accepted table under no member of which the address is.
-    pub lookup-none-exactly : r ≡ NoRoute ↔ (Accepted false t × (held 32 (routes t) x ≡ false))
+    pub lookup-none-exactly : r ≡ NoRoute ↔ (Accepted form false t × (held 32 (routes t) x ≡ false))
     lookup-none-exactly =
-        let none = table-gives lookupSays lookup-same false t (lookup 32 (routes t) x) r e NoRoute miss refl in (
-          λ q. let f = none .0 q in (f .0, miss-held .0 (f .1)),
-          λ f. none .1 (f .0, miss-held .1 (f .1)),
+        let none = table-gives lookupSays lookup-same form false t (lookup 32 (routes t) x) r e NoRoute miss refl in (
+          λ q. let f = none .0 q in (f .0, miss-held t x .0 (f .1)),
+          λ f. none .1 (f .0, miss-held t x .1 (f .1)),
         )
 
     -- It answers a refusal exactly when its number and index are those of the first condition that holds.
-    pub lookup-refused-exactly : (n i : ℕ) → r ≡ NotLooked n i ↔ First (TableCondition false t) n i
-    lookup-refused-exactly n i = table-refuses lookupSays lookup-same false t (lookup 32 (routes t) x) r e (NotLooked n i) n i refl
+    pub lookup-refused-exactly : (n i : ℕ) → r ≡ NotLooked n i ↔ First (TableCondition form false t) n i
+    lookup-refused-exactly n i = table-refuses lookupSays lookup-same form false t (lookup 32 (routes t) x) r e (NotLooked n i) n i refl
 
 -- ---- Addresses held.
-module _ (t : List ℕ) where
+module _ (form : Form) (t : List ℕ) where
   -- No second answer satisfies the statement.
-  pub held-unique : (a b : AddressesHeld) → heldSays a ≡ heldReply t → heldSays b ≡ heldReply t → a ≡ b
-  held-unique = table-unique heldSays count-same false t (reach 32 (routes t))
+  pub held-unique : (a b : AddressesHeld) → heldSays a ≡ heldReply form t → heldSays b ≡ heldReply form t → a ≡ b
+  held-unique = table-unique heldSays count-same form false t (reach 32 (routes t))
 
-  module _ (r : AddressesHeld) (e : heldSays r ≡ heldReply t) where
+  module _ (r : AddressesHeld) (e : heldSays r ≡ heldReply form t) where
     -- It answers a number exactly for an accepted table that holds as many addresses.
-    pub held-count-exactly : (n : ℕ) → r ≡ Count n ↔ (Accepted false t × (reach 32 (routes t) ≡ n))
-    held-count-exactly n = table-gives heldSays count-same false t (reach 32 (routes t)) r e (Count n) n refl
+    pub held-count-exactly : (n : ℕ) → r ≡ Count n ↔ (Accepted form false t × (reach 32 (routes t) ≡ n))
+    held-count-exactly n = table-gives heldSays count-same form false t (reach 32 (routes t)) r e (Count n) n refl
 
     -- They are the addresses with a longest match.
     pub held-matched : (n : ℕ) → r ≡ Count n → n ≡ howMany (λ x. not (isMiss (lookup 32 (routes t) x))) 32 0
@@ -106,5 +108,5 @@ module _ (t : List ℕ) where
         (λ p. whole .0 (e ∙ p), λ p. sym e ∙ whole .1 p)
 
     -- It answers a refusal exactly when its number and index are those of the first condition that holds.
-    pub held-refused-exactly : (n i : ℕ) → r ≡ NotCounted n i ↔ First (TableCondition false t) n i
-    held-refused-exactly n i = table-refuses heldSays count-same false t (reach 32 (routes t)) r e (NotCounted n i) n i refl
+    pub held-refused-exactly : (n i : ℕ) → r ≡ NotCounted n i ↔ First (TableCondition form false t) n i
+    held-refused-exactly n i = table-refuses heldSays count-same form false t (reach 32 (routes t)) r e (NotCounted n i) n i refl

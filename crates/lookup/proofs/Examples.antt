@@ -7,7 +7,8 @@ use Rattle.theory.specs.Routes.{miss, hit}
 use Rattle.table.specs.Checking.{checkReply}
 use Rattle.lookup.specs.Calls.{lookupReply, heldReply}
 use Rattle.refusals.specs.Rules.{gives, refuses, judge}
-use Rattle.records.specs.Wire.{routeAt, routesFrom, routes}
+use Rattle.records.specs.Wire.{rawAt, routeAt, routesFrom, routes}
+use Rattle.records.specs.Forms.{byDefault, strictly}
 use Rattle.records.proofs.Octets.{all-bytes}
 use Rattle.table.specs.TableRules.{recordRules, rulesFrom, tableRules}
 use Rattle.theory.proofs.Pass.{countFrom}
@@ -22,41 +23,66 @@ abbrev ip : ℕ → ℕ → ℕ → ℕ → ℕ
 ip a b c d = ((a * 256 + b) * 256 + c) * 256 + d
 
 -- The addresses of the inner prefix are those of the outer: 2 ^ 24 in all.
-pub nested-held : heldReply nested ≡ gives 16777216
-unfolding judge tableRules rulesFrom recordRules routeAt routesFrom routes countFrom
-nested-held = ap gives (pass-counts nested (all-bytes nested refl) 2 refl)
+pub nested-held : heldReply byDefault nested ≡ gives 16777216
+unfolding judge tableRules rulesFrom recordRules rawAt routeAt routesFrom routes countFrom
+nested-held = ap gives (pass-counts nested (all-bytes nested refl) byDefault 2 refl)
 
 -- Inside both the longer match wins.
-pub nested-inside : lookupReply nested (ip 10 1 2 3) ≡ gives (hit 16 2)
-unfolding judge tableRules rulesFrom recordRules routeAt routesFrom routes
+pub nested-inside : lookupReply byDefault nested (ip 10 1 2 3) ≡ gives (hit 16 2)
+unfolding judge tableRules rulesFrom recordRules rawAt routeAt routesFrom routes
 nested-inside = refl
 
 -- The shorter serves the rest.
-pub nested-rest : lookupReply nested (ip 10 2 2 3) ≡ gives (hit 8 1)
-unfolding judge tableRules rulesFrom recordRules routeAt routesFrom routes
+pub nested-rest : lookupReply byDefault nested (ip 10 2 2 3) ≡ gives (hit 8 1)
+unfolding judge tableRules rulesFrom recordRules rawAt routeAt routesFrom routes
 nested-rest = refl
 
 -- Outside both there is no route.
-pub nested-outside : lookupReply nested (ip 11 1 2 3) ≡ gives miss
-unfolding judge tableRules rulesFrom recordRules routeAt routesFrom routes
+pub nested-outside : lookupReply byDefault nested (ip 11 1 2 3) ≡ gives miss
+unfolding judge tableRules rulesFrom recordRules rawAt routeAt routesFrom routes
 nested-outside = refl
 
 -- As a set it is refused by its first hop.
-pub nested-set : checkReply true nested ≡ refuses 7 0
-unfolding judge tableRules rulesFrom recordRules routeAt
+pub nested-set : checkReply byDefault true nested ≡ refuses 7 0
+unfolding judge tableRules rulesFrom recordRules rawAt routeAt
 nested-set = refl
 
--- The octets of 10.0.0.0/8 reversed have host bits.
-pub reversed-octets : checkReply false (0 ∷ 0 ∷ 0 ∷ 10 ∷ 8 ∷ 1 ∷ 0 ∷ 0 ∷ []) ≡ refuses 6 0
-unfolding judge tableRules rulesFrom recordRules routeAt
+-- ---- Host bits.
+
+-- 10.0.0.0/8 with its octets reversed, which has host bits. The strict choice refuses it;
+abbrev reversed : List ℕ
+reversed = 0 ∷ 0 ∷ 0 ∷ 10 ∷ 8 ∷ 1 ∷ 0 ∷ 0 ∷ []
+
+pub reversed-octets : checkReply strictly false reversed ≡ refuses 6 0
+unfolding judge tableRules rulesFrom recordRules rawAt routeAt
 reversed-octets = refl
 
+-- by default it is 0.0.0.0/8.
+pub reversed-read : (lookupReply byDefault reversed (ip 0 1 2 3) ≡ gives (hit 8 1)) × (lookupReply byDefault reversed (ip 10 1 2 3) ≡ gives miss)
+unfolding judge tableRules rulesFrom recordRules rawAt routeAt routesFrom routes
+reversed-read = (refl, refl)
+
+-- 10.9.2.3/8 by hop 1, and 10.1.0.0/16 inside it by hop 2: in order, though as they stand the first address is the larger.
+abbrev loose : List ℕ
+loose = 10 ∷ 9 ∷ 2 ∷ 3 ∷ 8 ∷ 1 ∷ 0 ∷ 0 ∷ 10 ∷ 1 ∷ 0 ∷ 0 ∷ 16 ∷ 2 ∷ 0 ∷ 0 ∷ []
+
+pub loose-read : (lookupReply byDefault loose (ip 10 1 2 3) ≡ gives (hit 16 2)) × (lookupReply byDefault loose (ip 10 2 2 3) ≡ gives (hit 8 1))
+unfolding judge tableRules rulesFrom recordRules rawAt routeAt routesFrom routes
+loose-read = (refl, refl)
+
+-- 10.1.2.3/8 and 10.9.2.3/8 are one prefix: the second is not strictly after the first.
+pub one-prefix : checkReply byDefault false (10 ∷ 1 ∷ 2 ∷ 3 ∷ 8 ∷ 1 ∷ 0 ∷ 0 ∷ 10 ∷ 9 ∷ 2 ∷ 3 ∷ 8 ∷ 2 ∷ 0 ∷ 0 ∷ []) ≡ refuses 8 1
+unfolding judge tableRules rulesFrom recordRules rawAt routeAt
+one-prefix = refl
+
+-- ---- The order of refusals.
+
 -- The first bad record is named, with its lowest number: record 1 has a bad hop and stands before record 0, record 2 is too long.
-pub first-and-lowest : checkReply false (10 ∷ 0 ∷ 0 ∷ 0 ∷ 8 ∷ 1 ∷ 0 ∷ 0 ∷ 9 ∷ 0 ∷ 0 ∷ 0 ∷ 8 ∷ 64 ∷ 0 ∷ 0 ∷ 11 ∷ 0 ∷ 0 ∷ 0 ∷ 33 ∷ 0 ∷ 0 ∷ 0 ∷ []) ≡ refuses 7 1
-unfolding judge tableRules rulesFrom recordRules routeAt
+pub first-and-lowest : checkReply byDefault false (10 ∷ 0 ∷ 0 ∷ 0 ∷ 8 ∷ 1 ∷ 0 ∷ 0 ∷ 9 ∷ 0 ∷ 0 ∷ 0 ∷ 8 ∷ 64 ∷ 0 ∷ 0 ∷ 11 ∷ 0 ∷ 0 ∷ 0 ∷ 33 ∷ 0 ∷ 0 ∷ 0 ∷ []) ≡ refuses 7 1
+unfolding judge tableRules rulesFrom recordRules rawAt routeAt
 first-and-lowest = refl
 
 -- A record twice is not in strict order.
-pub twice : checkReply true (0 ∷ 0 ∷ 0 ∷ 0 ∷ 0 ∷ 0 ∷ 0 ∷ 0 ∷ 0 ∷ 0 ∷ 0 ∷ 0 ∷ 0 ∷ 0 ∷ 0 ∷ 0 ∷ []) ≡ refuses 8 1
-unfolding judge tableRules rulesFrom recordRules routeAt
+pub twice : checkReply byDefault true (0 ∷ 0 ∷ 0 ∷ 0 ∷ 0 ∷ 0 ∷ 0 ∷ 0 ∷ 0 ∷ 0 ∷ 0 ∷ 0 ∷ 0 ∷ 0 ∷ 0 ∷ 0 ∷ []) ≡ refuses 8 1
+unfolding judge tableRules rulesFrom recordRules rawAt routeAt
 twice = refl

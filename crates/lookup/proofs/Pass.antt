@@ -10,6 +10,7 @@ use Rattle.theory.proofs.Pass.{endOf, countFrom, count-none, count-inside, coun
 use Rattle.theory.proofs.Reach.{reach-most}
 use Rattle.refusals.specs.Rules.{gives}
 use Rattle.records.specs.Wire.{records, routeAt, routes, Bytes}
+use Rattle.records.specs.declared.Form.{Form}
 use Rattle.records.proofs.Reading.{rest, rest-end, rest-all, rest-next}
 use Rattle.table.specs.Checking.{checkReply}
 use Rattle.table.proofs.Tables.{accepted-table}
@@ -43,5 +44,5 @@ module _ (t : List ℕ) where
   pass-most held end i p = omega (arith, p, reach-most 32 (routes t))
 
   -- So the addresses that an accepted table of k records holds can be computed.
-  pub pass-counts : Bytes t → (k : ℕ) → checkReply false t ≡ gives k → reach 32 (routes t) ≡ countFrom 32 0 (routes t)
-  pass-counts bytes k ok = sym (count-reach 32 (accepted-table (records t) k false t bytes ok .0 .table))
+  pub pass-counts : Bytes t → (form : Form) (k : ℕ) → checkReply form false t ≡ gives k → reach 32 (routes t) ≡ countFrom 32 0 (routes t)
+  pass-counts bytes form k ok = sym (count-reach 32 (accepted-table (records t) k form false t bytes ok .0 .table))

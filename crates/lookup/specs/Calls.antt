@@ -12,6 +12,7 @@ use Rattle.lookup.specs.declared.matching.Found.{Found as Best}
 use Rattle.lookup.specs.declared.matching.Found.the-variants.{Nothing, Match as One}
 use Rattle.refusals.specs.Rules.{Reply, gives, refuses, judge}
 use Rattle.records.specs.Wire.{routeAt, records, routes}
+use Rattle.records.specs.declared.Form.{Form}
 use Rattle.table.specs.TableRules.{tableRules}
 
 -- ---- Lookup.
@@ -22,9 +23,9 @@ lookupSays (Found hop len) = gives (hit len hop)
 lookupSays NoRoute = gives miss
 lookupSays (NotLooked number index) = refuses number index
 
--- The right reply for a map's table and an address.
-abbrev pub lookupReply : List ℕ → ℕ → Reply Match
-lookupReply t x = judge (tableRules false t) (lookup 32 (routes t) x)
+-- The right reply for a map's table, read by the form, and an address.
+abbrev pub lookupReply : Form → List ℕ → ℕ → Reply Match
+lookupReply form t x = judge (tableRules form false t) (lookup 32 (routes t) x)
 
 -- ---- Addresses held.
 
@@ -33,9 +34,9 @@ abbrev pub heldSays : AddressesHeld → Reply ℕ
 heldSays (Count n) = gives n
 heldSays (NotCounted number index) = refuses number index
 
--- The right reply for a map's table.
-abbrev pub heldReply : List ℕ → Reply ℕ
-heldReply t = judge (tableRules false t) (reach 32 (routes t))
+-- The right reply for a map's table, read by the form.
+abbrev pub heldReply : Form → List ℕ → Reply ℕ
+heldReply form t = judge (tableRules form false t) (reach 32 (routes t))
 
 -- ---- What the inner functions ask and say.
 

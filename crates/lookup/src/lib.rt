@@ -7,6 +7,7 @@ use answers::AddressesHeld;
 use answers::Lookup;
 use matching::Found;
 use matching::longest_in;
+use records::Form;
 use records::addr_at;
 use records::len_at;
 use table::Checked;
@@ -32,11 +33,11 @@ fn answer_of(found: Found) -> Lookup
     }
 }
 
-// The longest match of an address in a map's table, no route, or the refusal (3 to 8).
-pub fn lookup(table: &[u8], address: u32) -> Lookup
-    ensures { λ r. ⌜ lookupSays r ≡ lookupReply (now (table .entry)) address ⌝ }
+// The longest match of an address in a map's table, read by the form; no route; or the refusal (3 to 8).
+pub fn lookup(table: &[u8], form: Form, address: u32) -> Lookup
+    ensures { λ r. ⌜ lookupSays r ≡ lookupReply form (now (table .entry)) address ⌝ }
 {
-    match check_table(table, false) {
+    match check_table(table, form, false) {
         Checked::Valid(_) => answer_of(longest_in(table, address)),
         Checked::Refused { number, index } => Lookup::Refused {
             number: number,
@@ -75,11 +76,11 @@ fn count_held(table: &[u8]) -> u64
     held
 }
 
-// The number of addresses with a longest match in a map's table, or the refusal (3 to 8).
-pub fn addresses_held(table: &[u8]) -> AddressesHeld
-    ensures { λ r. ⌜ heldSays r ≡ heldReply (now (table .entry)) ⌝ }
+// The number of addresses with a longest match in a map's table, read by the form; or the refusal (3 to 8).
+pub fn addresses_held(table: &[u8], form: Form) -> AddressesHeld
+    ensures { λ r. ⌜ heldSays r ≡ heldReply form (now (table .entry)) ⌝ }
 {
-    match check_table(table, false) {
+    match check_table(table, form, false) {
         Checked::Valid(_) => AddressesHeld::Count(count_held(table)),
         Checked::Refused { number, index } => AddressesHeld::Refused {
             number: number,

@@ -11,6 +11,7 @@ use borrow.Author.Tests.{ne-eqb, le-leb, lt-leb}
 use Rattle.theory.specs.Routes.{Route}
 use Rattle.refusals.specs.Rules.{Rule, rule, Reply, refuses, judge}
 use Rattle.records.specs.Wire.{records, routes}
+use Rattle.records.specs.declared.Form.{Form}
 use Rattle.table.specs.TableRules.{tableRules}
 use Rattle.nodecount.specs.Nodes.{nodes}
 use Rattle.calls.specs.declared.Rewritten.{Rewritten}
@@ -64,21 +65,21 @@ same-modes (suc (suc (suc (suc (suc (suc n)))))) two three =
     )
 
 -- ---- A table t in a mode that is not 2 or 3, rewritten by each engine: by the first with a room of so many words, to r and o′; by the second to q and p′.
-module _ (t : List ℕ) (mode default : ℕ) (o : List ℕ) (words : ℕ) (r : Rewritten) (o′ w′ : List ℕ) (first : Rewrites t mode default o words r o′ w′)
-    (q : Rewritten) (p′ : List ℕ) (second : RewritesBy (plainRules t mode default (length o)) t mode default o q p′)
+module _ (form : Form) (t : List ℕ) (mode default : ℕ) (o : List ℕ) (words : ℕ) (r : Rewritten) (o′ w′ : List ℕ) (first : Rewrites form t mode default o words r o′ w′)
+    (q : Rewritten) (p′ : List ℕ) (second : RewritesBy (plainRules form t mode default (length o)) t mode default o q p′)
     (two : mode ≡ 2 → ⊥) (three : mode ≡ 3 → ⊥) where
   abbrev reply : Reply (List Route)
-  reply = rewriteReply t mode default (length o) words
+  reply = rewriteReply form t mode default (length o) words
 
   abbrev plain : Reply (List Route)
-  plain = replyBy (plainRules t mode default (length o)) t mode default
+  plain = replyBy (plainRules form t mode default (length o)) t mode default
 
   replies : (reply ≡ plain) ⊎ ((reply ≡ refuses 10 0) × (plain ≡ lastReply t mode default (length o)))
   unfolding replyBy rewriteRules plainRules
   replies =
       rw (sym (same-modes mode two three))
       (one-more
-      (rule 1 0 (leb 1 mode && leb mode 5) ∷ rule 2 0 (not (eqb mode 5) || leb default 63) ∷ tableRules (takesSet mode) t)
+      (rule 1 0 (leb 1 mode && leb mode 5) ∷ rule 2 0 (not (eqb mode 5) || leb default 63) ∷ tableRules form (takesSet mode) t)
       (rule 10 0 (leb (160 * nodes 32 (routes t)) words))
       (rule 11 0 (leb (8 * length (resultOf t mode default)) (length o)) ∷ [])
       (resultOf t mode default))
@@ -117,5 +118,5 @@ module _ (t : List ℕ) (mode default : ℕ) (o : List ℕ) (words : ℕ) (r : R
   engines-past-ten index ten = go engines-compared
     where
       go : ((q ≡ r) × (p′ ≡ o′)) ⊎ ((r ≡ Refused 10 0) × Finished t mode default o q p′) → Finished t mode default o q p′
-      go (inl same) = absurd (plain-never-ten t mode default o q p′ second index (same .0 ∙ ten))
+      go (inl same) = absurd (plain-never-ten form t mode default o q p′ second index (same .0 ∙ ten))
       go (inr (e, more)) = more

@@ -18,6 +18,7 @@ use Rattle.theory.proofs.Computed.{under-default}
 use Rattle.theory.proofs.Lists.{all-member}
 use Rattle.theory.proofs.Maximal.{set-is-drop-bare}
 use Rattle.refusals.specs.Rules.{Reply}
+use Rattle.records.specs.declared.Form.{Form}
 use Rattle.table.specs.Checking.{checkReply}
 use Rattle.records.specs.Wire.{records, routes, routeAt}
 use Rattle.table.specs.TableRules.{topHop}
@@ -75,8 +76,8 @@ mode-takes-set (inl e) = rw e
 mode-takes-set (inr (inl e)) = rw e
 mode-takes-set (inr (inr e)) = rw e
 
-pub mode-checked : {mode : ℕ} → IsMode mode → (t : List ℕ) {q : Reply ℕ} → checkReply (eqb mode 1) t ≡ q → checkReply (takesSet mode) t ≡ q
-mode-checked had t e = ap (λ (s : Bool). checkReply s t) (sym (mode-takes-set had)) ∙ e
+pub mode-checked : {mode : ℕ} → IsMode mode → (form : Form) (t : List ℕ) {q : Reply ℕ} → checkReply form (eqb mode 1) t ≡ q → checkReply form (takesSet mode) t ≡ q
+mode-checked had form t e = ap (λ (s : Bool). checkReply form s t) (sym (mode-takes-set had)) ∙ e
 
 -- ---- A table that keeps the rules.
 

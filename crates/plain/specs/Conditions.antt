@@ -4,6 +4,7 @@ use mathlib.Core.Path.{_≡_}
 use mathlib.Core.List.{List}
 use mathlib.Core.Logic.{_⊎_}
 use lib.ListN.{length}
+use Rattle.records.specs.declared.Form.{Form}
 use Rattle.table.specs.Conditions.{TableCondition}
 use Rattle.calls.specs.Rewriting.{resultOf, takesSet}
 
@@ -13,8 +14,8 @@ IsMode mode = (mode ≡ 1) ⊎ ((mode ≡ 4) ⊎ (mode ≡ 5))
 
 -- With an output of `room` bytes. 1: the mode is not 1, 4 or 5. 2: it is 5 and the default is above 63. 3 to 8: the table's. 11: the output is shorter
 -- than 8 times the result's records.
-pub data PlainCondition (t : List ℕ) (mode default room : ℕ) : ℕ → ℕ → Type 0 where
-  no-mode : (IsMode mode → ⊥) → PlainCondition t mode default room 1 0
-  large-default : mode ≡ 5 → 63 < default → PlainCondition t mode default room 2 0
-  of-table : {n i : ℕ} → TableCondition (takesSet mode) t n i → PlainCondition t mode default room n i
-  short-output : room < 8 * length (resultOf t mode default) → PlainCondition t mode default room 11 0
+pub data PlainCondition (form : Form) (t : List ℕ) (mode default room : ℕ) : ℕ → ℕ → Type 0 where
+  no-mode : (IsMode mode → ⊥) → PlainCondition form t mode default room 1 0
+  large-default : mode ≡ 5 → 63 < default → PlainCondition form t mode default room 2 0
+  of-table : {n i : ℕ} → TableCondition form (takesSet mode) t n i → PlainCondition form t mode default room n i
+  short-output : room < 8 * length (resultOf t mode default) → PlainCondition form t mode default room 11 0

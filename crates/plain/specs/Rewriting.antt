@@ -8,6 +8,7 @@ use lib.ListN.{length}
 use Rattle.theory.specs.Routes.{All}
 use Rattle.refusals.specs.Rules.{Rule, rule}
 use Rattle.records.specs.Wire.{routes}
+use Rattle.records.specs.declared.Form.{Form}
 use Rattle.table.specs.TableRules.{tableRules}
 use Rattle.calls.specs.Rewriting.{resultOf, takesSet}
 
@@ -16,11 +17,11 @@ abbrev pub hasMode : ℕ → Bool
 hasMode mode = eqb mode 1 || (eqb mode 4 || eqb mode 5)
 
 -- The rules 1 to 8 and 11, for an output of `room` bytes: there is no work room, so no rule 10.
-unfoldable pub plainRules : List ℕ → ℕ → ℕ → ℕ → List Rule
-plainRules t mode default room =
+unfoldable pub plainRules : Form → List ℕ → ℕ → ℕ → ℕ → List Rule
+plainRules form t mode default room =
     rule 1 0 (hasMode mode)
     ∷ rule 2 0 (not (eqb mode 5) || leb default 63)
-    ∷ tableRules (takesSet mode) t
+    ∷ tableRules form (takesSet mode) t
     ++ (rule 11 0 (leb (8 * length (resultOf t mode default)) room) ∷ [])
 
 -- In mode 1 the members' hops are 0.

@@ -14,6 +14,7 @@ use hops::assign;
 use hops::combine;
 use hops::has;
 use hops::smallest;
+use records::Form;
 use records::hop_at;
 use records::past;
 use records::put_record;
@@ -194,8 +195,14 @@ fn rewrite_checked(table: &[u8], mode: u32, fill: u8, before: usize, output: &mu
 
 // Rewrites a table in mode 1, 4 or 5 into the output: the number of records written from its start, and how many more they are than the table's; or a
 // refusal. Mode 5 gives the default to what has no route. Mode 1 is mode 4 on the members of a set, whose hops are 0.
-pub fn rewrite(table: &[u8], mode: u32, default: u32, output: &mut [u8]) -> Rewritten
-    ensures { λ r. ⌜ RewritesBy (plainRules (now (table .entry)) mode default (length (now (output .entry)))) (now (table .entry)) mode default (now (output .entry)) r (now (output .exit)) ⌝ }
+pub fn rewrite(
+    table: &[u8],
+    form: Form,
+    mode: u32,
+    default: u32,
+    output: &mut [u8],
+) -> Rewritten
+    ensures { λ r. ⌜ RewritesBy (plainRules form (now (table .entry)) mode default (length (now (output .entry)))) (now (table .entry)) mode default (now (output .entry)) r (now (output .exit)) ⌝ }
 {
     if no_mode(mode) {
         return Rewritten::Refused {
@@ -209,7 +216,7 @@ pub fn rewrite(table: &[u8], mode: u32, default: u32, output: &mut [u8]) -> Rewr
             index: 0,
         };
     }
-    match check_table(table, mode == 1) {
+    match check_table(table, form, mode == 1) {
         Checked::Refused { number, index } => Rewritten::Refused { number, index },
         Checked::Valid(records) => {
             rewrite_checked(table, mode, fill_of(mode, default), records, output)

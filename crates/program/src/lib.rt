@@ -1,8 +1,9 @@
-// What the programs share: a table rewritten in a mode, and its records and the change as text, or the refusal; and document 01's five, which
-// read the table from standard input.
+// What the programs share: a table rewritten in a mode, its host bits masked, and the result's records and the change as text, or the refusal; and
+// document 01's five, which read the table from standard input.
 
 use libc::STDIN_FILENO;
 use libc::STDOUT_FILENO;
+use records::Form;
 use text::answers::put_rewritten;
 ghost use Prim.Native.Nat.{_≤_};
 ghost use lib.ListN.{length};
@@ -15,7 +16,14 @@ pub fn answer_in(table: &[u8], mode: u32, default: u32, work: &mut [u32], out: &
     ensures { λ r. ⌜ Put (printedIn mode default 8200 (length (now (work .entry))) (now (table .entry))) 0 r (now (out .entry)) (now (out .exit)) ⌝ }
 {
     let mut output = [0u8; 8200];
-    let answered = aggregate::rewrite(table, mode, default, &mut output, work);
+    let answered = aggregate::rewrite(
+        table,
+        Form { strict: false },
+        mode,
+        default,
+        &mut output,
+        work,
+    );
     put_rewritten(answered, &output, 2 < mode, 0, out)
 }
 

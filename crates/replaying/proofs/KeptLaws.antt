@@ -10,6 +10,7 @@ use lib.Seq.{drop-at}
 use Rattle.theory.specs.Routes.{Route}
 use Rattle.refusals.specs.Rules.{Rule, Reply, gives, refuses}
 use Rattle.records.specs.Wire.{records, bytesOf, laid}
+use Rattle.records.specs.declared.Form.{Form}
 use Rattle.records.proofs.Written.{length-bytes}
 use Rattle.rooms.specs.Rooms.{allAre}
 use Rattle.lookup.specs.Calls.{lookupSays, lookupReply, heldSays, heldReply}
@@ -31,7 +32,7 @@ use Rattle.holes.specs.declared.Listed.the-variants.{Records as Listing, Refuse
 use Rattle.holes.proofs.Calls.{refusal-changes-nothing, unrouted-rest}
 use Rattle.text.specs.Text.{Put}
 use Rattle.text.specs.Answers.{coversText, lookupText, heldText}
-use Rattle.replaying.specs.Kept.{byte, addressOf, wordsOf, roomOf, coversOf, lookupOf, heldOf, rewriteAnswer, coverAnswer, lookupAnswer, heldAnswer, answerText, beginOf}
+use Rattle.replaying.specs.Kept.{byte, callBy, formBy, addressOf, wordsOf, roomOf, coversOf, lookupOf, heldOf, rewriteAnswer, coverAnswer, lookupAnswer, heldAnswer, answerText, beginOf}
 
 -- ---- Where text is kept.
 
@@ -57,44 +58,50 @@ covers-back Covered = refl
 covers-back Uncovered = refl
 covers-back (NotAnswered number index) = refl
 
-pub covers-kept : (r : Covers) (t : List ℕ) (address len words : ℕ) → coversSays r ≡ coverReply t address len words
-    → coversText r ≡ coverAnswer t address len words
-covers-kept r t address len words e = ap coversText (sym (covers-back r) ∙ ap coversOf e)
+pub covers-kept : (r : Covers) (form : Form) (t : List ℕ) (address len words : ℕ) → coversSays r ≡ coverReply form t address len words
+    → coversText r ≡ coverAnswer form t address len words
+covers-kept r form t address len words e = ap coversText (sym (covers-back r) ∙ ap coversOf e)
 
 lookup-back : (r : Lookup) → lookupOf (lookupSays r) ≡ r
 lookup-back (Found hop len) = refl
 lookup-back NoRoute = refl
 lookup-back (NotLooked number index) = refl
 
-pub lookup-kept : (r : Lookup) (t : List ℕ) (address : ℕ) → lookupSays r ≡ lookupReply t address → lookupText r ≡ lookupAnswer t address
-lookup-kept r t address e = ap lookupText (sym (lookup-back r) ∙ ap lookupOf e)
+pub lookup-kept : (r : Lookup) (form : Form) (t : List ℕ) (address : ℕ) → lookupSays r ≡ lookupReply form t address → lookupText r ≡ lookupAnswer form t address
+lookup-kept r form t address e = ap lookupText (sym (lookup-back r) ∙ ap lookupOf e)
 
 held-back : (r : AddressesHeld) → heldOf (heldSays r) ≡ r
 held-back (Count n) = refl
 held-back (NotCounted number index) = refl
 
-pub held-kept : (r : AddressesHeld) (t : List ℕ) → heldSays r ≡ heldReply t → heldText r ≡ heldAnswer t
-held-kept r t e = ap heldText (sym (held-back r) ∙ ap heldOf e)
+pub held-kept : (r : AddressesHeld) (form : Form) (t : List ℕ) → heldSays r ≡ heldReply form t → heldText r ≡ heldAnswer form t
+held-kept r form t e = ap heldText (sym (held-back r) ∙ ap heldOf e)
 
 -- The text of a case is that of its call.
 module _ (head t : List ℕ) where
-  pub case-rewrite : byte head 0 ≡ 0 → rewriteAnswer t (byte head 1) (byte head 2) (roomOf head) (wordsOf head) ≡ answerText head t
+  abbrev form : Form
+  form = formBy (byte head 0)
+
+  abbrev call : ℕ
+  call = callBy (byte head 0)
+
+  pub case-rewrite : call ≡ 0 → rewriteAnswer form t (byte head 1) (byte head 2) (roomOf head) (wordsOf head) ≡ answerText head t
   unfolding answerText
-  case-rewrite e = rw (eq-eqb (byte head 0) 0 e)
+  case-rewrite e = rw (eq-eqb call 0 e)
 
-  module _ (not-rewrite : byte head 0 ≡ 0 → ⊥) where
-    pub case-cover : byte head 0 ≡ 1 → coverAnswer t (addressOf head) (byte head 3) (wordsOf head) ≡ answerText head t
+  module _ (not-rewrite : call ≡ 0 → ⊥) where
+    pub case-cover : call ≡ 1 → coverAnswer form t (addressOf head) (byte head 3) (wordsOf head) ≡ answerText head t
     unfolding answerText
-    case-cover e = rw (ne-eqb (byte head 0) 0 not-rewrite, eq-eqb (byte head 0) 1 e)
+    case-cover e = rw (ne-eqb call 0 not-rewrite, eq-eqb call 1 e)
 
-    module _ (not-cover : byte head 0 ≡ 1 → ⊥) where
-      pub case-lookup : byte head 0 ≡ 2 → lookupAnswer t (addressOf head) ≡ answerText head t
+    module _ (not-cover : call ≡ 1 → ⊥) where
+      pub case-lookup : call ≡ 2 → lookupAnswer form t (addressOf head) ≡ answerText head t
       unfolding answerText
-      case-lookup e = rw (ne-eqb (byte head 0) 0 not-rewrite, ne-eqb (byte head 0) 1 not-cover, eq-eqb (byte head 0) 2 e)
+      case-lookup e = rw (ne-eqb call 0 not-rewrite, ne-eqb call 1 not-cover, eq-eqb call 2 e)
 
-      pub case-held : (byte head 0 ≡ 2 → ⊥) → heldAnswer t ≡ answerText head t
+      pub case-held : (call ≡ 2 → ⊥) → heldAnswer form t ≡ answerText head t
       unfolding answerText
-      case-held not-lookup = rw (ne-eqb (byte head 0) 0 not-rewrite, ne-eqb (byte head 0) 1 not-cover, ne-eqb (byte head 0) 2 not-lookup)
+      case-held not-lookup = rw (ne-eqb call 0 not-rewrite, ne-eqb call 1 not-cover, ne-eqb call 2 not-lookup)
 
 -- ---- What a call leaves in the rooms.
 
@@ -111,11 +118,11 @@ all-dropped v (suc k) zero = refl
 all-dropped v (suc k) (suc n) = all-dropped v k n
 
 -- Both calls leave the room zero.
-pub rewrite-zero : {t : List ℕ} {mode default : ℕ} {o : List ℕ} {words : ℕ} {r : Rewritten} {o′ w′ : List ℕ}
-    → Rewrites t mode default o words r o′ w′ → allAre 0 w′ ≡ true
+pub rewrite-zero : {form : Form} {t : List ℕ} {mode default : ℕ} {o : List ℕ} {words : ℕ} {r : Rewritten} {o′ w′ : List ℕ}
+    → Rewrites form t mode default o words r o′ w′ → allAre 0 w′ ≡ true
 rewrite-zero {words = words} ok = ap (allAre 0) (ok .zero) ∙ all-replicate 0 words
 
-pub covers-zero : {t : List ℕ} {address len words : ℕ} {r : Covers} {w′ : List ℕ} → Queried t address len words r w′ → allAre 0 w′ ≡ true
+pub covers-zero : {form : Form} {t : List ℕ} {address len words : ℕ} {r : Covers} {w′ : List ℕ} → Queried form t address len words r w′ → allAre 0 w′ ≡ true
 covers-zero {words = words} ok = ap (allAre 0) (ok .zero) ∙ all-replicate 0 words
 
 -- A refusal leaves the output.
@@ -124,11 +131,11 @@ output-left before number index o (refuses m i) e = refl
 output-left before number index o (gives rs) e = let z : _≡_ {A = ℕ} 0 1 = cc in absurd (omega arith)
 
 -- Past the records that any engine answers with, an output of one value is as it was.
-module _ (rules : List Rule) (t : List ℕ) (mode default : ℕ) (o : List ℕ) (guarded : Guarded rules t mode default (length o)) (o′ : List ℕ)
+module _ (form : Form) (rules : List Rule) (t : List ℕ) (mode default : ℕ) (o : List ℕ) (guarded : Guarded form rules t mode default (length o)) (o′ : List ℕ)
     (v n : ℕ) (filled : o ≡ replicate n v) where
   pub output-filled : (r : Rewritten) → RewritesBy rules t mode default o r o′ → allAre v (drop (8 * countOf r) o′) ≡ true
   output-filled (Records count change) ok =
-      let f = by-records rules t mode default o guarded (Records count change) o′ ok count change refl in
+      let f = by-records form rules t mode default o guarded (Records count change) o′ ok count change refl in
       let rs = resultOf t mode default in
       ap (λ (m : ℕ). allAre v (drop (8 * m) o′)) (f .1)
       ∙ ap (λ (l : List ℕ). allAre v (drop (8 * length rs) l)) (f .3)
@@ -139,11 +146,11 @@ module _ (rules : List Rule) (t : List ℕ) (mode default : ℕ) (o : List ℕ) 
       ap (allAre v) (ok .output ∙ output-left (records t) number index o (replyBy rules t mode default) (ok .answer) ∙ filled) ∙ all-replicate v n
 
 -- The same of a list of what has no route.
-module _ (t o o′ : List ℕ) (v n : ℕ) (filled : o ≡ replicate n v) where
-  pub list-filled : (r : Listed) → Lists t o r o′ → allAre v (drop (8 * listedCount r) o′) ≡ true
+module _ (form : Form) (t o o′ : List ℕ) (v n : ℕ) (filled : o ≡ replicate n v) where
+  pub list-filled : (r : Listed) → Lists form t o r o′ → allAre v (drop (8 * listedCount r) o′) ≡ true
   list-filled (Listing count) ok =
-      ap (allAre v) (unrouted-rest t o (Listing count) o′ ok count refl)
+      ap (allAre v) (unrouted-rest form t o (Listing count) o′ ok count refl)
       ∙ ap (λ (l : List ℕ). allAre v (drop (8 * count) l)) filled
       ∙ all-dropped v (8 * count) n
   list-filled (NotListed number index) ok =
-      ap (allAre v) (refusal-changes-nothing t o (NotListed number index) o′ ok number index refl ∙ filled) ∙ all-replicate v n
+      ap (allAre v) (refusal-changes-nothing form t o (NotListed number index) o′ ok number index refl ∙ filled) ∙ all-replicate v n

@@ -1,5 +1,5 @@
 -- What the program replay keeps for a case (docs/CASES.md): the text of the right answer, and where it stands in the buffer.
-use Prim.Native.Nat.{ℕ, _+_, _*_}
+use Prim.Native.Nat.{ℕ, _+_, _*_, _%_}
 use mathlib.Core.Bool.{Bool, true, false, cond}
 use mathlib.Core.List.{List}
 use lib.Dec.{eqb, leb, ltb}
@@ -7,6 +7,7 @@ use lib.ListN.{getD}
 use Rattle.theory.specs.Routes.{Match, miss, hit}
 use Rattle.refusals.specs.Rules.{Reply, gives, refuses, judge}
 use Rattle.records.specs.Wire.{join, records}
+use Rattle.records.specs.declared.Form.{Form}
 use Rattle.lookup.specs.Calls.{lookupReply, heldReply}
 use Rattle.lookup.specs.declared.answers.Lookup.{Lookup}
 use Rattle.lookup.specs.declared.answers.Lookup.the-variants.{Route as Found, NoRoute, Refused as NotLooked}
@@ -25,6 +26,13 @@ use Rattle.text.specs.Answers.{replyText, coversText, lookupText, heldText, lis
 -- Byte k.
 abbrev pub byte : List ℕ → ℕ → ℕ
 byte head k = getD head k 0
+
+-- The call, and how the table is read: byte 0 is the number of the call, and 128 more under the strict choice.
+abbrev pub callBy : ℕ → ℕ
+callBy first = first % 128
+
+abbrev pub formBy : ℕ → Form
+formBy first = record { strict = leb 128 first }
 
 -- The query's address.
 abbrev pub addressOf : List ℕ → ℕ
@@ -56,37 +64,38 @@ heldOf (gives n) = Count n
 heldOf (refuses number index) = NotCounted number index
 
 -- Of each call; the hops are left out in modes 1 and 2.
-abbrev pub rewriteAnswer : List ℕ → ℕ → ℕ → ℕ → ℕ → List ℕ
-rewriteAnswer t mode default room words = replyText (ltb 2 mode) (records t) (rewriteReply t mode default room words)
+abbrev pub rewriteAnswer : Form → List ℕ → ℕ → ℕ → ℕ → ℕ → List ℕ
+rewriteAnswer form t mode default room words = replyText (ltb 2 mode) (records t) (rewriteReply form t mode default room words)
 
-abbrev pub plainAnswer : List ℕ → ℕ → ℕ → ℕ → List ℕ
-plainAnswer t mode default room = replyText (ltb 2 mode) (records t) (replyBy (plainRules t mode default room) t mode default)
+abbrev pub plainAnswer : Form → List ℕ → ℕ → ℕ → ℕ → List ℕ
+plainAnswer form t mode default room = replyText (ltb 2 mode) (records t) (replyBy (plainRules form t mode default room) t mode default)
 
-abbrev pub coverAnswer : List ℕ → ℕ → ℕ → ℕ → List ℕ
-coverAnswer t address len words = coversText (coversOf (coverReply t address len words))
+abbrev pub coverAnswer : Form → List ℕ → ℕ → ℕ → ℕ → List ℕ
+coverAnswer form t address len words = coversText (coversOf (coverReply form t address len words))
 
-abbrev pub lookupAnswer : List ℕ → ℕ → List ℕ
-lookupAnswer t address = lookupText (lookupOf (lookupReply t address))
+abbrev pub lookupAnswer : Form → List ℕ → ℕ → List ℕ
+lookupAnswer form t address = lookupText (lookupOf (lookupReply form t address))
 
-abbrev pub heldAnswer : List ℕ → List ℕ
-heldAnswer t = heldText (heldOf (heldReply t))
+abbrev pub heldAnswer : Form → List ℕ → List ℕ
+heldAnswer form t = heldText (heldOf (heldReply form t))
 
-abbrev pub listAnswer : List ℕ → ℕ → List ℕ
-listAnswer t room = listText true (judge (unroutedRules t room) (holesOf t))
+abbrev pub listAnswer : Form → List ℕ → ℕ → List ℕ
+listAnswer form t room = listText true (judge (unroutedRules form t room) (holesOf t))
 
--- Of a case: byte 0 is the call, 0 rewrite, 1 cover query, 2 lookup, 3 addresses held. Call 4, a list of what has no route, has
--- `listAnswer` for an output of as many bytes as `wordsOf` says, and call 5, a rewrite by the plain engine, `plainCase`. No case has a higher one: it ends
--- the run.
+-- Of a case, by its call: 0 rewrite, 1 cover query, 2 lookup, 3 addresses held. Call 4, a list of what has no route, has `listAnswer` for an output of
+-- as many bytes as `wordsOf` says, and call 5, a rewrite by the plain engine, `plainCase`. No case has a higher one: it ends the run.
 unfoldable pub answerText : List ℕ → List ℕ → List ℕ
 answerText head t =
-    cond (eqb (byte head 0) 0) (rewriteAnswer t (byte head 1) (byte head 2) (roomOf head) (wordsOf head))
-    (cond (eqb (byte head 0) 1) (coverAnswer t (addressOf head) (byte head 3) (wordsOf head))
-    (cond (eqb (byte head 0) 2) (lookupAnswer t (addressOf head))
-    (heldAnswer t)))
+    let form = formBy (byte head 0) in
+    let call = callBy (byte head 0) in
+    cond (eqb call 0) (rewriteAnswer form t (byte head 1) (byte head 2) (roomOf head) (wordsOf head))
+    (cond (eqb call 1) (coverAnswer form t (addressOf head) (byte head 3) (wordsOf head))
+    (cond (eqb call 2) (lookupAnswer form t (addressOf head))
+    (heldAnswer form t)))
 
 -- Of a case with call 5.
 abbrev pub plainCase : List ℕ → List ℕ → List ℕ
-plainCase head t = plainAnswer t (byte head 1) (byte head 2) (roomOf head)
+plainCase head t = plainAnswer (formBy (byte head 0)) t (byte head 1) (byte head 2) (roomOf head)
 
 -- ---- Where it is kept.
 

@@ -4,6 +4,8 @@
 use super::FILLED_BYTE;
 use super::FILLED_WORD;
 use super::Turn;
+use super::call_of;
+use super::form_of;
 use super::join2;
 use super::keep_output;
 use super::keep_work;
@@ -16,6 +18,7 @@ use holes::Listed;
 use holes::unrouted;
 use lookup::addresses_held;
 use lookup::lookup;
+use records::Form;
 use records::join4;
 use text::answers::put_covers;
 use text::answers::put_held;
@@ -46,6 +49,7 @@ fn keep_rewritten(
     mode: u8,
     default: u8,
     table: &[u8],
+    form: Form,
     output: &mut [u8],
     work: &mut [u32],
     at: usize,
@@ -54,11 +58,11 @@ fn keep_rewritten(
     requires { ⌜ length (now output) ≤ 65535 ⌝ }
     requires { ⌜ at ≤ length (now kept) ⌝ }
     requires { ⌜ 1048576 ≤ length (now kept) ⌝ }
-    ensures { λ r. ⌜ Put (rewriteAnswer (now (table .entry)) mode default (length (now (output .entry))) (length (now (work .entry)))) (beginOf at) r (now (kept .entry)) (now (kept .exit)) ⌝ }
+    ensures { λ r. ⌜ Put (rewriteAnswer form (now (table .entry)) mode default (length (now (output .entry))) (length (now (work .entry)))) (beginOf at) r (now (kept .entry)) (now (kept .exit)) ⌝ }
 {
     rooms::bytes::fill(output, FILLED_BYTE);
     rooms::words::fill(work, FILLED_WORD);
-    let answer = rewrite(table, mode as u32, default as u32, output, work);
+    let answer = rewrite(table, form, mode as u32, default as u32, output, work);
     let begin = room_for(kept, at);
     let end = put_rewritten(answer, output, 2 < mode, begin, kept);
     let after = keep_work(work, end, kept);
@@ -70,6 +74,7 @@ fn keep_plain(
     mode: u8,
     default: u8,
     table: &[u8],
+    form: Form,
     output: &mut [u8],
     at: usize,
     kept: &mut [u8],
@@ -77,10 +82,10 @@ fn keep_plain(
     requires { ⌜ length (now output) ≤ 65535 ⌝ }
     requires { ⌜ at ≤ length (now kept) ⌝ }
     requires { ⌜ 1048576 ≤ length (now kept) ⌝ }
-    ensures { λ r. ⌜ Put (plainAnswer (now (table .entry)) mode default (length (now (output .entry)))) (beginOf at) r (now (kept .entry)) (now (kept .exit)) ⌝ }
+    ensures { λ r. ⌜ Put (plainAnswer form (now (table .entry)) mode default (length (now (output .entry)))) (beginOf at) r (now (kept .entry)) (now (kept .exit)) ⌝ }
 {
     rooms::bytes::fill(output, FILLED_BYTE);
-    let answer = plain::rewrite(table, mode as u32, default as u32, output);
+    let answer = plain::rewrite(table, form, mode as u32, default as u32, output);
     let begin = room_for(kept, at);
     let end = put_rewritten(answer, output, 2 < mode, begin, kept);
     keep_output(output, written(answer), end, kept)
@@ -100,7 +105,7 @@ pub fn plain_turn(
     ensures { λ r. ⌜ Put (plainCase (now (head .entry)) (now (table .entry))) (beginOf at) r (now (kept .entry)) (now (kept .exit)) ⌝ }
 {
     let room = join2(head[12], head[13]);
-    keep_plain(head[1], head[2], table, &mut output[..room], at, kept)
+    keep_plain(head[1], head[2], table, form_of(head[0]), &mut output[..room], at, kept)
 }
 
 // Keeps the answer of the cover query.
@@ -108,39 +113,40 @@ fn keep_covers(
     address: u32,
     len: u8,
     table: &[u8],
+    form: Form,
     work: &mut [u32],
     at: usize,
     kept: &mut [u8],
 ) -> usize
     requires { ⌜ at ≤ length (now kept) ⌝ }
     requires { ⌜ 1048576 ≤ length (now kept) ⌝ }
-    ensures { λ r. ⌜ Put (coverAnswer (now (table .entry)) address len (length (now (work .entry)))) (beginOf at) r (now (kept .entry)) (now (kept .exit)) ⌝ }
+    ensures { λ r. ⌜ Put (coverAnswer form (now (table .entry)) address len (length (now (work .entry)))) (beginOf at) r (now (kept .entry)) (now (kept .exit)) ⌝ }
 {
     rooms::words::fill(work, FILLED_WORD);
-    let answer = covers(table, address, len as u32, work);
+    let answer = covers(table, form, address, len as u32, work);
     let begin = room_for(kept, at);
     let end = put_covers(answer, begin, kept);
     keep_work(work, end, kept)
 }
 
 // Keeps the answer of a lookup.
-fn keep_lookup(address: u32, table: &[u8], at: usize, kept: &mut [u8]) -> usize
+fn keep_lookup(address: u32, table: &[u8], form: Form, at: usize, kept: &mut [u8]) -> usize
     requires { ⌜ at ≤ length (now kept) ⌝ }
     requires { ⌜ 1048576 ≤ length (now kept) ⌝ }
-    ensures { λ r. ⌜ Put (lookupAnswer (now (table .entry)) address) (beginOf at) r (now (kept .entry)) (now (kept .exit)) ⌝ }
+    ensures { λ r. ⌜ Put (lookupAnswer form (now (table .entry)) address) (beginOf at) r (now (kept .entry)) (now (kept .exit)) ⌝ }
 {
     let begin = room_for(kept, at);
-    put_lookup(lookup(table, address), begin, kept)
+    put_lookup(lookup(table, form, address), begin, kept)
 }
 
 // Keeps the answer of addresses held.
-fn keep_held(table: &[u8], at: usize, kept: &mut [u8]) -> usize
+fn keep_held(table: &[u8], form: Form, at: usize, kept: &mut [u8]) -> usize
     requires { ⌜ at ≤ length (now kept) ⌝ }
     requires { ⌜ 1048576 ≤ length (now kept) ⌝ }
-    ensures { λ r. ⌜ Put (heldAnswer (now (table .entry))) (beginOf at) r (now (kept .entry)) (now (kept .exit)) ⌝ }
+    ensures { λ r. ⌜ Put (heldAnswer form (now (table .entry))) (beginOf at) r (now (kept .entry)) (now (kept .exit)) ⌝ }
 {
     let begin = room_for(kept, at);
-    put_held(addresses_held(table), begin, kept)
+    put_held(addresses_held(table, form), begin, kept)
 }
 
 // The bytes of the output that a list's records take.
@@ -155,14 +161,14 @@ fn listed(answer: Listed) -> usize
 }
 
 // Keeps the answer of a list of what has no route.
-fn keep_listed(table: &[u8], output: &mut [u8], at: usize, kept: &mut [u8]) -> usize
+fn keep_listed(table: &[u8], form: Form, output: &mut [u8], at: usize, kept: &mut [u8]) -> usize
     requires { ⌜ length (now output) ≤ 262144 ⌝ }
     requires { ⌜ at ≤ length (now kept) ⌝ }
     requires { ⌜ 1048576 ≤ length (now kept) ⌝ }
-    ensures { λ r. ⌜ Put (listAnswer (now (table .entry)) (length (now (output .entry)))) (beginOf at) r (now (kept .entry)) (now (kept .exit)) ⌝ }
+    ensures { λ r. ⌜ Put (listAnswer form (now (table .entry)) (length (now (output .entry)))) (beginOf at) r (now (kept .entry)) (now (kept .exit)) ⌝ }
 {
     rooms::bytes::fill(output, FILLED_BYTE);
-    let answer = unrouted(table, output);
+    let answer = unrouted(table, form, output);
     let begin = room_for(kept, at);
     let end = put_listed(answer, output, true, begin, kept);
     keep_output(output, listed(answer), end, kept)
@@ -172,6 +178,7 @@ fn keep_listed(table: &[u8], output: &mut [u8], at: usize, kept: &mut [u8]) -> u
 pub fn listed_turn(
     asked: usize,
     table: &[u8],
+    form: Form,
     output: &mut [u8],
     at: usize,
     kept: &mut [u8],
@@ -179,13 +186,13 @@ pub fn listed_turn(
     requires { ⌜ 262144 ≡ length (now output) ⌝ }
     requires { ⌜ at ≤ length (now kept) ⌝ }
     requires { ⌜ 1048576 ≤ length (now kept) ⌝ }
-    ensures { λ r. ⌜ (asked ≤ 262144 → Put (listAnswer (now (table .entry)) asked) (beginOf at) (r .at) (now (kept .entry)) (now (kept .exit))) ⌝ }
+    ensures { λ r. ⌜ (asked ≤ 262144 → Put (listAnswer form (now (table .entry)) asked) (beginOf at) (r .at) (now (kept .entry)) (now (kept .exit))) ⌝ }
     ensures { λ r. ⌜ r .at ≤ length (now (kept .entry)) ⌝ }
 {
     if output.len() < asked {
         return last_line(b"output too large\n", at, kept);
     }
-    let end = keep_listed(table, &mut output[..asked], at, kept);
+    let end = keep_listed(table, form, &mut output[..asked], at, kept);
     Turn {
         at: end,
         more: true,
@@ -208,7 +215,8 @@ pub fn keep_answer(
     requires { ⌜ 1048576 ≤ length (now kept) ⌝ }
     ensures { λ r. ⌜ Put (answerText (now (head .entry)) (now (table .entry))) (beginOf at) r (now (kept .entry)) (now (kept .exit)) ⌝ }
 {
-    let call = head[0];
+    let form = form_of(head[0]);
+    let call = call_of(head[0]);
     let words = join4(head[8], head[9], head[10], head[11]) as usize;
     if call == 0 {
         let room = join2(head[12], head[13]);
@@ -216,6 +224,7 @@ pub fn keep_answer(
             head[1],
             head[2],
             table,
+            form,
             &mut output[..room],
             &mut work[..words],
             at,
@@ -224,12 +233,12 @@ pub fn keep_answer(
     }
     let address = join4(head[4], head[5], head[6], head[7]);
     if call == 1 {
-        return keep_covers(address, head[3], table, &mut work[..words], at, kept);
+        return keep_covers(address, head[3], table, form, &mut work[..words], at, kept);
     }
     if call == 2 {
-        return keep_lookup(address, table, at, kept);
+        return keep_lookup(address, table, form, at, kept);
     }
-    keep_held(table, at, kept)
+    keep_held(table, form, at, kept)
 }
 
 // The turn of a case that was read whole: its answer, or the line that ends the run.
@@ -247,13 +256,13 @@ pub fn case_turn(
     requires { ⌜ 1048576 ≤ length (now kept) ⌝ }
     ensures { λ r. ⌜ r .at ≤ length (now (kept .entry)) ⌝ }
 {
-    let call = head[0];
+    let call = call_of(head[0]);
     if 5 < call {
         return last_line(b"no such call\n", at, kept);
     }
     let asked = join4(head[8], head[9], head[10], head[11]) as usize;
     if call == 4 {
-        return listed_turn(asked, table, output, at, kept);
+        return listed_turn(asked, table, form_of(head[0]), output, at, kept);
     }
     if call == 5 {
         return Turn {

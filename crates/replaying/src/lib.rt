@@ -4,6 +4,7 @@
 pub mod cases;
 
 use libc::STDOUT_FILENO;
+use records::Form;
 use text::put_bytes;
 ghost use mathlib.Core.Path.{_≡_};
 ghost use mathlib.Core.Bool.{true};
@@ -11,7 +12,7 @@ ghost use Prim.Native.Nat.{_+_, _*_, _≤_, _<_};
 ghost use lib.ListN.{length, drop};
 ghost use Rattle.rooms.specs.Rooms.{allAre};
 ghost use Rattle.text.specs.Text.{Put};
-ghost use Rattle.replaying.specs.Kept.{beginOf};
+ghost use Rattle.replaying.specs.Kept.{callBy, formBy, beginOf};
 
 // What stands in the rooms before a call: no byte and no word of it is zero.
 const FILLED_BYTE: u8 = 165;
@@ -30,6 +31,22 @@ pub fn turns_left(turns: u64, more: bool) -> u64
     ensures { λ r. ⌜ r < turns ⌝ }
 {
     if more { turns - 1 } else { 0 }
+}
+
+// The call that a case's first byte names.
+pub fn call_of(first: u8) -> u8
+    ensures { λ r. ⌜ r ≡ callBy first ⌝ }
+{
+    first % 128
+}
+
+// How the case's table is read: strictly where the first byte has 128 added.
+pub fn form_of(first: u8) -> Form
+    ensures { λ f. ⌜ f ≡ formBy first ⌝ }
+{
+    Form {
+        strict: 128 <= first,
+    }
 }
 
 // Two bytes as a number, the first the most significant.

@@ -17,6 +17,7 @@ use Rattle.table.specs.Conditions.{TableCondition}
 use Rattle.calls.specs.Conditions.{RewriteCondition, no-mode, large-default, of-table, short-work, short-output, CoverCondition, of-set, long-query, short-room}
 use Rattle.refusals.specs.Order.{First, None}
 use Rattle.records.specs.Wire.{routes}
+use Rattle.records.specs.declared.Form.{Form}
 use Rattle.nodecount.specs.Nodes.{nodes}
 use Rattle.workroom.specs.Needed.{wordsSays}
 use Rattle.workroom.specs.declared.WorkWords.{WorkWords}
@@ -35,47 +36,47 @@ use Rattle.holes.specs.Conditions.{UnroutedCondition, of-table as of-map, short
 use Rattle.holes.specs.Listing.{holesOf, listedSays}
 use Rattle.holes.specs.declared.Listed.the-variants.{Records as Listing, Refused as NotListed}
 use Rattle.holes.proofs.Calls.{listed-same, none-exactly, unrouted-listed, unrouted-refused}
-use Rattle.suovvamet.specs.Numbers.{numberOf, indexOf, isSetBy, wordsOf}
+use Rattle.suovvamet.specs.Numbers.{formBy, numberOf, indexOf, isSetBy, wordsOf}
 use Rattle.suovvamet.specs.Calls.{RewriteInC, PlainInC, CoversInC, LookupInC, HeldInC, WordsInC, UnroutedInC}
 
 -- ---- No condition has the number 0.
-table-number : {s : Bool} {t : List ℕ} {n i : ℕ} → TableCondition s t n i → 1 ≤ n
-table-number {s} {t} {n} {i} c = omega (arith, table-numbers s t n i c .0)
+table-number : {form : Form} {s : Bool} {t : List ℕ} {n i : ℕ} → TableCondition form s t n i → 1 ≤ n
+table-number {form} {s} {t} {n} {i} c = omega (arith, table-numbers form s t n i c .0)
 
-rewrite-number : {t : List ℕ} {mode default room words n i : ℕ} → RewriteCondition t mode default room words n i → 1 ≤ n
+rewrite-number : {form : Form} {t : List ℕ} {mode default room words n i : ℕ} → RewriteCondition form t mode default room words n i → 1 ≤ n
 rewrite-number (no-mode f) = omega arith
 rewrite-number (large-default e h) = omega arith
 rewrite-number (of-table c) = table-number c
 rewrite-number (short-work h) = omega arith
 rewrite-number (short-output h) = omega arith
 
-plain-number : {t : List ℕ} {mode default room n i : ℕ} → PlainCondition t mode default room n i → 1 ≤ n
+plain-number : {form : Form} {t : List ℕ} {mode default room n i : ℕ} → PlainCondition form t mode default room n i → 1 ≤ n
 plain-number (no-plain-mode f) = omega arith
 plain-number (plain-large-default e h) = omega arith
 plain-number (of-plain-table c) = table-number c
 plain-number (short-plain-output h) = omega arith
 
-cover-number : {t : List ℕ} {len words n i : ℕ} → CoverCondition t len words n i → 1 ≤ n
+cover-number : {form : Form} {t : List ℕ} {len words n i : ℕ} → CoverCondition form t len words n i → 1 ≤ n
 cover-number (of-set c) = table-number c
 cover-number (long-query h) = omega arith
 cover-number (short-room h) = omega arith
 
-unrouted-number : {t : List ℕ} {room n i : ℕ} → UnroutedCondition t room n i → 1 ≤ n
+unrouted-number : {form : Form} {t : List ℕ} {room n i : ℕ} → UnroutedCondition form t room n i → 1 ≤ n
 unrouted-number (of-map c) = table-number c
 unrouted-number (short-list h) = omega arith
 
 -- ---- Number 10 is the work room's alone.
-table-below : {s : Bool} {t : List ℕ} {n i : ℕ} → TableCondition s t n i → n ≤ 8
-table-below {s} {t} {n} {i} c = table-numbers s t n i c .1
+table-below : {form : Form} {s : Bool} {t : List ℕ} {n i : ℕ} → TableCondition form s t n i → n ≤ 8
+table-below {form} {s} {t} {n} {i} c = table-numbers form s t n i c .1
 
-rewrite-ten : {t : List ℕ} {mode default room words n i : ℕ} → RewriteCondition t mode default room words n i → n ≡ 10 → words < 160 * nodes 32 (routes t)
+rewrite-ten : {form : Form} {t : List ℕ} {mode default room words n i : ℕ} → RewriteCondition form t mode default room words n i → n ≡ 10 → words < 160 * nodes 32 (routes t)
 rewrite-ten (no-mode f) e = absurd (omega arith)
 rewrite-ten (large-default d h) e = absurd (omega arith)
 rewrite-ten (of-table c) e = let k = table-below c in absurd (omega arith)
 rewrite-ten (short-work h) e = h
 rewrite-ten (short-output h) e = absurd (omega arith)
 
-cover-ten : {t : List ℕ} {len words n i : ℕ} → CoverCondition t len words n i → n ≡ 10 → words < 160 * nodes 32 (routes t)
+cover-ten : {form : Form} {t : List ℕ} {len words n i : ℕ} → CoverCondition form t len words n i → n ≡ 10 → words < 160 * nodes 32 (routes t)
 cover-ten (of-set c) e = let k = table-below c in absurd (omega arith)
 cover-ten (long-query h) e = absurd (omega arith)
 cover-ten (short-room h) e = h
@@ -111,166 +112,166 @@ gave r = (
 )
 
 -- By that over nodes.
-module _ (t : List ℕ) (mode default : ℕ) (o work : List ℕ) {number count : ℕ} {change : ℤ} {index : ℕ} {o′ w′ : List ℕ}
-    (ok : RewriteInC t mode default o work number count change index o′ w′) where
+module _ (t : List ℕ) (flags mode default : ℕ) (o work : List ℕ) {number count : ℕ} {change : ℤ} {index : ℕ} {o′ w′ : List ℕ}
+    (ok : RewriteInC t flags mode default o work number count change index o′ w′) where
   abbrev Refusing : ℕ → ℕ → Type 0
-  Refusing = RewriteCondition t mode default (length o) (length work)
+  Refusing = RewriteCondition (formBy flags) t mode default (length o) (length work)
 
   given : ((w : Written) × (rewrittenSays (ok .answer) ≡ gives w)) ↔ None Refusing
   given =
-      let exactly = rewrite-accepted t mode default o (length work) (ok .answer) o′ w′ (ok .rewrites) in
+      let exactly = rewrite-accepted (formBy flags) t mode default o (length work) (ok .answer) o′ w′ (ok .rewrites) in
       (λ f. exactly .0 (gave (ok .answer) .0 f), λ none. gave (ok .answer) .1 (exactly .1 none))
 
   refused : (n i : ℕ) → rewrittenSays (ok .answer) ≡ refuses n i ↔ First Refusing n i
   refused n i =
-      let exactly = rewrite-refused t mode default o (length work) (ok .answer) o′ w′ (ok .rewrites) n i in
+      let exactly = rewrite-refused (formBy flags) t mode default o (length work) (ok .answer) o′ w′ (ok .rewrites) n i in
       (λ e. exactly .0 (rewritten-same (ok .answer) (Refused n i) e), λ f. ap rewrittenSays (exactly .1 f))
 
   -- The result is 0 exactly when no condition of document 01 holds.
-  pub rewrite-in-c-answered : number ≡ 0 ↔ None (RewriteCondition t mode default (length o) (length work))
+  pub rewrite-in-c-answered : number ≡ 0 ↔ None (RewriteCondition (formBy flags) t mode default (length o) (length work))
   rewrite-in-c-answered = answered (rewrittenSays (ok .answer)) given refused (λ n i f. rewrite-number (f .0)) (ok .number-is) (ok .index-is)
 
   -- Else it is, with the index, the first that holds.
-  pub rewrite-in-c-refused : (n i : ℕ) → ((1 ≤ n) × (number ≡ n) × (index ≡ i)) ↔ First (RewriteCondition t mode default (length o) (length work)) n i
+  pub rewrite-in-c-refused : (n i : ℕ) → ((1 ≤ n) × (number ≡ n) × (index ≡ i)) ↔ First (RewriteCondition (formBy flags) t mode default (length o) (length work)) n i
   rewrite-in-c-refused = numbered (rewrittenSays (ok .answer)) given refused (λ n i f. rewrite-number (f .0)) (ok .number-is) (ok .index-is)
 
 -- By the plain one.
-module _ (t : List ℕ) (mode default : ℕ) (o : List ℕ) {number count : ℕ} {change : ℤ} {index : ℕ} {o′ : List ℕ}
-    (ok : PlainInC t mode default o number count change index o′) where
-  given-plain : ((w : Written) × (rewrittenSays (ok .answer) ≡ gives w)) ↔ None (PlainCondition t mode default (length o))
+module _ (t : List ℕ) (flags mode default : ℕ) (o : List ℕ) {number count : ℕ} {change : ℤ} {index : ℕ} {o′ : List ℕ}
+    (ok : PlainInC t flags mode default o number count change index o′) where
+  given-plain : ((w : Written) × (rewrittenSays (ok .answer) ≡ gives w)) ↔ None (PlainCondition (formBy flags) t mode default (length o))
   given-plain =
-      let exactly = plain-accepted t mode default o (ok .answer) o′ (ok .rewrites) in
+      let exactly = plain-accepted (formBy flags) t mode default o (ok .answer) o′ (ok .rewrites) in
       (λ f. exactly .0 (gave (ok .answer) .0 f), λ none. gave (ok .answer) .1 (exactly .1 none))
 
-  refused-plain : (n i : ℕ) → rewrittenSays (ok .answer) ≡ refuses n i ↔ First (PlainCondition t mode default (length o)) n i
+  refused-plain : (n i : ℕ) → rewrittenSays (ok .answer) ≡ refuses n i ↔ First (PlainCondition (formBy flags) t mode default (length o)) n i
   refused-plain n i =
-      let exactly = plain-refused t mode default o (ok .answer) o′ (ok .rewrites) n i in
+      let exactly = plain-refused (formBy flags) t mode default o (ok .answer) o′ (ok .rewrites) n i in
       (λ e. exactly .0 (rewritten-same (ok .answer) (Refused n i) e), λ f. ap rewrittenSays (exactly .1 f))
 
   -- The result is 0 exactly when no condition for a refusal holds.
-  pub plain-in-c-answered : number ≡ 0 ↔ None (PlainCondition t mode default (length o))
+  pub plain-in-c-answered : number ≡ 0 ↔ None (PlainCondition (formBy flags) t mode default (length o))
   plain-in-c-answered = answered (rewrittenSays (ok .answer)) given-plain refused-plain (λ n i f. plain-number (f .0)) (ok .number-is) (ok .index-is)
 
   -- Else it is, with the index, the first that holds.
-  pub plain-in-c-refused : (n i : ℕ) → ((1 ≤ n) × (number ≡ n) × (index ≡ i)) ↔ First (PlainCondition t mode default (length o)) n i
+  pub plain-in-c-refused : (n i : ℕ) → ((1 ≤ n) × (number ≡ n) × (index ≡ i)) ↔ First (PlainCondition (formBy flags) t mode default (length o)) n i
   plain-in-c-refused = numbered (rewrittenSays (ok .answer)) given-plain refused-plain (λ n i f. plain-number (f .0)) (ok .number-is) (ok .index-is)
 
 -- ---- The cover query.
-module _ (t : List ℕ) (address len : ℕ) (work : List ℕ) {number covered index : ℕ} {w′ : List ℕ}
-    (ok : CoversInC t address len work number covered index w′) where
-  given-cover : ((b : Bool) × (coversSays (ok .answer) ≡ gives b)) ↔ None (CoverCondition t len (length work))
+module _ (t : List ℕ) (flags address len : ℕ) (work : List ℕ) {number covered index : ℕ} {w′ : List ℕ}
+    (ok : CoversInC t flags address len work number covered index w′) where
+  given-cover : ((b : Bool) × (coversSays (ok .answer) ≡ gives b)) ↔ None (CoverCondition (formBy flags) t len (length work))
   given-cover =
-      let exactly = covers-answered t address len (length work) (ok .answer) w′ (ok .queried) in
+      let exactly = covers-answered (formBy flags) t address len (length work) (ok .answer) w′ (ok .queried) in
       (λ (b, e). exactly b .0 e .0, λ none. (coveredBy t address len, exactly _ .1 (none, refl)))
 
-  refused-cover : (n i : ℕ) → coversSays (ok .answer) ≡ refuses n i ↔ First (CoverCondition t len (length work)) n i
+  refused-cover : (n i : ℕ) → coversSays (ok .answer) ≡ refuses n i ↔ First (CoverCondition (formBy flags) t len (length work)) n i
   refused-cover n i =
-      let exactly = covers-refused t address len (length work) (ok .answer) w′ (ok .queried) n i in
+      let exactly = covers-refused (formBy flags) t address len (length work) (ok .answer) w′ (ok .queried) n i in
       (λ e. exactly .0 (covers-same (ok .answer) (NotAnswered n i) e), λ f. ap coversSays (exactly .1 f))
 
   -- The result is 0 exactly when no condition of document 01 holds.
-  pub covers-in-c-answered : number ≡ 0 ↔ None (CoverCondition t len (length work))
+  pub covers-in-c-answered : number ≡ 0 ↔ None (CoverCondition (formBy flags) t len (length work))
   covers-in-c-answered = answered (coversSays (ok .answer)) given-cover refused-cover (λ n i f. cover-number (f .0)) (ok .number-is) (ok .index-is)
 
   -- Else it is, with the index, the first that holds.
-  pub covers-in-c-refused : (n i : ℕ) → ((1 ≤ n) × (number ≡ n) × (index ≡ i)) ↔ First (CoverCondition t len (length work)) n i
+  pub covers-in-c-refused : (n i : ℕ) → ((1 ≤ n) × (number ≡ n) × (index ≡ i)) ↔ First (CoverCondition (formBy flags) t len (length work)) n i
   covers-in-c-refused = numbered (coversSays (ok .answer)) given-cover refused-cover (λ n i f. cover-number (f .0)) (ok .number-is) (ok .index-is)
 
 -- ---- A call that judges a table, of a set or of a map, and nothing else.
-module _ {A : Type 0} (s : Bool) (t : List ℕ) (v : A) (q : Reply A) (judged : q ≡ judge (tableRules s t) v) where
-  given-table : ((a : A) × (q ≡ gives a)) ↔ None (TableCondition s t)
+module _ {A : Type 0} (form : Form) (s : Bool) (t : List ℕ) (v : A) (q : Reply A) (judged : q ≡ judge (tableRules form s t) v) where
+  given-table : ((a : A) × (q ≡ gives a)) ↔ None (TableCondition form s t)
   given-table = (
-    λ (a, e). accepted-exactly s t .0 (accepted s t v (sym judged ∙ e)),
-    λ none. (v, judged ∙ not-refused s t v (accepted-exactly s t .1 none)),
+    λ (a, e). accepted-exactly form s t .0 (accepted form s t v (sym judged ∙ e)),
+    λ none. (v, judged ∙ not-refused form s t v (accepted-exactly form s t .1 none)),
   )
 
-  refused-table : (n i : ℕ) → q ≡ refuses n i ↔ First (TableCondition s t) n i
+  refused-table : (n i : ℕ) → q ≡ refuses n i ↔ First (TableCondition form s t) n i
   refused-table n i = (
-    λ e. refused-exactly s t v n i .0 (sym judged ∙ e),
-    λ f. judged ∙ refused-exactly s t v n i .1 f,
+    λ e. refused-exactly form s t v n i .0 (sym judged ∙ e),
+    λ f. judged ∙ refused-exactly form s t v n i .1 f,
   )
 
 -- ---- A lookup.
-module _ (t : List ℕ) (address : ℕ) {number found hop len index : ℕ} (ok : LookupInC t address number found hop len index) where
+module _ (t : List ℕ) (flags address : ℕ) {number found hop len index : ℕ} (ok : LookupInC t flags address number found hop len index) where
   -- The result is 0 exactly when no condition of document 01 holds.
-  pub lookup-in-c-answered : number ≡ 0 ↔ None (TableCondition false t)
+  pub lookup-in-c-answered : number ≡ 0 ↔ None (TableCondition (formBy flags) false t)
   lookup-in-c-answered =
-      answered (lookupSays (ok .answer)) (given-table false t _ _ (ok .looked)) (refused-table false t _ _ (ok .looked))
+      answered (lookupSays (ok .answer)) (given-table (formBy flags) false t _ _ (ok .looked)) (refused-table (formBy flags) false t _ _ (ok .looked))
       (λ n i f. table-number (f .0)) (ok .number-is) (ok .index-is)
 
   -- Else it is, with the index, the first that holds.
-  pub lookup-in-c-refused : (n i : ℕ) → ((1 ≤ n) × (number ≡ n) × (index ≡ i)) ↔ First (TableCondition false t) n i
+  pub lookup-in-c-refused : (n i : ℕ) → ((1 ≤ n) × (number ≡ n) × (index ≡ i)) ↔ First (TableCondition (formBy flags) false t) n i
   lookup-in-c-refused =
-      numbered (lookupSays (ok .answer)) (given-table false t _ _ (ok .looked)) (refused-table false t _ _ (ok .looked))
+      numbered (lookupSays (ok .answer)) (given-table (formBy flags) false t _ _ (ok .looked)) (refused-table (formBy flags) false t _ _ (ok .looked))
       (λ n i f. table-number (f .0)) (ok .number-is) (ok .index-is)
 
 -- ---- Addresses held.
-module _ (t : List ℕ) {number addresses index : ℕ} (ok : HeldInC t number addresses index) where
+module _ (t : List ℕ) (flags : ℕ) {number addresses index : ℕ} (ok : HeldInC t flags number addresses index) where
   -- The result is 0 exactly when no condition of document 01 holds.
-  pub held-in-c-answered : number ≡ 0 ↔ None (TableCondition false t)
+  pub held-in-c-answered : number ≡ 0 ↔ None (TableCondition (formBy flags) false t)
   held-in-c-answered =
-      answered (heldSays (ok .answer)) (given-table false t _ _ (ok .held)) (refused-table false t _ _ (ok .held))
+      answered (heldSays (ok .answer)) (given-table (formBy flags) false t _ _ (ok .held)) (refused-table (formBy flags) false t _ _ (ok .held))
       (λ n i f. table-number (f .0)) (ok .number-is) (ok .index-is)
 
   -- Else it is, with the index, the first that holds.
-  pub held-in-c-refused : (n i : ℕ) → ((1 ≤ n) × (number ≡ n) × (index ≡ i)) ↔ First (TableCondition false t) n i
+  pub held-in-c-refused : (n i : ℕ) → ((1 ≤ n) × (number ≡ n) × (index ≡ i)) ↔ First (TableCondition (formBy flags) false t) n i
   held-in-c-refused =
-      numbered (heldSays (ok .answer)) (given-table false t _ _ (ok .held)) (refused-table false t _ _ (ok .held))
+      numbered (heldSays (ok .answer)) (given-table (formBy flags) false t _ _ (ok .held)) (refused-table (formBy flags) false t _ _ (ok .held))
       (λ n i f. table-number (f .0)) (ok .number-is) (ok .index-is)
 
 -- ---- Work words.
-module _ (t : List ℕ) (isSet : ℕ) {number needed index : ℕ} (ok : WordsInC t isSet number needed index) where
+module _ (t : List ℕ) (flags isSet : ℕ) {number needed index : ℕ} (ok : WordsInC t flags isSet number needed index) where
   -- The result is 0 exactly when no condition of document 01 holds.
-  pub words-in-c-answered : number ≡ 0 ↔ None (TableCondition (isSetBy isSet) t)
+  pub words-in-c-answered : number ≡ 0 ↔ None (TableCondition (formBy flags) (isSetBy isSet) t)
   words-in-c-answered =
-      answered (wordsSays (ok .answer)) (given-table _ t _ _ (ok .replies)) (refused-table _ t _ _ (ok .replies))
+      answered (wordsSays (ok .answer)) (given-table (formBy flags) _ t _ _ (ok .replies)) (refused-table (formBy flags) _ t _ _ (ok .replies))
       (λ n i f. table-number (f .0)) (ok .number-is) (ok .index-is)
 
   -- Else it is, with the index, the first that holds.
-  pub words-in-c-refused : (n i : ℕ) → ((1 ≤ n) × (number ≡ n) × (index ≡ i)) ↔ First (TableCondition (isSetBy isSet) t) n i
+  pub words-in-c-refused : (n i : ℕ) → ((1 ≤ n) × (number ≡ n) × (index ≡ i)) ↔ First (TableCondition (formBy flags) (isSetBy isSet) t) n i
   words-in-c-refused =
-      numbered (wordsSays (ok .answer)) (given-table _ t _ _ (ok .replies)) (refused-table _ t _ _ (ok .replies))
+      numbered (wordsSays (ok .answer)) (given-table (formBy flags) _ t _ _ (ok .replies)) (refused-table (formBy flags) _ t _ _ (ok .replies))
       (λ n i f. table-number (f .0)) (ok .number-is) (ok .index-is)
 
   module _ (zero : number ≡ 0) where
     needed-is : (r : WorkWords) → ok .answer ≡ r → needed ≡ 160 * nodes 32 (routes t)
-    needed-is (Words n) e = ok .words-is ∙ ap wordsOf e ∙ sym (words-exactly (isSetBy isSet) t (ok .answer) (ok .replies) n .0 e .1)
+    needed-is (Words n) e = ok .words-is ∙ ap wordsOf e ∙ sym (words-exactly (formBy flags) (isSetBy isSet) t (ok .answer) (ok .replies) n .0 e .1)
     needed-is (NotNeeded m i) e =
-        let k = table-number (refused-table (isSetBy isSet) t _ _ (ok .replies) m i .0 (ap wordsSays e) .0) in
+        let k = table-number (refused-table (formBy flags) (isSetBy isSet) t _ _ (ok .replies) m i .0 (ap wordsSays e) .0) in
         let same = ok .number-is ∙ ap (λ (r : WorkWords). numberOf (wordsSays r)) e in
         absurd (omega arith)
 
     -- An answer is the number of words below which a rewrite has its condition 10.
-    pub words-in-c-rewrite : (mode default room words : ℕ) → words < needed ↔ RewriteCondition t mode default room words 10 0
+    pub words-in-c-rewrite : (mode default room words : ℕ) → words < needed ↔ RewriteCondition (formBy flags) t mode default room words 10 0
     words-in-c-rewrite mode default room words =
         let is = needed-is (ok .answer) refl in
         (λ h. short-work (omega arith), λ c. let h = rewrite-ten c refl in omega arith)
 
     -- And the cover query.
-    pub words-in-c-cover : (len words : ℕ) → words < needed ↔ CoverCondition t len words 10 0
+    pub words-in-c-cover : (len words : ℕ) → words < needed ↔ CoverCondition (formBy flags) t len words 10 0
     words-in-c-cover len words =
         let is = needed-is (ok .answer) refl in
         (λ h. short-room (omega arith), λ c. let h = cover-ten c refl in omega arith)
 
 -- ---- A list of what has no route.
-module _ (t o : List ℕ) {number count index : ℕ} {o′ : List ℕ} (ok : UnroutedInC t o number count index o′) where
-  given-list : ((n : ℕ) × (listedSays (ok .answer) ≡ gives n)) ↔ None (UnroutedCondition t (length o))
+module _ (t : List ℕ) (flags : ℕ) (o : List ℕ) {number count index : ℕ} {o′ : List ℕ} (ok : UnroutedInC t flags o number count index o′) where
+  given-list : ((n : ℕ) × (listedSays (ok .answer) ≡ gives n)) ↔ None (UnroutedCondition (formBy flags) t (length o))
   given-list =
-      let exactly = unrouted-listed t o (ok .answer) o′ (ok .lists) in
-      let none = none-exactly t (length o) in (
+      let exactly = unrouted-listed (formBy flags) t o (ok .answer) o′ (ok .lists) in
+      let none = none-exactly (formBy flags) t (length o) in (
         λ (n, e). let f = exactly n .0 (listed-same (ok .answer) (Listing n) e) in none .1 (f .0, f .1),
         λ no. let f = none .0 no in (length (holesOf t), ap listedSays (exactly (length (holesOf t)) .1 (f .0, f .1, refl))),
       )
 
-  refused-list : (n i : ℕ) → listedSays (ok .answer) ≡ refuses n i ↔ First (UnroutedCondition t (length o)) n i
+  refused-list : (n i : ℕ) → listedSays (ok .answer) ≡ refuses n i ↔ First (UnroutedCondition (formBy flags) t (length o)) n i
   refused-list n i =
-      let exactly = unrouted-refused t o (ok .answer) o′ (ok .lists) n i in
+      let exactly = unrouted-refused (formBy flags) t o (ok .answer) o′ (ok .lists) n i in
       (λ e. exactly .0 (listed-same (ok .answer) (NotListed n i) e), λ f. ap listedSays (exactly .1 f))
 
   -- The result is 0 exactly when no condition for a refusal holds.
-  pub unrouted-in-c-answered : number ≡ 0 ↔ None (UnroutedCondition t (length o))
+  pub unrouted-in-c-answered : number ≡ 0 ↔ None (UnroutedCondition (formBy flags) t (length o))
   unrouted-in-c-answered = answered (listedSays (ok .answer)) given-list refused-list (λ n i f. unrouted-number (f .0)) (ok .number-is) (ok .index-is)
 
   -- Else it is, with the index, the first that holds.
-  pub unrouted-in-c-refused : (n i : ℕ) → ((1 ≤ n) × (number ≡ n) × (index ≡ i)) ↔ First (UnroutedCondition t (length o)) n i
+  pub unrouted-in-c-refused : (n i : ℕ) → ((1 ≤ n) × (number ≡ n) × (index ≡ i)) ↔ First (UnroutedCondition (formBy flags) t (length o)) n i
   unrouted-in-c-refused = numbered (listedSays (ok .answer)) given-list refused-list (λ n i f. unrouted-number (f .0)) (ok .number-is) (ok .index-is)

@@ -20,7 +20,7 @@ use Rattle.plain.proofs.Calls.{plain-settled}
 use Rattle.holes.specs.Listing.{listedSays, listedCount}
 use Rattle.holes.specs.declared.Listed.{Listed}
 use Rattle.holes.proofs.Calls.{unrouted-settled}
-use Rattle.suovvamet.specs.Numbers.{numberOf, indexOf, coveredOf, foundOf, hopOf, lengthOf, addressesOf, isSetBy, wordsOf}
+use Rattle.suovvamet.specs.Numbers.{formBy, numberOf, indexOf, coveredOf, foundOf, hopOf, lengthOf, addressesOf, isSetBy, wordsOf}
 use Rattle.suovvamet.specs.Calls.{RewriteInC, PlainInC, CoversInC, LookupInC, HeldInC, WordsInC, UnroutedInC}
 
 -- Parts of two answers that are the same are the same.
@@ -28,11 +28,11 @@ same-part : {R N : Type 0} (part : R → N) {a b : R} {m n : N} → a ≡ b → 
 same-part part e p q = p ∙ ap part e ∙ sym q
 
 -- Of a rewrite: the number, the count, the change, the index, the output and the room.
-pub rewrite-in-c-settled : (t : List ℕ) (mode default : ℕ) (o work : List ℕ) {number number₁ count count₁ : ℕ} {change change₁ : ℤ} {index index₁ : ℕ} {o′ o₁ w′ w₁ : List ℕ}
-    → RewriteInC t mode default o work number count change index o′ w′ → RewriteInC t mode default o work number₁ count₁ change₁ index₁ o₁ w₁
+pub rewrite-in-c-settled : (t : List ℕ) (flags mode default : ℕ) (o work : List ℕ) {number number₁ count count₁ : ℕ} {change change₁ : ℤ} {index index₁ : ℕ} {o′ o₁ w′ w₁ : List ℕ}
+    → RewriteInC t flags mode default o work number count change index o′ w′ → RewriteInC t flags mode default o work number₁ count₁ change₁ index₁ o₁ w₁
     → (number ≡ number₁) × (count ≡ count₁) × (change ≡ change₁) × (index ≡ index₁) × (o′ ≡ o₁) × (w′ ≡ w₁)
-rewrite-in-c-settled t mode default o work {o′ = o′} {o₁ = o₁} {w′ = w′} {w₁ = w₁} a b =
-    let s = rewrite-settled t mode default o (length work) (a .answer) (b .answer) o′ o₁ w′ w₁ (a .rewrites) (b .rewrites) in (
+rewrite-in-c-settled t flags mode default o work {o′ = o′} {o₁ = o₁} {w′ = w′} {w₁ = w₁} a b =
+    let s = rewrite-settled (formBy flags) t mode default o (length work) (a .answer) (b .answer) o′ o₁ w′ w₁ (a .rewrites) (b .rewrites) in (
       same-part (λ (r : Rewritten). numberOf (rewrittenSays r)) (s .0) (a .number-is) (b .number-is),
       same-part countOf (s .0) (a .count-is) (b .count-is),
       same-part changeOf (s .0) (a .change-is) (b .change-is),
@@ -42,11 +42,11 @@ rewrite-in-c-settled t mode default o work {o′ = o′} {o₁ = o₁} {w′ = w
     )
 
 -- By the plain engine: the number, the count, the change, the index and the output.
-pub plain-in-c-settled : (t : List ℕ) (mode default : ℕ) (o : List ℕ) {number number₁ count count₁ : ℕ} {change change₁ : ℤ} {index index₁ : ℕ} {o′ o₁ : List ℕ}
-    → PlainInC t mode default o number count change index o′ → PlainInC t mode default o number₁ count₁ change₁ index₁ o₁
+pub plain-in-c-settled : (t : List ℕ) (flags mode default : ℕ) (o : List ℕ) {number number₁ count count₁ : ℕ} {change change₁ : ℤ} {index index₁ : ℕ} {o′ o₁ : List ℕ}
+    → PlainInC t flags mode default o number count change index o′ → PlainInC t flags mode default o number₁ count₁ change₁ index₁ o₁
     → (number ≡ number₁) × (count ≡ count₁) × (change ≡ change₁) × (index ≡ index₁) × (o′ ≡ o₁)
-plain-in-c-settled t mode default o {o′ = o′} {o₁ = o₁} a b =
-    let s = plain-settled t mode default o (a .answer) (b .answer) o′ o₁ (a .rewrites) (b .rewrites) in (
+plain-in-c-settled t flags mode default o {o′ = o′} {o₁ = o₁} a b =
+    let s = plain-settled (formBy flags) t mode default o (a .answer) (b .answer) o′ o₁ (a .rewrites) (b .rewrites) in (
       same-part (λ (r : Rewritten). numberOf (rewrittenSays r)) (s .0) (a .number-is) (b .number-is),
       same-part countOf (s .0) (a .count-is) (b .count-is),
       same-part changeOf (s .0) (a .change-is) (b .change-is),
@@ -55,11 +55,11 @@ plain-in-c-settled t mode default o {o′ = o′} {o₁ = o₁} a b =
     )
 
 -- Of the cover query: the number, what is said of the prefix, the index and the room.
-pub covers-in-c-settled : (t : List ℕ) (address len : ℕ) (work : List ℕ) {number number₁ covered covered₁ index index₁ : ℕ} {w′ w₁ : List ℕ}
-    → CoversInC t address len work number covered index w′ → CoversInC t address len work number₁ covered₁ index₁ w₁
+pub covers-in-c-settled : (t : List ℕ) (flags address len : ℕ) (work : List ℕ) {number number₁ covered covered₁ index index₁ : ℕ} {w′ w₁ : List ℕ}
+    → CoversInC t flags address len work number covered index w′ → CoversInC t flags address len work number₁ covered₁ index₁ w₁
     → (number ≡ number₁) × (covered ≡ covered₁) × (index ≡ index₁) × (w′ ≡ w₁)
-covers-in-c-settled t address len work {w′ = w′} {w₁ = w₁} a b =
-    let s = covers-settled t address len (length work) (a .answer) (b .answer) w′ w₁ (a .queried) (b .queried) in (
+covers-in-c-settled t flags address len work {w′ = w′} {w₁ = w₁} a b =
+    let s = covers-settled (formBy flags) t address len (length work) (a .answer) (b .answer) w′ w₁ (a .queried) (b .queried) in (
       same-part (λ (r : Covers). numberOf (coversSays r)) (s .0) (a .number-is) (b .number-is),
       same-part coveredOf (s .0) (a .covered-is) (b .covered-is),
       same-part (λ (r : Covers). indexOf (coversSays r)) (s .0) (a .index-is) (b .index-is),
@@ -67,11 +67,11 @@ covers-in-c-settled t address len work {w′ = w′} {w₁ = w₁} a b =
     )
 
 -- Of a lookup: the number, whether there is a route, its hop and length, and the index.
-pub lookup-in-c-settled : (t : List ℕ) (address : ℕ) {number number₁ found found₁ hop hop₁ len len₁ index index₁ : ℕ}
-    → LookupInC t address number found hop len index → LookupInC t address number₁ found₁ hop₁ len₁ index₁
+pub lookup-in-c-settled : (t : List ℕ) (flags address : ℕ) {number number₁ found found₁ hop hop₁ len len₁ index index₁ : ℕ}
+    → LookupInC t flags address number found hop len index → LookupInC t flags address number₁ found₁ hop₁ len₁ index₁
     → (number ≡ number₁) × (found ≡ found₁) × (hop ≡ hop₁) × (len ≡ len₁) × (index ≡ index₁)
-lookup-in-c-settled t address a b =
-    let e = lookup-unique t address (a .answer) (b .answer) (a .looked) (b .looked) in (
+lookup-in-c-settled t flags address a b =
+    let e = lookup-unique (formBy flags) t address (a .answer) (b .answer) (a .looked) (b .looked) in (
       same-part (λ (r : Lookup). numberOf (lookupSays r)) e (a .number-is) (b .number-is),
       same-part foundOf e (a .found-is) (b .found-is),
       same-part hopOf e (a .hop-is) (b .hop-is),
@@ -80,33 +80,33 @@ lookup-in-c-settled t address a b =
     )
 
 -- Of addresses held: the number, how many addresses they are and the index.
-pub held-in-c-settled : (t : List ℕ) {number number₁ addresses addresses₁ index index₁ : ℕ}
-    → HeldInC t number addresses index → HeldInC t number₁ addresses₁ index₁
+pub held-in-c-settled : (t : List ℕ) (flags : ℕ) {number number₁ addresses addresses₁ index index₁ : ℕ}
+    → HeldInC t flags number addresses index → HeldInC t flags number₁ addresses₁ index₁
     → (number ≡ number₁) × (addresses ≡ addresses₁) × (index ≡ index₁)
-held-in-c-settled t a b =
-    let e = held-unique t (a .answer) (b .answer) (a .held) (b .held) in (
+held-in-c-settled t flags a b =
+    let e = held-unique (formBy flags) t (a .answer) (b .answer) (a .held) (b .held) in (
       same-part (λ (r : AddressesHeld). numberOf (heldSays r)) e (a .number-is) (b .number-is),
       same-part addressesOf e (a .addresses-is) (b .addresses-is),
       same-part (λ (r : AddressesHeld). indexOf (heldSays r)) e (a .index-is) (b .index-is),
     )
 
 -- Of work words: the number, the words and the index.
-pub words-in-c-settled : (t : List ℕ) (isSet : ℕ) {number number₁ needed needed₁ index index₁ : ℕ}
-    → WordsInC t isSet number needed index → WordsInC t isSet number₁ needed₁ index₁
+pub words-in-c-settled : (t : List ℕ) (flags isSet : ℕ) {number number₁ needed needed₁ index index₁ : ℕ}
+    → WordsInC t flags isSet number needed index → WordsInC t flags isSet number₁ needed₁ index₁
     → (number ≡ number₁) × (needed ≡ needed₁) × (index ≡ index₁)
-words-in-c-settled t isSet a b =
-    let e = words-unique (isSetBy isSet) t (a .answer) (b .answer) (a .replies) (b .replies) in (
+words-in-c-settled t flags isSet a b =
+    let e = words-unique (formBy flags) (isSetBy isSet) t (a .answer) (b .answer) (a .replies) (b .replies) in (
       same-part (λ (r : WorkWords). numberOf (wordsSays r)) e (a .number-is) (b .number-is),
       same-part wordsOf e (a .words-is) (b .words-is),
       same-part (λ (r : WorkWords). indexOf (wordsSays r)) e (a .index-is) (b .index-is),
     )
 
 -- Of a list of what has no route: the number, the count, the index and the output.
-pub unrouted-in-c-settled : (t o : List ℕ) {number number₁ count count₁ index index₁ : ℕ} {o′ o₁ : List ℕ}
-    → UnroutedInC t o number count index o′ → UnroutedInC t o number₁ count₁ index₁ o₁
+pub unrouted-in-c-settled : (t : List ℕ) (flags : ℕ) (o : List ℕ) {number number₁ count count₁ index index₁ : ℕ} {o′ o₁ : List ℕ}
+    → UnroutedInC t flags o number count index o′ → UnroutedInC t flags o number₁ count₁ index₁ o₁
     → (number ≡ number₁) × (count ≡ count₁) × (index ≡ index₁) × (o′ ≡ o₁)
-unrouted-in-c-settled t o {o′ = o′} {o₁ = o₁} a b =
-    let s = unrouted-settled t o (a .answer) (b .answer) o′ o₁ (a .lists) (b .lists) in (
+unrouted-in-c-settled t flags o {o′ = o′} {o₁ = o₁} a b =
+    let s = unrouted-settled (formBy flags) t o (a .answer) (b .answer) o′ o₁ (a .lists) (b .lists) in (
       same-part (λ (r : Listed). numberOf (listedSays r)) (s .0) (a .number-is) (b .number-is),
       same-part listedCount (s .0) (a .count-is) (b .count-is),
       same-part (λ (r : Listed). indexOf (listedSays r)) (s .0) (a .index-is) (b .index-is),

@@ -1,4 +1,5 @@
--- The statements of the functions for C: there is an answer that satisfies the call's own statement, and the numbers are those of this answer.
+-- The statements of the functions for C: for the table, read as the flags say, there is an answer that satisfies the call's own statement, and the numbers
+-- are those of this answer.
 use Prim.Native.Nat.{ℕ}
 use mathlib.Core.Path.{_≡_}
 use mathlib.Core.List.{List}
@@ -16,38 +17,38 @@ use Rattle.calls.specs.declared.Covers.{Covers}
 use Rattle.plain.specs.Rewriting.{plainRules}
 use Rattle.holes.specs.Listing.{listedSays, listedCount, Lists}
 use Rattle.holes.specs.declared.Listed.{Listed}
-use Rattle.suovvamet.specs.Numbers.{numberOf, indexOf, coveredOf, foundOf, hopOf, lengthOf, addressesOf, isSetBy, wordsOf}
+use Rattle.suovvamet.specs.Numbers.{formBy, numberOf, indexOf, coveredOf, foundOf, hopOf, lengthOf, addressesOf, isSetBy, wordsOf}
 
 -- Of a rewrite: the table t, the output o and the room work were lent; the output is o′ then and the room work′.
-pub record RewriteInC (t : List ℕ) (mode default : ℕ) (o work : List ℕ) (number count : ℕ) (change : ℤ) (index : ℕ) (o′ work′ : List ℕ) : Type 0 where
+pub record RewriteInC (t : List ℕ) (flags mode default : ℕ) (o work : List ℕ) (number count : ℕ) (change : ℤ) (index : ℕ) (o′ work′ : List ℕ) : Type 0 where
   pub answer : Rewritten
-  pub rewrites : Rewrites t mode default o (length work) answer o′ work′
+  pub rewrites : Rewrites (formBy flags) t mode default o (length work) answer o′ work′
   pub number-is : number ≡ numberOf (rewrittenSays answer)
   pub index-is : index ≡ indexOf (rewrittenSays answer)
   pub count-is : count ≡ countOf answer
   pub change-is : change ≡ changeOf answer
 
 -- Of a rewrite by the plain engine, which is lent no room.
-pub record PlainInC (t : List ℕ) (mode default : ℕ) (o : List ℕ) (number count : ℕ) (change : ℤ) (index : ℕ) (o′ : List ℕ) : Type 0 where
+pub record PlainInC (t : List ℕ) (flags mode default : ℕ) (o : List ℕ) (number count : ℕ) (change : ℤ) (index : ℕ) (o′ : List ℕ) : Type 0 where
   pub answer : Rewritten
-  pub rewrites : RewritesBy (plainRules t mode default (length o)) t mode default o answer o′
+  pub rewrites : RewritesBy (plainRules (formBy flags) t mode default (length o)) t mode default o answer o′
   pub number-is : number ≡ numberOf (rewrittenSays answer)
   pub index-is : index ≡ indexOf (rewrittenSays answer)
   pub count-is : count ≡ countOf answer
   pub change-is : change ≡ changeOf answer
 
 -- Of the cover query: the table t and the room work were lent, and the room is work′ then.
-pub record CoversInC (t : List ℕ) (address len : ℕ) (work : List ℕ) (number covered index : ℕ) (work′ : List ℕ) : Type 0 where
+pub record CoversInC (t : List ℕ) (flags address len : ℕ) (work : List ℕ) (number covered index : ℕ) (work′ : List ℕ) : Type 0 where
   pub answer : Covers
-  pub queried : Queried t address len (length work) answer work′
+  pub queried : Queried (formBy flags) t address len (length work) answer work′
   pub number-is : number ≡ numberOf (coversSays answer)
   pub index-is : index ≡ indexOf (coversSays answer)
   pub covered-is : covered ≡ coveredOf answer
 
 -- Of a lookup.
-pub record LookupInC (t : List ℕ) (address number found hop len index : ℕ) : Type 0 where
+pub record LookupInC (t : List ℕ) (flags address number found hop len index : ℕ) : Type 0 where
   pub answer : Lookup
-  pub looked : lookupSays answer ≡ lookupReply t address
+  pub looked : lookupSays answer ≡ lookupReply (formBy flags) t address
   pub number-is : number ≡ numberOf (lookupSays answer)
   pub index-is : index ≡ indexOf (lookupSays answer)
   pub found-is : found ≡ foundOf answer
@@ -55,25 +56,25 @@ pub record LookupInC (t : List ℕ) (address number found hop len index : ℕ) :
   pub length-is : len ≡ lengthOf answer
 
 -- Of addresses held.
-pub record HeldInC (t : List ℕ) (number addresses index : ℕ) : Type 0 where
+pub record HeldInC (t : List ℕ) (flags number addresses index : ℕ) : Type 0 where
   pub answer : AddressesHeld
-  pub held : heldSays answer ≡ heldReply t
+  pub held : heldSays answer ≡ heldReply (formBy flags) t
   pub number-is : number ≡ numberOf (heldSays answer)
   pub index-is : index ≡ indexOf (heldSays answer)
   pub addresses-is : addresses ≡ addressesOf answer
 
 -- Of work words, for a table of a set where isSet is not 0, else of a map.
-pub record WordsInC (t : List ℕ) (isSet number needed index : ℕ) : Type 0 where
+pub record WordsInC (t : List ℕ) (flags isSet number needed index : ℕ) : Type 0 where
   pub answer : WorkWords
-  pub replies : wordsSays answer ≡ wordsReply (isSetBy isSet) t
+  pub replies : wordsSays answer ≡ wordsReply (formBy flags) (isSetBy isSet) t
   pub number-is : number ≡ numberOf (wordsSays answer)
   pub index-is : index ≡ indexOf (wordsSays answer)
   pub words-is : needed ≡ wordsOf answer
 
 -- Of a list of what has no route: the table t and the output o were lent, and the output is o′ then.
-pub record UnroutedInC (t o : List ℕ) (number count index : ℕ) (o′ : List ℕ) : Type 0 where
+pub record UnroutedInC (t : List ℕ) (flags : ℕ) (o : List ℕ) (number count index : ℕ) (o′ : List ℕ) : Type 0 where
   pub answer : Listed
-  pub lists : Lists t o answer o′
+  pub lists : Lists (formBy flags) t o answer o′
   pub number-is : number ≡ numberOf (listedSays answer)
   pub index-is : index ≡ indexOf (listedSays answer)
   pub count-is : count ≡ listedCount answer

@@ -1,7 +1,8 @@
--- The answers of the calls in numbers. The count and the change of a rewrite are `countOf` and `changeOf` of the crate calls, the count of a list of what
--- has no route is `listedCount` of the crate holes.
-use Prim.Native.Nat.{ℕ}
+-- The flags of the calls, and their answers, in numbers. The count and the change of a rewrite are `countOf` and `changeOf` of the crate calls, the count
+-- of a list of what has no route is `listedCount` of the crate holes.
+use Prim.Native.Nat.{ℕ, _%_}
 use Rattle.refusals.specs.Rules.{Reply, gives, refuses}
+use Rattle.records.specs.declared.Form.{Form}
 use Rattle.lookup.specs.declared.answers.Lookup.{Lookup}
 use Rattle.lookup.specs.declared.answers.Lookup.the-variants.{Route, NoRoute, Refused as NotLooked}
 use Rattle.lookup.specs.declared.answers.AddressesHeld.{AddressesHeld}
@@ -14,6 +15,10 @@ use Rattle.calls.specs.declared.Covers.{Covers}
 use Rattle.calls.specs.declared.Covers.the-variants.{Covered, Uncovered, Refused as NotAnswered}
 
 -- ---- Of any call.
+
+-- How a table is read: strictly where the lowest bit of the flags is set. The others are ignored.
+abbrev pub formBy : ℕ → Form
+formBy flags = record { strict = not (eqb (flags % 2) 0) }
 
 -- Document 01's number of a refusal, 0 where there is none.
 abbrev pub numberOf : {A : Type 0} → Reply A → ℕ

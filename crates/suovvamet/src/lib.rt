@@ -6,6 +6,7 @@ use calls::Rewritten;
 use holes::Listed;
 use lookup::answers::AddressesHeld;
 use lookup::answers::Lookup;
+use records::Form;
 use workroom::WorkWords;
 ghost use mathlib.Core.Path.{_≡_};
 ghost use Rattle.lookup.specs.Calls.{lookupSays, heldSays};
@@ -13,8 +14,17 @@ ghost use Rattle.workroom.specs.Needed.{wordsSays};
 ghost use Rattle.calls.specs.Covering.{coversSays};
 ghost use Rattle.calls.specs.Rewriting.{rewrittenSays, countOf, changeOf};
 ghost use Rattle.holes.specs.Listing.{listedSays, listedCount};
-ghost use Rattle.suovvamet.specs.Numbers.{numberOf, indexOf, coveredOf, foundOf, hopOf, lengthOf, addressesOf, wordsOf};
+ghost use Rattle.suovvamet.specs.Numbers.{formBy, numberOf, indexOf, coveredOf, foundOf, hopOf, lengthOf, addressesOf, wordsOf};
 ghost use Rattle.suovvamet.specs.Calls.{RewriteInC, PlainInC, CoversInC, LookupInC, HeldInC, WordsInC, UnroutedInC};
+
+// How a table is read: strictly where the lowest bit of the flags is set. The others are ignored.
+fn form_of(flags: u32) -> Form
+    ensures { λ f. ⌜ f ≡ formBy flags ⌝ }
+{
+    Form {
+        strict: flags % 2 != 0,
+    }
+}
 
 // A refusal in numbers, both 0 for an answer.
 struct Refusal {
@@ -81,6 +91,7 @@ fn rewritten_change(r: Rewritten) -> i64
 #[no_mangle]
 pub extern "C" fn suovvamet_rewrite(
     table: &[u8],
+    flags: u32,
     mode: u32,
     default: u32,
     output: &mut [u8],
@@ -89,9 +100,9 @@ pub extern "C" fn suovvamet_rewrite(
     change: &mut i64,
     index: &mut u64,
 ) -> u32
-    ensures { λ n. ⌜ RewriteInC (now (table .entry)) mode default (now (output .entry)) (now (work .entry)) n (now (count .exit)) (now (change .exit)) (now (index .exit)) (now (output .exit)) (now (work .exit)) ⌝ }
+    ensures { λ n. ⌜ RewriteInC (now (table .entry)) flags mode default (now (output .entry)) (now (work .entry)) n (now (count .exit)) (now (change .exit)) (now (index .exit)) (now (output .exit)) (now (work .exit)) ⌝ }
 {
-    let answer = aggregate::rewrite(table, mode, default, output, work);
+    let answer = aggregate::rewrite(table, form_of(flags), mode, default, output, work);
     *count = rewritten_count(answer);
     *change = rewritten_change(answer);
     let refused = rewritten_refusal(answer);
@@ -103,6 +114,7 @@ pub extern "C" fn suovvamet_rewrite(
 #[no_mangle]
 pub extern "C" fn suovvamet_rewrite_plain(
     table: &[u8],
+    flags: u32,
     mode: u32,
     default: u32,
     output: &mut [u8],
@@ -110,9 +122,9 @@ pub extern "C" fn suovvamet_rewrite_plain(
     change: &mut i64,
     index: &mut u64,
 ) -> u32
-    ensures { λ n. ⌜ PlainInC (now (table .entry)) mode default (now (output .entry)) n (now (count .exit)) (now (change .exit)) (now (index .exit)) (now (output .exit)) ⌝ }
+    ensures { λ n. ⌜ PlainInC (now (table .entry)) flags mode default (now (output .entry)) n (now (count .exit)) (now (change .exit)) (now (index .exit)) (now (output .exit)) ⌝ }
 {
-    let answer = plain::rewrite(table, mode, default, output);
+    let answer = plain::rewrite(table, form_of(flags), mode, default, output);
     *count = rewritten_count(answer);
     *change = rewritten_change(answer);
     let refused = rewritten_refusal(answer);
@@ -148,15 +160,16 @@ fn covers_covered(r: Covers) -> u32
 #[no_mangle]
 pub extern "C" fn suovvamet_covers(
     table: &[u8],
+    flags: u32,
     address: u32,
     length: u32,
     work: &mut [u32],
     covered: &mut u32,
     index: &mut u64,
 ) -> u32
-    ensures { λ n. ⌜ CoversInC (now (table .entry)) address length (now (work .entry)) n (now (covered .exit)) (now (index .exit)) (now (work .exit)) ⌝ }
+    ensures { λ n. ⌜ CoversInC (now (table .entry)) flags address length (now (work .entry)) n (now (covered .exit)) (now (index .exit)) (now (work .exit)) ⌝ }
 {
-    let answer = aggregate::covers(table, address, length, work);
+    let answer = aggregate::covers(table, form_of(flags), address, length, work);
     *covered = covers_covered(answer);
     let refused = covers_refusal(answer);
     *index = refused.index;
@@ -217,15 +230,16 @@ fn lookup_length(r: Lookup) -> u32
 #[no_mangle]
 pub extern "C" fn suovvamet_lookup(
     table: &[u8],
+    flags: u32,
     address: u32,
     found: &mut u32,
     hop: &mut u32,
     length: &mut u32,
     index: &mut u64,
 ) -> u32
-    ensures { λ n. ⌜ LookupInC (now (table .entry)) address n (now (found .exit)) (now (hop .exit)) (now (length .exit)) (now (index .exit)) ⌝ }
+    ensures { λ n. ⌜ LookupInC (now (table .entry)) flags address n (now (found .exit)) (now (hop .exit)) (now (length .exit)) (now (index .exit)) ⌝ }
 {
-    let answer = lookup::lookup(table, address);
+    let answer = lookup::lookup(table, form_of(flags), address);
     *found = lookup_found(answer);
     *hop = lookup_hop(answer);
     *length = lookup_length(answer);
@@ -260,12 +274,13 @@ fn held_count(r: AddressesHeld) -> u64
 #[no_mangle]
 pub extern "C" fn suovvamet_addresses_held(
     table: &[u8],
+    flags: u32,
     addresses: &mut u64,
     index: &mut u64,
 ) -> u32
-    ensures { λ n. ⌜ HeldInC (now (table .entry)) n (now (addresses .exit)) (now (index .exit)) ⌝ }
+    ensures { λ n. ⌜ HeldInC (now (table .entry)) flags n (now (addresses .exit)) (now (index .exit)) ⌝ }
 {
-    let answer = lookup::addresses_held(table);
+    let answer = lookup::addresses_held(table, form_of(flags));
     *addresses = held_count(answer);
     let refused = held_refusal(answer);
     *index = refused.index;
@@ -298,13 +313,14 @@ fn words_needed(r: WorkWords) -> u64
 #[no_mangle]
 pub extern "C" fn suovvamet_work_words(
     table: &[u8],
+    flags: u32,
     is_set: u32,
     needed: &mut u64,
     index: &mut u64,
 ) -> u32
-    ensures { λ n. ⌜ WordsInC (now (table .entry)) «is_set» n (now (needed .exit)) (now (index .exit)) ⌝ }
+    ensures { λ n. ⌜ WordsInC (now (table .entry)) flags «is_set» n (now (needed .exit)) (now (index .exit)) ⌝ }
 {
-    let answer = workroom::work_words(table, is_set != 0);
+    let answer = workroom::work_words(table, form_of(flags), is_set != 0);
     *needed = words_needed(answer);
     let refused = words_refusal(answer);
     *index = refused.index;
@@ -337,13 +353,14 @@ fn listed_count(r: Listed) -> u64
 #[no_mangle]
 pub extern "C" fn suovvamet_unrouted(
     table: &[u8],
+    flags: u32,
     output: &mut [u8],
     count: &mut u64,
     index: &mut u64,
 ) -> u32
-    ensures { λ n. ⌜ UnroutedInC (now (table .entry)) (now (output .entry)) n (now (count .exit)) (now (index .exit)) (now (output .exit)) ⌝ }
+    ensures { λ n. ⌜ UnroutedInC (now (table .entry)) flags (now (output .entry)) n (now (count .exit)) (now (index .exit)) (now (output .exit)) ⌝ }
 {
-    let answer = holes::unrouted(table, output);
+    let answer = holes::unrouted(table, form_of(flags), output);
     *count = listed_count(answer);
     let refused = listed_refusal(answer);
     *index = refused.index;

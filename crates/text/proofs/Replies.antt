@@ -10,6 +10,7 @@ use Rattle.theory.specs.Routes.{Route}
 use Rattle.refusals.specs.Rules.{Rule, Reply, refuses, judge}
 use Rattle.refusals.proofs.Judged.{gives-any, refuses-any}
 use Rattle.records.specs.Wire.{records, Bytes}
+use Rattle.records.specs.declared.Form.{Form}
 use Rattle.calls.specs.declared.Rewritten.{Rewritten}
 use Rattle.calls.specs.declared.Rewritten.the-variants.{Records, Refused}
 use Rattle.calls.specs.Conditions.{Guarded}
@@ -29,51 +30,51 @@ said-refused before number index (Rattle.refusals.specs.Rules.gives rs) e = cc
 said-refused before number index (refuses m i) e = cc
 
 -- ---- Of a rewrite, by any engine.
-module _ (rules : List Rule) (t : List ℕ) (mode default : ℕ) (o : List ℕ) (guarded : Guarded rules t mode default (length o)) (o′ : List ℕ) where
+module _ (form : Form) (rules : List Rule) (t : List ℕ) (mode default : ℕ) (o : List ℕ) (guarded : Guarded form rules t mode default (length o)) (o′ : List ℕ) where
   pub by-text : (hops : Bool) → Bytes t → (r : Rewritten) → RewritesBy rules t mode default o r o′
       → rewrittenText hops r o′ ≡ replyText hops (records t) (replyBy rules t mode default)
   unfolding rewrittenText replyText resultOf
   by-text hops bytes (Records count change) ok =
       ap₂ (λ (rs : List Route) (z : ℤ). linesOf hops rs ++ changeLine z)
-      (by-reads rules t mode default o guarded (Records count change) o′ ok count change refl bytes)
-      (by-records rules t mode default o guarded (Records count change) o′ ok count change refl .2)
-      ∙ sym (ap (replyText hops (records t)) (by-reply rules t mode default o guarded (Records count change) o′ ok count change refl))
+      (by-reads form rules t mode default o guarded (Records count change) o′ ok count change refl bytes)
+      (by-records form rules t mode default o guarded (Records count change) o′ ok count change refl .2)
+      ∙ sym (ap (replyText hops (records t)) (by-reply form rules t mode default o guarded (Records count change) o′ ok count change refl))
   by-text hops bytes (Refused number index) ok =
       sym (ap (replyText hops (records t)) (said-refused (records t) number index (replyBy rules t mode default) (ok .answer)))
 
   -- The records that are answered with stand in the output.
   pub by-fits : (r : Rewritten) → RewritesBy rules t mode default o r o′ → 8 * countOf r ≤ length o′
   by-fits (Records count change) ok =
-      let f = by-records rules t mode default o guarded (Records count change) o′ ok count change refl in
-      omega (arith, f .0 .enough-output, f .1, by-length rules t mode default o guarded (Records count change) o′ ok)
+      let f = by-records form rules t mode default o guarded (Records count change) o′ ok count change refl in
+      omega (arith, f .0 .enough-output, f .1, by-length form rules t mode default o guarded (Records count change) o′ ok)
   by-fits (Refused number index) ok = omega arith
 
 -- By that over nodes.
-module _ (t : List ℕ) (mode default : ℕ) (o : List ℕ) (words : ℕ) (o′ w′ : List ℕ) where
-  guarded : Guarded (rewriteRules t mode default (length o) words) t mode default (length o)
-  guarded = rewrite-guarded t mode default (length o) words
+module _ (form : Form) (t : List ℕ) (mode default : ℕ) (o : List ℕ) (words : ℕ) (o′ w′ : List ℕ) where
+  guarded : Guarded form (rewriteRules form t mode default (length o) words) t mode default (length o)
+  guarded = rewrite-guarded form t mode default (length o) words
 
-  pub rewritten-text : (hops : Bool) → Bytes t → (r : Rewritten) → Rewrites t mode default o words r o′ w′
-      → rewrittenText hops r o′ ≡ replyText hops (records t) (rewriteReply t mode default (length o) words)
-  rewritten-text hops bytes r ok = by-text (rewriteRules t mode default (length o) words) t mode default o guarded o′ hops bytes r (ok .inner)
+  pub rewritten-text : (hops : Bool) → Bytes t → (r : Rewritten) → Rewrites form t mode default o words r o′ w′
+      → rewrittenText hops r o′ ≡ replyText hops (records t) (rewriteReply form t mode default (length o) words)
+  rewritten-text hops bytes r ok = by-text form (rewriteRules form t mode default (length o) words) t mode default o guarded o′ hops bytes r (ok .inner)
 
-  pub rewritten-fits : (r : Rewritten) → Rewrites t mode default o words r o′ w′ → 8 * countOf r ≤ length o′
-  rewritten-fits r ok = by-fits (rewriteRules t mode default (length o) words) t mode default o guarded o′ r (ok .inner)
+  pub rewritten-fits : (r : Rewritten) → Rewrites form t mode default o words r o′ w′ → 8 * countOf r ≤ length o′
+  rewritten-fits r ok = by-fits form (rewriteRules form t mode default (length o) words) t mode default o guarded o′ r (ok .inner)
 
 -- ---- A list of what has no route.
-module _ (t o o′ : List ℕ) where
-  pub listed-text : (total : Bool) (r : Listed) → Lists t o r o′ → listedText total r o′ ≡ listText total (judge (unroutedRules t (length o)) (holesOf t))
+module _ (form : Form) (t o o′ : List ℕ) where
+  pub listed-text : (total : Bool) (r : Listed) → Lists form t o r o′ → listedText total r o′ ≡ listText total (judge (unroutedRules form t (length o)) (holesOf t))
   unfolding listedText listText
   listed-text total (Listing count) ok =
-      ap₂ (λ (rs : List Route) (n : ℕ). linesOf false rs ++ totalEnd total n) (unrouted-reads t o (Listing count) o′ ok count refl)
-      (sym (unrouted-listed t o (Listing count) o′ ok count .0 refl .2))
-      ∙ sym (ap (listText total) (gives-any (unroutedRules t (length o)) (length (holesOf t)) count (holesOf t) (sym (ok .answer))))
+      ap₂ (λ (rs : List Route) (n : ℕ). linesOf false rs ++ totalEnd total n) (unrouted-reads form t o (Listing count) o′ ok count refl)
+      (sym (unrouted-listed form t o (Listing count) o′ ok count .0 refl .2))
+      ∙ sym (ap (listText total) (gives-any (unroutedRules form t (length o)) (length (holesOf t)) count (holesOf t) (sym (ok .answer))))
   listed-text total (NotListed number index) ok =
-      sym (ap (listText total) (refuses-any (unroutedRules t (length o)) (length (holesOf t)) (holesOf t) number index (sym (ok .answer))))
+      sym (ap (listText total) (refuses-any (unroutedRules form t (length o)) (length (holesOf t)) (holesOf t) number index (sym (ok .answer))))
 
   -- The records that are answered with stand in the output.
-  pub listed-fits : (r : Listed) → Lists t o r o′ → 8 * listedCount r ≤ length o′
+  pub listed-fits : (r : Listed) → Lists form t o r o′ → 8 * listedCount r ≤ length o′
   listed-fits (Listing count) ok =
-      let f = unrouted-listed t o (Listing count) o′ ok count .0 refl in
-      omega (arith, f .1, f .2, unrouted-length t o (Listing count) o′ ok)
+      let f = unrouted-listed form t o (Listing count) o′ ok count .0 refl in
+      omega (arith, f .1, f .2, unrouted-length form t o (Listing count) o′ ok)
   listed-fits (NotListed number index) ok = omega arith

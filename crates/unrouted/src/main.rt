@@ -1,8 +1,9 @@
-// Reads a map's table from standard input, at most 8,200 bytes of it, and prints what has no route, a prefix a line, or the refusal. It is run on
-// examples/yard.table.
+// Reads a map's table from standard input, at most 8,200 bytes of it, and prints what has no route, a prefix a line, or the refusal. Host bits
+// are masked. It is run on examples/yard.table.
 
 use libc::STDIN_FILENO;
 use libc::STDOUT_FILENO;
+use records::Form;
 use text::answers::put_listed;
 ghost use Prim.Native.Nat.{_≤_};
 ghost use lib.ListN.{length};
@@ -15,7 +16,7 @@ fn answer(table: &[u8], out: &mut [u8]) -> usize
     ensures { λ r. ⌜ Put (printed (now (table .entry))) 0 r (now (out .entry)) (now (out .exit)) ⌝ }
 {
     let mut output = [0u8; 65536];
-    let answered = holes::unrouted(table, &mut output);
+    let answered = holes::unrouted(table, Form { strict: false }, &mut output);
     put_listed(answered, &output, false, 0, out)
 }
 

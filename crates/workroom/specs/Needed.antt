@@ -4,6 +4,7 @@ use mathlib.Core.Bool.{Bool}
 use mathlib.Core.List.{List}
 use Rattle.refusals.specs.Rules.{Reply, gives, refuses, judge}
 use Rattle.records.specs.Wire.{routes}
+use Rattle.records.specs.declared.Form.{Form}
 use Rattle.table.specs.TableRules.{tableRules}
 use Rattle.nodecount.specs.Nodes.{nodes}
 use Rattle.workroom.specs.declared.WorkWords.{WorkWords}
@@ -14,6 +15,6 @@ abbrev pub wordsSays : WorkWords → Reply ℕ
 wordsSays (Words n) = gives n
 wordsSays (Refused number index) = refuses number index
 
--- The right reply for a table of a set or of a map: 160 words for each node, by document 01.
-abbrev pub wordsReply : Bool → List ℕ → Reply ℕ
-wordsReply isSet t = judge (tableRules isSet t) (160 * nodes 32 (routes t))
+-- The right reply for a table of a set or of a map, read by the form: 160 words for each node, by document 01.
+abbrev pub wordsReply : Form → Bool → List ℕ → Reply ℕ
+wordsReply form isSet t = judge (tableRules form isSet t) (160 * nodes 32 (routes t))

@@ -1,6 +1,7 @@
 // The work room that a table needs in a rewrite or in the cover query, so that a caller can lend just that.
 
 use nodecount::count_nodes;
+use records::Form;
 use table::Checked;
 use table::check_table;
 ghost use mathlib.Core.Path.{_≡_};
@@ -12,11 +13,11 @@ pub enum WorkWords {
     Refused { number: u8, index: usize },
 }
 
-// The words of work room that a table needs, of a set or of a map; or the refusal (3 to 8).
-pub fn work_words(table: &[u8], is_set: bool) -> WorkWords
-    ensures { λ r. ⌜ wordsSays r ≡ wordsReply «is_set» (now (table .entry)) ⌝ }
+// The words of work room that a table needs, of a set or of a map, read by the form; or the refusal (3 to 8).
+pub fn work_words(table: &[u8], form: Form, is_set: bool) -> WorkWords
+    ensures { λ r. ⌜ wordsSays r ≡ wordsReply form «is_set» (now (table .entry)) ⌝ }
 {
-    match check_table(table, is_set) {
+    match check_table(table, form, is_set) {
         Checked::Valid(_) => WorkWords::Words(160 * count_nodes(table)),
         Checked::Refused { number, index } => WorkWords::Refused {
             number: number,

@@ -19,13 +19,13 @@ no-mode-requires : tie.Need-no-mode-requires
 no-mode-requires c κs = search needs
 
 returns : tie.Need-returns
-returns c = refused-by _ _ _ _ _ (not-a-mode _ _ _ _ _ (not-true _ (sym (c .before .no-mode .ensures) ∙ c .if1 .taken)))
+returns c = refused-by _ _ _ _ _ (not-a-mode _ _ _ _ _ _ (not-true _ (sym (c .before .no-mode .ensures) ∙ c .if1 .taken)))
 
 no-hop-requires : tie.Need-no-hop-requires
 no-hop-requires c κs = search needs
 
 returns-2 : tie.Need-returns-2
-returns-2 c = refused-by _ _ _ _ _ (not-a-hop _ _ _ _ _ (not-false _ (sym (c .before .before .before .no-mode .ensures) ∙ c .before .before .if1 .left)) (not-true _ (sym (c .before .no-hop .ensures) ∙ c .if2 .taken)))
+returns-2 c = refused-by _ _ _ _ _ (not-a-hop _ _ _ _ _ _ (not-false _ (sym (c .before .before .before .no-mode .ensures) ∙ c .before .before .if1 .left)) (not-true _ (sym (c .before .no-hop .ensures) ∙ c .if2 .taken)))
 
 check-table-requires : tie.Need-check-table-requires
 check-table-requires c κs = search needs
@@ -37,13 +37,13 @@ enum-known-records : tie.Need-enum-known-records
 enum-known-records c = search needs
 
 count-nodes-requires : tie.Need-count-nodes-requires
-count-nodes-requires c κs = checked-lawful _ _ _ (sym (c .before .before .before .check-table .ensures) ∙ ap checkedSays (c .before .records .given .1)) (λ k. omega (arith, c .before .before .before .before .before .before .before .before .before .before .shared-slice-known .given k)) .table
+count-nodes-requires c κs = checked-lawful _ _ _ _ (sym (c .before .before .before .check-table .ensures) ∙ ap checkedSays (c .before .records .given .1)) (λ k. omega (arith, c .before .before .before .before .before .before .before .before .before .before .shared-slice-known .given k)) .table
 
 returns-3 : tie.Need-returns-3
 returns-3 c =
     let count = c .before .count-nodes .ensures in
     let short = c .if3 .taken in
-    refused-by _ _ _ _ _ (short-room _ _ _ _ _ (not-false _ (sym (c .before .before .before .before .before .before .before .before .before .no-mode .ensures) ∙ c .before .before .before .before .before .before .before .before .if1 .left)) (not-false _ (sym (c .before .before .before .before .before .before .before .no-hop .ensures) ∙ c .before .before .before .before .before .before .if2 .left)) (sym (c .before .before .before .before .before .check-table .ensures) ∙ ap checkedSays (c .before .before .before .records .given .1)) (omega arith))
+    refused-by _ _ _ _ _ (short-room _ _ _ _ _ _ (not-false _ (sym (c .before .before .before .before .before .before .before .before .before .no-mode .ensures) ∙ c .before .before .before .before .before .before .before .before .if1 .left)) (not-false _ (sym (c .before .before .before .before .before .before .before .no-hop .ensures) ∙ c .before .before .before .before .before .before .if2 .left)) (sym (c .before .before .before .before .before .check-table .ensures) ∙ ap checkedSays (c .before .before .before .records .given .1)) (omega arith))
 
 fill-of-requires : tie.Need-fill-of-requires
 fill-of-requires c κs = search needs
@@ -52,7 +52,7 @@ rewrite-checked-requires : tie.Need-rewrite-checked-requires
 rewrite-checked-requires c κs =
     let args = c .before .before .before .before .before .before .before .before .before .before .before .before .before .before .before .before .args in
     let valid = sym (c .before .before .before .before .before .before .before .before .check-table .ensures) ∙ ap checkedSays (c .before .before .before .before .before .before .records .given .1) in
-    let lawful = checked-lawful (takesSet (args .mode)) (args .table .now) _ valid (λ k. omega (arith, c .before .before .before .before .before .before .before .before .before .before .before .before .before .before .before .shared-slice-known .given k)) in
+    let lawful = checked-lawful _ (takesSet (args .mode)) (args .table .now) _ valid (λ k. omega (arith, c .before .before .before .before .before .before .before .before .before .before .before .before .before .before .before .shared-slice-known .given k)) in
     let filled = c .before .before .fill-of .ensures in
     let count = c .before .before .before .before .count-nodes .ensures in
     let long = c .before .before .before .if3 .left in (
@@ -66,14 +66,14 @@ rewrite-checked-requires c κs =
               hop = λ five. let small = default-hop _ (args .default) (not-false _ (sym (c .before .before .before .before .before .before .before .before .before .before .no-hop .ensures) ∙ c .before .before .before .before .before .before .before .before .before .if2 .left)) five in omega (arith, filled .0 five small);
               none = filled .1;
             },
-            (checked-count _ _ _ valid, rw (nodes-below (args .table .now) (lawful .table .valid)) (omega arith)),
+            (checked-count _ _ _ _ valid, rw (nodes-below (args .table .now) (lawful .table .valid)) (omega arith)),
           ),
         ),
       ),
     )
 
 returns-4 : tie.Need-returns-4
-returns-4 c = refused-by _ _ _ _ _ (not-a-table _ _ _ _ _ (not-false _ (sym (c .before .before .before .before .before .before .before .no-mode .ensures) ∙ c .before .before .before .before .before .before .if1 .left)) (not-false _ (sym (c .before .before .before .before .before .no-hop .ensures) ∙ c .before .before .before .before .if2 .left)) (sym (c .before .before .before .check-table .ensures) ∙ ap checkedSays (c .before .number .given .1)))
+returns-4 c = refused-by _ _ _ _ _ (not-a-table _ _ _ _ _ _ (not-false _ (sym (c .before .before .before .before .before .before .before .no-mode .ensures) ∙ c .before .before .before .before .before .before .if1 .left)) (not-false _ (sym (c .before .before .before .before .before .no-hop .ensures) ∙ c .before .before .before .before .if2 .left)) (sym (c .before .before .before .check-table .ensures) ∙ ap checkedSays (c .before .number .given .1)))
 
 same-length : tie.Need-same-length
 same-length c = search needs
@@ -91,7 +91,7 @@ returns-5 c =
     let is = not-false _ (sym (c .before .before .before .before .before .before .before .before .before .before .before .before .before .before .before .before .before .no-mode .ensures) ∙ c .before .before .before .before .before .before .before .before .before .before .before .before .before .before .before .before .if1 .left) in
     let hop = not-false _ (sym (c .before .before .before .before .before .before .before .before .before .before .before .before .before .before .before .no-hop .ensures) ∙ c .before .before .before .before .before .before .before .before .before .before .before .before .before .before .if2 .left) in
     finished-by _ _ _ _ _
-    (only-output _ _ _ _ _ is hop valid room
+    (only-output _ _ _ _ _ _ is hop valid room
     ∙ same-last _ _ _ _ _ (mode-range _ is) (λ five. c .before .before .before .before .before .before .before .fill-of .ensures .0 five (default-hop _ _ hop five)))
     (c .before .before .before .before .rewrite-checked .ensures)
 

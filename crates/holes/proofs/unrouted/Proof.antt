@@ -19,8 +19,8 @@ enum-known-records c = search needs
 fits-requires : tie.Need-fits-requires
 fits-requires c κs =
     let valid = sym (c .before .before .before .check-table .ensures) ∙ ap checkedSays (c .before .records .given .1) in (
-      accepted-run _ valid (λ k. omega (arith, c .before .before .before .before .before .shared-slice-known .given k)),
-      accepted-few _ valid (λ k. omega (arith, c .before .before .before .before .before .shared-slice-known .given k)),
+      accepted-run _ _ valid (λ k. omega (arith, c .before .before .before .before .before .shared-slice-known .given k)),
+      accepted-few _ _ valid (λ k. omega (arith, c .before .before .before .before .before .shared-slice-known .given k)),
     )
 
 list-requires : tie.Need-list-requires
@@ -28,7 +28,7 @@ list-requires c κs =
     let a = c .before .before .before .before .before .before .before .before .before .args in
     let records = c .before .before .before .before .records .given in
     let valid = sym (c .before .before .before .before .before .before .check-table .ensures) ∙ ap checkedSays (records .1) in (
-      (omega arith, accepted-run _ valid (λ k. omega (arith, c .before .before .before .before .before .before .before .before .shared-slice-known .given k))),
+      (omega arith, accepted-run _ _ valid (λ k. omega (arith, c .before .before .before .before .before .before .before .before .shared-slice-known .given k))),
       room-enough (a .table .now) (records .0 .0) (a .output .now) (c .before .before .fits2 .ensures) (c .before .if1 .taken),
     )
 
@@ -41,19 +41,19 @@ returns c =
     let records = c .before .before .before .before .before .before .before .records .given in
     let valid = sym (c .before .before .before .before .before .before .before .before .before .check-table .ensures) ∙ ap checkedSays (records .1) in
     let wrote = c .before .before .list .ensures in
-    lists-given (a .table .now) valid (a .output .now)
+    lists-given _ (a .table .now) valid (a .output .now)
     (room-enough (a .table .now) (records .0 .0) (a .output .now) (c .before .before .before .before .before .fits2 .ensures) (c .before .before .before .before .if1 .taken))
     (wrote .0) (wrote .1)
 
 returns-2 : tie.Need-returns-2
-returns-2 c = lists-refused _ _ (sym (c .before .before .before .check-table .ensures) ∙ ap checkedSays (c .before .number .given .1))
+returns-2 c = lists-refused _ _ _ (sym (c .before .before .before .check-table .ensures) ∙ ap checkedSays (c .before .number .given .1))
 
 returns-3 : tie.Need-returns-3
 returns-3 c =
     let a = c .before .before .before .before .before .before .before .before .args in
     let records = c .before .before .before .records .given in
     let valid = sym (c .before .before .before .before .before .check-table .ensures) ∙ ap checkedSays (records .1) in
-    lists-short (a .table .now) valid (a .output .now) (room-short (a .table .now) (records .0 .0) (a .output .now) (c .before .fits2 .ensures) (c .if1 .left))
+    lists-short _ (a .table .now) valid (a .output .now) (room-short (a .table .now) (records .0 .0) (a .output .now) (c .before .fits2 .ensures) (c .if1 .left))
 
 pub unrouted-spec : {M : Type 1} → statement M
 unrouted-spec =

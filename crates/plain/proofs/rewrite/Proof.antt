@@ -16,7 +16,7 @@ no-mode-requires : tie.Need-no-mode-requires
 no-mode-requires c κs = search needs
 
 returns : tie.Need-returns
-returns c = refused-by _ _ _ _ _ (not-a-mode _ _ _ _ (not-true _ (sym (c .before .no-mode .ensures) ∙ c .if1 .taken)))
+returns c = refused-by _ _ _ _ _ (not-a-mode _ _ _ _ _ (not-true _ (sym (c .before .no-mode .ensures) ∙ c .if1 .taken)))
 
 no-hop-requires : tie.Need-no-hop-requires
 no-hop-requires c κs = search needs
@@ -24,7 +24,7 @@ no-hop-requires c κs = search needs
 returns-2 : tie.Need-returns-2
 returns-2 c =
     refused-by _ _ _ _ _
-    (not-a-hop _ _ _ _ (not-false _ (sym (c .before .before .before .no-mode .ensures) ∙ c .before .before .if1 .left)) (not-true _ (sym (c .before .no-hop .ensures) ∙ c .if2 .taken)))
+    (not-a-hop _ _ _ _ _ (not-false _ (sym (c .before .before .before .no-mode .ensures) ∙ c .before .before .if1 .left)) (not-true _ (sym (c .before .no-hop .ensures) ∙ c .if2 .taken)))
 
 check-table-requires : tie.Need-check-table-requires
 check-table-requires c κs = search needs
@@ -43,8 +43,8 @@ rewrite-checked-requires c κs =
     let a = c .before .before .before .before .before .before .before .before .before .before .before .before .args in
     let is = not-false _ (sym (c .before .before .before .before .before .before .before .before .before .no-mode .ensures) ∙ c .before .before .before .before .before .before .before .before .if1 .left) in
     let had = mode-had (a .mode) is in
-    let valid = mode-checked had (a .table .now) (sym (c .before .before .before .before .before .check-table .ensures) ∙ ap checkedSays (c .before .before .before .records .given .1)) in
-    let lawful = checked-lawful (takesSet (a .mode)) (a .table .now) _ valid (λ k. omega (arith, c .before .before .before .before .before .before .before .before .before .before .before .shared-slice-known .given k)) in
+    let valid = mode-checked had (a .form) (a .table .now) (sym (c .before .before .before .before .before .check-table .ensures) ∙ ap checkedSays (c .before .before .before .records .given .1)) in
+    let lawful = checked-lawful (a .form) (takesSet (a .mode)) (a .table .now) _ valid (λ k. omega (arith, c .before .before .before .before .before .before .before .before .before .before .before .shared-slice-known .given k)) in
     let hop = not-false _ (sym (c .before .before .before .before .before .before .before .no-hop .ensures) ∙ c .before .before .before .before .before .before .if2 .left) in
     let filled = c .before .fill-of .ensures in (
       is,
@@ -55,7 +55,7 @@ rewrite-checked-requires c κs =
             hop = λ five. let small = default-hop (a .mode) (a .default) hop five in omega (arith, filled .0 five small);
             none = filled .1;
           },
-          checked-count (takesSet (a .mode)) (a .table .now) _ valid,
+          checked-count (a .form) (takesSet (a .mode)) (a .table .now) _ valid,
         ),
       ),
     )
@@ -64,8 +64,8 @@ returns-3 : tie.Need-returns-3
 returns-3 c =
     let a = c .before .before .before .before .before .before .before .before .before .before .args in
     let is = not-false _ (sym (c .before .before .before .before .before .before .before .no-mode .ensures) ∙ c .before .before .before .before .before .before .if1 .left) in
-    let refused = mode-checked (mode-had (a .mode) is) (a .table .now) (sym (c .before .before .before .check-table .ensures) ∙ ap checkedSays (c .before .number .given .1)) in
-    refused-by _ _ _ _ _ (not-a-table _ _ _ _ is (not-false _ (sym (c .before .before .before .before .before .no-hop .ensures) ∙ c .before .before .before .before .if2 .left)) refused)
+    let refused = mode-checked (mode-had (a .mode) is) (a .form) (a .table .now) (sym (c .before .before .before .check-table .ensures) ∙ ap checkedSays (c .before .number .given .1)) in
+    refused-by _ _ _ _ _ (not-a-table _ _ _ _ _ is (not-false _ (sym (c .before .before .before .before .before .no-hop .ensures) ∙ c .before .before .before .before .if2 .left)) refused)
 
 same-length : tie.Need-same-length
 same-length c = search needs
@@ -76,9 +76,9 @@ returns-4 c =
     let is = not-false _ (sym (c .before .before .before .before .before .before .before .before .before .before .before .before .no-mode .ensures) ∙ c .before .before .before .before .before .before .before .before .before .before .before .if1 .left) in
     let hop = not-false _ (sym (c .before .before .before .before .before .before .before .before .before .before .no-hop .ensures) ∙ c .before .before .before .before .before .before .before .before .before .if2 .left) in
     let had = mode-had (a .mode) is in
-    let valid = mode-checked had (a .table .now) (sym (c .before .before .before .before .before .before .before .before .check-table .ensures) ∙ ap checkedSays (c .before .before .before .before .before .before .records .given .1)) in
+    let valid = mode-checked had (a .form) (a .table .now) (sym (c .before .before .before .before .before .before .before .before .check-table .ensures) ∙ ap checkedSays (c .before .before .before .before .before .before .records .given .1)) in
     finished-by _ _ _ _ _
-    (only-output _ _ _ _ is hop valid
+    (only-output _ _ _ _ _ is hop valid
     ∙ same-last _ _ _ _ _ (mode-known had) (λ five. c .before .before .before .before .fill-of .ensures .0 five (default-hop _ _ hop five)))
     (c .before .before .rewrite-checked .ensures)
 

@@ -5,6 +5,7 @@ use native.Mathlib.Omega.{arith}
 use lib.Dec.{ltb}
 use lib.ListN.{length, length-replicate}
 use Rattle.records.specs.Wire.{records}
+use Rattle.records.specs.Forms.{byDefault}
 use Rattle.calls.specs.Rewriting.{rewriteReply}
 use Rattle.text.specs.Answers.{replyText}
 use Rattle.text.proofs.Puts.{put-as}
@@ -26,8 +27,8 @@ slice-aggregate-put-rewritten c = search needs
 put-rewritten-requires : tie.Need-put-rewritten-requires
 put-rewritten-requires c κs =
     let done = c .before .before .before .before .before .rewrite in
-    let fits = rewritten-fits _ _ _ _ _ _ _ _ (done .ensures) in
-    (fits, omega (arith, fits, done .kept .1 .1 .1 .0, length-replicate {A = ℕ} 8200 0, c .before .before .before .before .before .before .before .before .before .before .before .pre))
+    let fits = rewritten-fits _ _ _ _ _ _ _ _ _ (done .ensures) in
+    (fits, omega (arith, fits, done .kept .1 .1 .1 .1 .0, length-replicate {A = ℕ} 8200 0, c .before .before .before .before .before .before .before .before .before .before .before .pre))
 
 same-length : tie.Need-same-length
 same-length c = search needs
@@ -41,8 +42,8 @@ returns c =
     let start = c .before .before .before .before .before .before .before .before .before .before .before .before .before in
     let s = start .before .args in
     put-as
-    (rewritten-text _ _ _ _ _ _ _ (ltb 2 (s .mode)) (λ k. start .shared-slice-known .given k .fits) _ (c .before .before .before .before .before .before .before .before .rewrite .ensures)
-    ∙ ap (λ (room : ℕ). replyText (ltb 2 (s .mode)) (records (s .table .now)) (rewriteReply (s .table .now) (s .mode) (s .default) room (length (s .work .now))))
+    (rewritten-text _ _ _ _ _ _ _ _ (ltb 2 (s .mode)) (λ k. start .shared-slice-known .given k .fits) _ (c .before .before .before .before .before .before .before .before .rewrite .ensures)
+    ∙ ap (λ (room : ℕ). replyText (ltb 2 (s .mode)) (records (s .table .now)) (rewriteReply byDefault (s .table .now) (s .mode) (s .default) room (length (s .work .now))))
     (length-replicate {A = ℕ} 8200 0))
     (c .before .before .put-rewritten .ensures)
 

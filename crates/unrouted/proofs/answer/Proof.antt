@@ -5,6 +5,7 @@ use Prim.Native.Nat.{ℕ}
 use native.Mathlib.Omega.{arith}
 use lib.ListN.{length-replicate}
 use Rattle.refusals.specs.Rules.{judge}
+use Rattle.records.specs.Forms.{byDefault}
 use Rattle.holes.specs.Listing.{holesOf, unroutedRules}
 use Rattle.text.specs.Answers.{listText}
 use Rattle.text.proofs.Puts.{put-as}
@@ -26,8 +27,8 @@ slice-aggregate-put-listed c = search needs
 put-listed-requires : tie.Need-put-listed-requires
 put-listed-requires c κs =
     let done = c .before .before .before .unrouted in
-    let fits = listed-fits _ _ _ _ (done .ensures) in
-    (fits, omega (arith, fits, done .kept .1 .0, length-replicate {A = ℕ} 65536 0, c .before .before .before .before .before .before .before .pre))
+    let fits = listed-fits _ _ _ _ _ (done .ensures) in
+    (fits, omega (arith, fits, done .kept .1 .1 .0, length-replicate {A = ℕ} 65536 0, c .before .before .before .before .before .before .before .pre))
 
 same-length : tie.Need-same-length
 same-length c = search needs
@@ -37,8 +38,8 @@ unfolding printed
 returns c =
     let t = c .before .before .before .before .before .before .before .before .before .before .args .table .now in
     put-as
-    (listed-text _ _ _ false _ (c .before .before .before .before .before .before .unrouted .ensures)
-    ∙ ap (λ (room : ℕ). listText false (judge (unroutedRules t room) (holesOf t))) (length-replicate {A = ℕ} 65536 0))
+    (listed-text _ _ _ _ false _ (c .before .before .before .before .before .before .unrouted .ensures)
+    ∙ ap (λ (room : ℕ). listText false (judge (unroutedRules byDefault t room) (holesOf t))) (length-replicate {A = ℕ} 65536 0))
     (c .before .before .put-listed .ensures)
 
 pub answer-spec : {M : Type 1} → statement M

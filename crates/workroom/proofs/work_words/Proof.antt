@@ -19,12 +19,12 @@ enum-told c = search needs
 
 count-nodes-requires : tie.Need-count-nodes-requires
 count-nodes-requires c κs =
-    accepted-table _ _ _ _ (λ k. omega (arith, c .before .before .before .shared-slice-known .given k))
+    accepted-table _ _ _ _ _ (λ k. omega (arith, c .before .before .before .shared-slice-known .given k))
     (sym (c .before .before .check-table .ensures) ∙ ap checkedSays (c .enum-told .given .1)) .0 .table
 
-mul-t8 : tie.Need-mul-t8
-mul-t8 c =
-    let lawful = accepted-table _ _ _ _ (λ k. omega (arith, c .before .before .before .before .shared-slice-known .given k))
+mul-t9 : tie.Need-mul-t9
+mul-t9 c =
+    let lawful = accepted-table _ _ _ _ _ (λ k. omega (arith, c .before .before .before .before .shared-slice-known .given k))
     (sym (c .before .before .before .check-table .ensures) ∙ ap checkedSays (c .before .enum-told .given .1)) .0 in
     let most = nodes-most (lawful .table) (lawful .few) in
     record { fits = omega (arith, c .count-nodes .ensures) }
@@ -46,7 +46,7 @@ work-words-spec =
     check-table-requires
     enum-told
     count-nodes-requires
-    mul-t8
+    mul-t9
     enum-known-number
     returns
     returns-2)

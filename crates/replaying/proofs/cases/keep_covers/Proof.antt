@@ -38,8 +38,8 @@ returns c =
     let nothing = c .before .before .keep-work .ensures (covers-zero (done .ensures)) in
     put-at (c .before .before .before .before .before .before .before .before .before .room-for .ensures .0) (nothing .0) (nothing .1)
     (put-as
-    (covers-kept _ _ _ _ _ (done .ensures .answer)
-    ∙ ap (λ (words : ℕ). coverAnswer (s .table .now) (s .address) (s .len) words) (ap length (fill .ensures) ∙ length-replicate _ _))
+    (covers-kept _ _ _ _ _ _ (done .ensures .answer)
+    ∙ ap (λ (words : ℕ). coverAnswer (s .form) (s .table .now) (s .address) (s .len) words) (ap length (fill .ensures) ∙ length-replicate _ _))
     (c .before .before .before .before .before .before .before .put-covers .ensures))
 
 pub keep-covers-spec : {M : Type 1} → statement M

@@ -21,7 +21,7 @@ same-length c = search needs
 returns : tie.Need-returns
 returns c =
     put-at (c .before .before .before .before .before .room-for .ensures .0) refl refl
-    (put-as (held-kept _ _ (c .before .before .before .before .addresses-held .ensures)) (c .before .before .put-held .ensures))
+    (put-as (held-kept _ _ _ (c .before .before .before .before .addresses-held .ensures)) (c .before .before .put-held .ensures))
 
 pub keep-held-spec : {M : Type 1} → statement M
 keep-held-spec = tie.close (tie.spec room-for-requires addresses-held-requires put-held-requires same-length returns)

@@ -25,16 +25,16 @@ put-listed-requires : tie.Need-put-listed-requires
 put-listed-requires c κs =
     let done = c .before .before .before .before .before .before .unrouted in
     let filled = c .before .before .before .before .before .before .before .before .before .before .fill .kept .0 in
-    let fits = listed-fits _ _ _ _ (done .ensures) in
+    let fits = listed-fits _ _ _ _ _ (done .ensures) in
     let start = c .before .before .before .before .before .before .before .before .before .before .before .before .before .before .before in
-    (fits, omega (arith, fits, done .kept .1 .0, filled, start .pre .0, c .before .before .room-for .ensures .1))
+    (fits, omega (arith, fits, done .kept .1 .1 .0, filled, start .pre .0, c .before .before .room-for .ensures .1))
 
 listed-requires : tie.Need-listed-requires
 listed-requires c κs =
     let done = c .before .before .before .before .before .before .before .before .before .before .unrouted in
     let filled = c .before .before .before .before .before .before .before .before .before .before .before .before .before .before .fill .kept .0 in
     let start = c .before .before .before .before .before .before .before .before .before .before .before .before .before .before .before .before .before .before .before in
-    omega (arith, listed-fits _ _ _ _ (done .ensures), done .kept .1 .0, filled, start .pre .0)
+    omega (arith, listed-fits _ _ _ _ _ (done .ensures), done .kept .1 .1 .0, filled, start .pre .0)
 
 keep-output-requires : tie.Need-keep-output-requires
 keep-output-requires c κs = search needs
@@ -52,10 +52,10 @@ returns c =
     let done = c .before .before .before .before .before .before .before .before .before .before .before .before .before .before .before .unrouted in
     let nothing =
     c .before .before .keep-output .ensures
-    (rw (c .before .before .before .before .listed .ensures) (list-filled _ _ _ 165 (length (s .output .now)) (bytes .ensures) _ (done .ensures))) in
+    (rw (c .before .before .before .before .listed .ensures) (list-filled _ _ _ _ 165 (length (s .output .now)) (bytes .ensures) _ (done .ensures))) in
     put-at (c .before .before .before .before .before .before .before .before .before .before .before .room-for .ensures .0) (nothing .0) (nothing .1)
     (put-as
-    (listed-text _ _ _ true _ (done .ensures) ∙ ap (listAnswer (s .table .now)) (ap length (bytes .ensures) ∙ length-replicate _ _))
+    (listed-text _ _ _ _ true _ (done .ensures) ∙ ap (listAnswer (s .form) (s .table .now)) (ap length (bytes .ensures) ∙ length-replicate _ _))
     (c .before .before .before .before .before .before .before .before .put-listed .ensures))
 
 pub keep-listed-spec : {M : Type 1} → statement M

@@ -21,7 +21,7 @@ same-length c = search needs
 returns : tie.Need-returns
 returns c =
     put-at (c .before .before .before .before .before .room-for .ensures .0) refl refl
-    (put-as (lookup-kept _ _ _ (c .before .before .before .before .lookup .ensures)) (c .before .before .put-lookup .ensures))
+    (put-as (lookup-kept _ _ _ _ (c .before .before .before .before .lookup .ensures)) (c .before .before .put-lookup .ensures))
 
 pub keep-lookup-spec : {M : Type 1} → statement M
 keep-lookup-spec = tie.close (tie.spec room-for-requires lookup-requires put-lookup-requires same-length returns)

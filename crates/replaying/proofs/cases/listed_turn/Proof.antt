@@ -43,7 +43,7 @@ returns-2 c =
     let s = c .before .before .before .before .before .before .before .before .before .before .before .args in
     let enough : s .asked ≤ length (s .output .now) = omega arith in
     let lent : length (take (s .asked) (s .output .now)) ≡ s .asked = simp length-take (omega arith) in
-    (λ h. put-as (ap (listAnswer (s .table .now)) lent) (c .before .before .before .before .keep-listed .ensures), search needs)
+    (λ h. put-as (ap (listAnswer (s .form) (s .table .now)) lent) (c .before .before .before .before .keep-listed .ensures), search needs)
 
 pub listed-turn-spec : {M : Type 1} → statement M
 listed-turn-spec =

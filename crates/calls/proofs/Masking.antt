@@ -1,0 +1,114 @@
+-- Host bits in a rewrite and in the cover query: an answer under the strict choice is the default's wherever it is not refused by 6, and the masked bytes of
+-- an accepted table are answered as the table. Assumes of a table, where it says so, that its elements are bytes.
+use mathlib.Core.Path.{_≡_, sym, ap, ap₂, subst, _∙_}
+use mathlib.Core.Bool.{Bool, true, not, _||_, _&&_}
+use mathlib.Core.List.{List, [], _∷_, _++_}
+use Prim.Native.Nat.{ℕ, _*_, _/_}
+use lib.Dec.{eqb, leb}
+use lib.ListN.{length}
+use Rattle.theory.specs.Results.{result, smallest}
+use Rattle.refusals.specs.Rules.{Rule, rule, judge}
+use Rattle.refusals.proofs.Waived.{waived, waived-append, waived-judge, waived-answer}
+use Rattle.records.specs.Wire.{records, routes, Bytes, maskedBytes}
+use Rattle.records.specs.declared.Form.{Form}
+use Rattle.records.specs.Forms.{byDefault, strictly}
+use Rattle.table.specs.TableRules.{tableRules}
+use Rattle.table.specs.Conditions.{Accepted}
+use Rattle.table.proofs.Masking.{strict-waived, masked-routes, masked-length, masked-rules}
+use Rattle.nodecount.specs.Nodes.{nodes}
+use Rattle.calls.specs.declared.Rewritten.{Rewritten}
+use Rattle.calls.specs.declared.Rewritten.the-variants.{Refused}
+use Rattle.calls.specs.declared.Covers.{Covers}
+use Rattle.calls.specs.declared.Covers.the-variants.{Refused as NotAnswered}
+use Rattle.calls.specs.Covering.{coverRules, coveredBy, coversSays, coverReply, Queried}
+use Rattle.calls.specs.Rewriting.{modeOf, resultOf, takesSet, rewriteRules, replyBy, rewriteReply, writtenOf, outputOf, RewritesBy, Rewrites}
+use Rattle.calls.proofs.Settled.{rewritten-same, covers-same, rewrite-settled}
+
+-- ---- The strict choice. A rewrite by any engine's rules, and by the same with number 6 waived.
+module _ (rules : List Rule) (t : List ℕ) (mode default : ℕ) (o : List ℕ) (r : Rewritten) (o′ : List ℕ) (one : RewritesBy rules t mode default o r o′) where
+  -- What is not refused by 6 satisfies the other's statement.
+  pub by-waived : ((i : ℕ) → r ≡ Refused 6 i → ⊥) → RewritesBy (waived 6 rules) t mode default o r o′
+  unfolding replyBy
+  by-waived h = record { answer = one .answer ∙ ap (writtenOf (records t)) (sym same); output = one .output ∙ ap (outputOf o) (sym same) }
+    where
+      same : judge (waived 6 rules) (resultOf t mode default) ≡ judge rules (resultOf t mode default)
+      same =
+          waived-judge 6 rules (resultOf t mode default)
+          (λ i e. h i (rewritten-same r (Refused 6 i) (one .answer ∙ ap (writtenOf (records t)) e)))
+
+-- The default is the strict choice with number 6 waived.
+module _ (t : List ℕ) where
+  rewrite-waived : (mode default room words : ℕ) → waived 6 (rewriteRules strictly t mode default room words) ≡ rewriteRules byDefault t mode default room words
+  unfolding rewriteRules
+  rewrite-waived mode default room words =
+      ap (λ (l : List Rule). rule 1 0 (leb 1 mode && leb mode 5) ∷ rule 2 0 (not (eqb mode 5) || leb default 63) ∷ l)
+      (waived-append 6 (tableRules strictly (takesSet mode) t) behind ∙ ap (λ (l : List Rule). l ++ behind) (strict-waived (takesSet mode) t))
+    where
+      behind : List Rule
+      behind = rule 10 0 (leb (160 * nodes 32 (routes t)) words) ∷ rule 11 0 (leb (8 * length (resultOf t mode default)) room) ∷ []
+
+  cover-waived : (len words : ℕ) → waived 6 (coverRules strictly t len words) ≡ coverRules byDefault t len words
+  unfolding coverRules
+  cover-waived len words =
+      waived-append 6 (tableRules strictly true t) last ∙ ap (λ (l : List Rule). l ++ last) (strict-waived true t)
+    where
+      last : List Rule
+      last = rule 9 0 (leb len 32) ∷ rule 10 0 (leb (160 * nodes 32 (routes t)) words) ∷ []
+
+  -- A rewrite that is not refused by 6 under the strict choice is the default's: the answer, the output and the room.
+  pub rewrite-carried : (mode default : ℕ) (o : List ℕ) (words : ℕ) (r q : Rewritten) (o′ p′ w′ v′ : List ℕ)
+      → Rewrites strictly t mode default o words r o′ w′ → Rewrites byDefault t mode default o words q p′ v′
+      → ((i : ℕ) → r ≡ Refused 6 i → ⊥) → (q ≡ r) × (p′ ≡ o′) × (v′ ≡ w′)
+  rewrite-carried mode default o words r q o′ p′ w′ v′ one other h =
+      rewrite-settled byDefault t mode default o words q r p′ o′ v′ w′ other
+      (record {
+        inner =
+            subst (λ (rules : List Rule). RewritesBy rules t mode default o r o′) (rewrite-waived mode default (length o) words)
+            (by-waived (rewriteRules strictly t mode default (length o) words) t mode default o r o′ (one .inner) h);
+        zero = one .zero;
+      })
+
+  -- So is the cover query's.
+  pub covers-carried : (address len words : ℕ) (r q : Covers) (w′ v′ : List ℕ)
+      → Queried strictly t address len words r w′ → Queried byDefault t address len words q v′
+      → ((i : ℕ) → r ≡ NotAnswered 6 i → ⊥) → (q ≡ r) × (v′ ≡ w′)
+  covers-carried address len words r q w′ v′ one other h = (
+    waived-answer coversSays covers-same 6 (coverRules strictly t len words) (coveredBy t address len) r q (one .answer)
+        (other .answer ∙ ap (λ (l : List Rule). judge l (coveredBy t address len)) (sym (cover-waived len words)))
+        (λ i e. h i (covers-same r (NotAnswered 6 i) e)),
+    other .zero ∙ sym (one .zero),
+  )
+
+-- ---- The masked bytes, read by any form, in place of a table that is accepted as a set or as a map.
+module _ (form : Form) (s : Bool) (t : List ℕ) (bytes : Bytes t) (ok : Accepted form s t) (other : Form) where
+  same-records : records (maskedBytes t) ≡ records t
+  same-records = ap (λ (n : ℕ). n / 8) (masked-length form s t bytes ok)
+
+  same-result : (mode default : ℕ) → resultOf (maskedBytes t) mode default ≡ resultOf t mode default
+  unfolding resultOf
+  same-result mode default = ap (result smallest 32 (modeOf mode default)) (masked-routes form s t bytes ok)
+
+  -- A rewrite of them has the right reply for the table by default,
+  pub rewrite-masked : (mode default room words : ℕ) → rewriteReply other (maskedBytes t) mode default room words ≡ rewriteReply byDefault t mode default room words
+  unfolding replyBy rewriteRules
+  rewrite-masked mode default room words =
+      rw (masked-rules form s t bytes ok other (takesSet mode), masked-routes form s t bytes ok, same-result mode default)
+
+  -- and so satisfies its statement, and no other answer does: in every mode the same answer, output and room.
+  pub rewrites-masked : (mode default : ℕ) (o : List ℕ) (words : ℕ) (r : Rewritten) (o′ w′ : List ℕ)
+      → Rewrites other (maskedBytes t) mode default o words r o′ w′ → Rewrites byDefault t mode default o words r o′ w′
+  rewrites-masked mode default o words r o′ w′ a =
+      let same = rewrite-masked mode default (length o) words in
+      record {
+        inner =
+            record {
+              answer = a .inner .answer ∙ ap₂ writtenOf same-records same;
+              output = a .inner .output ∙ ap (outputOf o) same;
+            };
+        zero = a .zero;
+      }
+
+  -- The cover query likewise.
+  pub covers-masked : (address len words : ℕ) → coverReply other (maskedBytes t) address len words ≡ coverReply byDefault t address len words
+  unfolding coverRules coveredBy
+  covers-masked address len words = rw (masked-rules form s t bytes ok other true, masked-routes form s t bytes ok)

@@ -1,6 +1,7 @@
 -- The laws of the calls. Settled: no second answer satisfies a statement. Refusals, Results, Demand3: the three demands, of the engine over nodes. Engines:
--- demands 2 and 3 of any engine. Held: addresses held before and after a rewrite. Marked: document 01's marked cases. Wrong: its wrong rewrites. Enough:
--- rooms that are always enough. Tested says how the rules stand for the conditions.
+-- demands 2 and 3 of any engine. Held: addresses held before and after a rewrite. Shortest: no table
+-- that says the same is shorter than what modes 1, 4 and 5 write. Marked: document 01's marked cases. Wrong: its wrong rewrites. Enough: rooms that are
+-- always enough. Tested says how the rules stand for the conditions.
 pub mod Settled
 pub mod Tested
 pub mod Refusals
@@ -9,5 +10,6 @@ pub mod Results
 pub mod Enough
 pub mod Demand3
 pub mod Held
+pub mod Shortest
 pub mod Marked
 pub mod Wrong

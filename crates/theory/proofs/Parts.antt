@@ -1,7 +1,7 @@
 -- A table taken apart by a test, and the longest match of the whole from those of the parts.
 use Prim.Native.Nat.{ℕ, suc, _+_, _-_, _≤_, _<_}
 use mathlib.Core.Path.{_≡_, refl, sym, ap, ap₂, _∙_}
-use mathlib.Core.Bool.{Bool, true, false, cond, _||_}
+use mathlib.Core.Bool.{Bool, true, false, cond, not, _||_}
 use mathlib.Core.List.{List, [], _∷_, _++_}
 use mathlib.Core.Logic.{_↔_, inl, inr}
 use native.Mathlib.Decide.{decLt}
@@ -173,6 +173,28 @@ ascending-part p (first {r = r} {t = t} b o) = go (p r) (ascending-part p o)
 -- A part of a table is a table.
 pub table-part : (w : ℕ) (p : Route → Bool) {t : List Route} → Table w t → Table w (part p t)
 table-part w p table = record { valid = all-part p (λ r v e. v) (table .valid); order = ascending-part p (table .order) }
+
+-- Where no route passes a test, all are left.
+pub rest-all : (p : Route → Bool) (t : List Route) → length (part p t) ≤ 0 → rest p t ≡ t
+rest-all p [] le = refl
+rest-all p (r ∷ t) le = go (p r) (rest-all p t) le
+  where
+    go : (b : Bool) → (length (part p t) ≤ 0 → rest p t ≡ t) → length (cond b (r ∷ part p t) (part p t)) ≤ 0 → cond b (rest p t) (r ∷ rest p t) ≡ r ∷ t
+    go true ih e = absurd (omega arith)
+    go false ih e = ap (λ (s : List Route). r ∷ s) (ih e)
+
+-- Those that are left are those that fail the test.
+pub rest-part : (p : Route → Bool) (t : List Route) → rest p t ≡ part (λ r. not (p r)) t
+rest-part p [] = refl
+rest-part p (r ∷ t) = go (p r) (rest-part p t)
+  where
+    go : (b : Bool) → rest p t ≡ part (λ s. not (p s)) t
+        → cond b (rest p t) (r ∷ rest p t) ≡ cond (not b) (r ∷ part (λ s. not (p s)) t) (part (λ s. not (p s)) t)
+    go true ih = ih
+    go false ih = ap (λ (s : List Route). r ∷ s) ih
+
+pub ascending-rest : (p : Route → Bool) {t : List Route} → Ascending t → Ascending (rest p t)
+ascending-rest p {t} order = rw (rest-part p t) (ascending-part (λ r. not (p r)) order)
 
 -- Parts by tests that agree on the members are equal; a part by a test that all pass is the whole.
 pub part-agree : (p q : Route → Bool) (t : List Route) → ((r : Route) → Member r t → p r ≡ q r) → part p t ≡ part q t

@@ -5,18 +5,19 @@ use Prim.{tt}
 use mathlib.Core.Path.{_≡_, refl, sym, ap, _∙_}
 use mathlib.Core.Bool.{Bool, true, false, cond}
 use mathlib.Core.List.{List}
+use mathlib.Core.Logic.{_↔_}
 use Prim.Native.Nat.{ℕ, zero, suc, _+_, _-_, _*_, _^_, _≤_, _<_}
 use native.Mathlib.Omega.{arith}
 use lib.Dec.{ltb, le→leb}
 use lib.IntN.{ℤ, pos, negsuc, _-ℤ_}
 use lib.ListN.{length, take}
 use lib.Signed.{_≤ℤ_, leZ-yes}
-use Rattle.theory.specs.Routes.{Route, Table, held, answer, filled, Alike}
+use Rattle.theory.specs.Routes.{Route, Table, Member, held, answer, filled, Alike}
 use Rattle.theory.specs.Results.{smallest, unhopped, Mode, aggregateSet, aggregateConsistentSet, aggregateConsistentMap, aggregateMapDrop, aggregateMapFill}
-use Rattle.theory.specs.Shortest.{Shortens, of-set, of-drop, of-fill, NoFewer}
+use Rattle.theory.specs.Shortest.{Shortens, of-set, of-drop, of-fill, Serves, NoFewer}
 use Rattle.theory.proofs.Chosen.{smallest-chooses}
 use Rattle.theory.proofs.Lengths.{mostOf, result-length}
-use Rattle.theory.proofs.OnlyShortest.{set-only}
+use Rattle.theory.proofs.OnlyShortest.{set-prefixes, set-only}
 use Rattle.theory.proofs.Routed.{unhopped-bare}
 use Rattle.theory.proofs.Shortest.{result-shortest}
 use Rattle.refusals.specs.Rules.{Rule}
@@ -95,19 +96,22 @@ module _ (rules : List Rule) (t : List ℕ) (mode default : ℕ) (o : List ℕ) 
 -- ---- A set's table t, rewritten by an engine in mode 1 without refusal: no other set table is as short.
 module _ (rules : List Rule) (t : List ℕ) (d : ℕ) (o : List ℕ) (guarded : Guarded rules t 1 d (length o))
     (count : ℕ) (change : ℤ) (o′ : List ℕ) (ok : RewritesBy rules t 1 d o (Records count change) o′) where
-  -- A table of the same addresses that is as short has, whatever its hops, just the result's prefixes,
+  few-enough : (u : List Route) → length u ≤ count → length u ≤ length (resultOf t 1 d)
+  few-enough u few = omega (arith, by-counted rules t 1 d o guarded (Records count change) o′ ok count change refl)
+
+  -- Routes of the same addresses, in any order and with any hops, that are as few as the records written have just their prefixes.
+  pub only-by : Bytes t → (u : List Route) → Serves 32 aggregateSet (routes t) u → length u ≤ count
+      → (r : Route) → Member r (unhopped u) ↔ Member r (routes (take (8 * count) o′))
+  unfolding resultOf
+  only-by bytes u serves few r =
+      rw (by-reads rules t 1 d o guarded (Records count change) o′ ok count change refl bytes)
+      (set-prefixes smallest 32 (routes t) serves (unfold resultOf in few-enough u few) r)
+
+  -- A table of them has these prefixes in the same order.
   only-result : (u : List Route) → Table 32 u → ((x : ℕ) → x < 2 ^ 32 → held 32 u x ≡ held 32 (routes t) x) → length u ≤ count
       → unhopped u ≡ resultOf t 1 d
   unfolding resultOf
-  only-result u table same few =
-      set-only smallest 32 (routes t) table same (omega (arith, by-counted rules t 1 d o guarded (Records count change) o′ ok count change refl))
-
-  -- which are those written.
-  pub only-by : Bytes t → (u : List Route) → Table 32 u → ((x : ℕ) → x < 2 ^ 32 → held 32 u x ≡ held 32 (routes t) x) → length u ≤ count
-      → unhopped u ≡ routes (take (8 * count) o′)
-  unfolding resultOf
-  only-by bytes u table same few =
-      only-result u table same few ∙ sym (by-reads rules t 1 d o guarded (Records count change) o′ ok count change refl bytes)
+  only-result u table same few = set-only smallest 32 (routes t) table same (unfold resultOf in few-enough u few)
 
   module _ (u : List ℕ) (small : Bytes u) (accepted : Accepted true u) (same : (x : ℕ) → x < 2 ^ 32 → held 32 (routes u) x ≡ held 32 (routes t) x)
       (few : records u ≤ count) where

@@ -12,6 +12,7 @@ use borrow.Author.Tests.{lt-ltb, le-ltb, eqb-true, eqb-false}
 use Rattle.theory.specs.Results.{part}
 use Rattle.theory.specs.Routes.{Route, matches, Match, miss, hit, longer, tried, lookup, Answer, under, All, nil, cons, Before, Ascending, empty, first, Table, Member, head, later}
 use Rattle.theory.proofs.Lists.{all-member, member-all}
+use Rattle.theory.proofs.Order.{not-both}
 use Rattle.theory.proofs.Preserve.{Deep, longer-miss}
 use Rattle.theory.proofs.Routed.{Every, lookup-every}
 
@@ -193,8 +194,8 @@ rest-part p (r ∷ t) = go (p r) (rest-part p t)
     go true ih = ih
     go false ih = ap (λ (s : List Route). r ∷ s) ih
 
-pub ascending-rest : (p : Route → Bool) {t : List Route} → Ascending t → Ascending (rest p t)
-ascending-rest p {t} order = rw (rest-part p t) (ascending-part (λ r. not (p r)) order)
+pub in-rest : (p : Route → Bool) {t : List Route} {r : Route} → Member r t → p r ≡ false → Member r (rest p t)
+in-rest p {t} m e = rw (rest-part p t) (member-part (λ r. not (p r)) t .1 (m, ap not e))
 
 -- Parts by tests that agree on the members are equal; a part by a test that all pass is the whole.
 pub part-agree : (p q : Route → Bool) (t : List Route) → ((r : Route) → Member r t → p r ≡ q r) → part p t ≡ part q t
@@ -225,13 +226,6 @@ part-twice p q t k = part-swap p q t ∙ part-whole q (part p t) (λ r m. k r (m
 pub part-none : (p : Route → Bool) (t : List Route) → ((r : Route) → Member r t → p r ≡ false) → part p t ≡ []
 part-none p [] k = refl
 part-none p (r ∷ t) k = rw (k r head) (part-none p t (λ s m. k s (later m)))
-
--- Of two routes one at most stands before the other.
-not-both : (r s : Route) → Before r s → Before s r → ⊥
-not-both r s (inl p) (inl q) = omega arith
-not-both r s (inl p) (inr q) = omega arith
-not-both r s (inr p) (inl q) = omega arith
-not-both r s (inr p) (inr q) = omega arith
 
 -- Where each route that passes one test stands before each that passes another, those that pass either are those of the one, then those of the other.
 pub part-either : (p q : Route → Bool) {t : List Route} → ((r s : Route) → p r ≡ true → q s ≡ true → Before r s) → Ascending t

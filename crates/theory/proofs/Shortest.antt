@@ -29,8 +29,8 @@ pub answer-unhopped : (w x : ℕ) (u : List Route) → answer w (unhopped u) x �
 answer-unhopped w x u = answer-bare w x (all-unhopped u) ∙ ap marked (held-unhopped w x u)
 
 -- No routes that hold what passes p in a position are fewer than its maximal prefixes.
-pub fewest : (w : ℕ) (p : ℕ → Bool) (n a : ℕ) {t : List Route} → n ≤ w → Aligned n a → All (Within w n a) t → ((x : ℕ) → In n a x → answer w t x ≡ marked (p x))
-    → length (maximal w p n a) ≤ length t
+pub fewest : (w : ℕ) (p : ℕ → Bool) (n a : ℕ) {t : List Route} → n ≤ w → Aligned n a → All (Within w n a) t
+    → ((x : ℕ) → In n a x → answer w t x ≡ marked (p x)) → length (maximal w p n a) ≤ length t
 fewest w p n a {t} le d tw sem =
     omega (
       arith,

@@ -1,4 +1,5 @@
--- From routes to bytes and back: reading the records of routes gives the routes, and writing the routes of a table gives its bytes. Assumes nothing.
+-- From routes to bytes and back: reading the records of routes gives the routes, and writing the routes of a table without host bits gives its
+-- bytes. Assumes nothing.
 use mathlib.Core.Path.{_≡_, refl, sym, ap, ap₂, _∙_}
 use mathlib.Core.List.{List, [], _∷_, _++_}
 use Prim.Native.Nat.{ℕ, zero, suc, _+_, _*_, _%_, _^_, _≤_, _<_}
@@ -6,7 +7,9 @@ use native.Mathlib.Omega.{arith}
 use lib.ListN.{length, getD, take, drop, length-drop}
 use lib.Seq.{getD-append-add, getD-drop, take-all, take-add, drop-drop}
 use Rattle.theory.specs.Routes.{Route, Valid, All, cons}
-use Rattle.records.specs.Wire.{byteAt, join, routeAt, routesFrom, records, routes, Bytes, recordOf, bytesOf}
+use Rattle.theory.specs.Results.{masked}
+use Rattle.theory.proofs.Masked.{masked-same}
+use Rattle.records.specs.Wire.{byteAt, join, rawAt, routeAt, routesFrom, records, routes, Bytes, recordOf, bytesOf}
 use Rattle.records.proofs.Octets.{join-octets, octet-0, octet-1, octet-2, octet-3}
 
 -- ---- Reading what is written.
@@ -26,15 +29,23 @@ byte-shift r t i k =
     let e : 8 * suc i + k ≡ 8 + (8 * i + k) = omega arith in
     ap (λ (m : ℕ). getD (recordOf r ++ t) m 0) e ∙ getD-append-add (recordOf r) t (8 * i + k) 0
 
--- So are the routes.
+-- So are the records, and the routes.
+pub raw-shift : (r : Route) (t : List ℕ) (i : ℕ) → rawAt (recordOf r ++ t) (suc i) ≡ rawAt t i
+unfolding rawAt
+raw-shift r t i = simp (byte-shift r t i)
+
 pub route-shift : (r : Route) (t : List ℕ) (i : ℕ) → routeAt (recordOf r ++ t) (suc i) ≡ routeAt t i
 unfolding routeAt
-route-shift r t i = simp (byte-shift r t i)
+route-shift r t i = ap (masked 32) (raw-shift r t i)
 
--- The first record is its route's.
-pub route-head : (r : Route) (t : List ℕ) → r .addr < 2 ^ 32 → routeAt (recordOf r ++ t) 0 ≡ r
+-- The first record has the route as it is, and without host bits it is the route.
+pub raw-head : (r : Route) (t : List ℕ) → r .addr < 2 ^ 32 → rawAt (recordOf r ++ t) 0 ≡ r
+unfolding rawAt
+raw-head r t h = ap (λ (a : ℕ). record { addr = a; len = r .len; hop = r .hop }) (join-octets (r .addr) h)
+
+pub route-head : (r : Route) (t : List ℕ) → Valid 32 r → routeAt (recordOf r ++ t) 0 ≡ r
 unfolding routeAt
-route-head r t h = ap (λ (a : ℕ). record { addr = a; len = r .len; hop = r .hop }) (join-octets (r .addr) h)
+route-head r t v = ap (masked 32) (raw-head r t (v .small)) ∙ masked-same 32 r v
 
 routes-shift : (r : Route) (t : List ℕ) (i k : ℕ) → routesFrom (recordOf r ++ t) (suc i) k ≡ routesFrom t i k
 unfolding routesFrom
@@ -45,7 +56,7 @@ from-bytes : (rs : List Route) → All (Valid 32) rs → routesFrom (bytesOf rs)
 unfolding routesFrom bytesOf
 from-bytes [] v = refl
 from-bytes (r ∷ rs) (cons v vs) =
-    ap₂ _∷_ (route-head r (bytesOf rs) (v .small)) (routes-shift r (bytesOf rs) 0 (length rs) ∙ from-bytes rs vs)
+    ap₂ _∷_ (route-head r (bytesOf rs) v) (routes-shift r (bytesOf rs) 0 (length rs) ∙ from-bytes rs vs)
 
 -- The routes of routes' records are those routes.
 pub routes-bytes : (rs : List Route) → All (Valid 32) rs → routes (bytesOf rs) ≡ rs
@@ -66,8 +77,8 @@ take-eight (a ∷ b ∷ c ∷ d ∷ e ∷ f ∷ []) n = absurd (omega arith)
 take-eight (a ∷ b ∷ c ∷ d ∷ e ∷ f ∷ g ∷ []) n = absurd (omega arith)
 
 module _ (t : List ℕ) (bytes : Bytes t) where
-  record-read : (i : ℕ) → 8 * i + 8 ≤ length t → byteAt t i 6 ≡ 0 → byteAt t i 7 ≡ 0 → recordOf (routeAt t i) ≡ take 8 (drop (8 * i) t)
-  unfolding routeAt
+  record-read : (i : ℕ) → 8 * i + 8 ≤ length t → byteAt t i 6 ≡ 0 → byteAt t i 7 ≡ 0 → recordOf (rawAt t i) ≡ take 8 (drop (8 * i) t)
+  unfolding rawAt
   record-read i h z6 z7 =
       let octets = join (byteAt t i 0) (byteAt t i 1) (byteAt t i 2) (byteAt t i 3) in
       let b0 = bytes (8 * i + 0) in
@@ -85,21 +96,26 @@ module _ (t : List ℕ) (bytes : Bytes t) where
         z7,
       )
 
-  read-back : (i k : ℕ) → 8 * (i + k) ≤ length t → ((j : ℕ) → j < i + k → (byteAt t j 6 ≡ 0) × (byteAt t j 7 ≡ 0))
+  -- A record that is written as it was read: bytes 6 and 7 are zero, and it has no host bits.
+  abbrev pub Plain : ℕ → Type 0
+  Plain j = (byteAt t j 6 ≡ 0) × (byteAt t j 7 ≡ 0) × (routeAt t j ≡ rawAt t j)
+
+  read-back : (i k : ℕ) → 8 * (i + k) ≤ length t → ((j : ℕ) → j < i + k → Plain j)
       → bytesOf (routesFrom t i k) ≡ take (8 * k) (drop (8 * i) t)
   unfolding routesFrom bytesOf
   read-back i zero h z = refl
   read-back i (suc k) h z =
       let e : 8 * suc k ≡ 8 + 8 * k = omega arith in
       let f : 8 * i + 8 ≡ 8 * suc i = omega arith in
-      ap₂ _++_ (record-read i (omega arith) (z i (omega arith) .0) (z i (omega arith) .1))
+      let p = z i (omega arith) in
+      ap₂ _++_ (ap recordOf (p .2) ∙ record-read i (omega arith) (p .0) (p .1))
       (read-back (suc i) k (omega arith) (λ j l. z j (omega arith))
       ∙ ap (λ (m : ℕ). take (8 * k) (drop m t)) (sym f)
       ∙ ap (take (8 * k)) (sym (drop-drop 8 (8 * i) t)))
       ∙ sym (ap (λ (m : ℕ). take m (drop (8 * i) t)) e ∙ take-add 8 (8 * k) (drop (8 * i) t))
 
-  -- The records of the routes of whole records with bytes 6 and 7 zero are those records.
-  pub bytes-back : length t % 8 ≡ 0 → ((j : ℕ) → j < records t → (byteAt t j 6 ≡ 0) × (byteAt t j 7 ≡ 0)) → bytesOf (routes t) ≡ t
+  -- The records of the routes of whole records that are so are those records.
+  pub bytes-back : length t % 8 ≡ 0 → ((j : ℕ) → j < records t → Plain j) → bytesOf (routes t) ≡ t
   unfolding routes
   bytes-back w z =
       read-back 0 (records t) (omega arith) (λ j l. z j (omega arith))

@@ -1,2 +1,3 @@
--- The table on the wire.
+-- The table on the wire, and how its bytes are read.
 pub mod Wire
+pub mod Forms

@@ -3,6 +3,7 @@ use Prim.Native.Nat.{ℕ, zero, suc, _+_, _*_, _/_, _%_, _<_}
 use mathlib.Core.List.{List, [], _∷_, _++_}
 use lib.ListN.{length, getD, take, drop}
 use Rattle.theory.specs.Routes.{Route}
+use Rattle.theory.specs.Results.{masked}
 
 -- ---- From bytes to routes.
 
@@ -14,10 +15,14 @@ byteAt t i k = getD t (8 * i + k) 0
 abbrev pub join : ℕ → ℕ → ℕ → ℕ → ℕ
 join a b c d = ((a * 256 + b) * 256 + c) * 256 + d
 
--- The route of record i: address in bytes 0 to 3, length in byte 4, hop in byte 5.
-unfoldable pub routeAt : List ℕ → ℕ → Route
-routeAt t i =
+-- Record i as its bytes have it: address in bytes 0 to 3, length in byte 4, hop in byte 5.
+unfoldable pub rawAt : List ℕ → ℕ → Route
+rawAt t i =
     record { addr = join (byteAt t i 0) (byteAt t i 1) (byteAt t i 2) (byteAt t i 3); len = byteAt t i 4; hop = byteAt t i 5 }
+
+-- The route of record i: the same without host bits.
+unfoldable pub routeAt : List ℕ → ℕ → Route
+routeAt t i = masked 32 (rawAt t i)
 
 -- The routes of k records from record i on.
 unfoldable pub routesFrom : List ℕ → ℕ → ℕ → List Route
@@ -59,6 +64,10 @@ recordOf r =
 unfoldable pub bytesOf : List Route → List ℕ
 bytesOf [] = []
 bytesOf (r ∷ rs) = recordOf r ++ bytesOf rs
+
+-- A table's bytes with the host bits masked.
+abbrev pub maskedBytes : List ℕ → List ℕ
+maskedBytes t = bytesOf (routes t)
 
 -- A list with bytes laid over it from place k on.
 unfoldable pub laid : ℕ → List ℕ → List ℕ → List ℕ

@@ -1,9 +1,15 @@
 // The table on the wire: reading a record's fields, and writing a record whole.
 
+use words::prefix::masked;
 ghost use mathlib.Core.Path.{_≡_};
 ghost use Prim.Native.Nat.{_+_, _*_, _<_, _≤_};
 ghost use lib.ListN.{length};
-ghost use Rattle.records.specs.Wire.{join, records, routeAt, route, recordOf, laid};
+ghost use Rattle.records.specs.Wire.{join, records, rawAt, routeAt, route, recordOf, laid};
+
+// How a table's bytes are read: under the strict choice a record with host bits is refused, else they are masked.
+pub struct Form {
+    pub strict: bool,
+}
 
 // Four octets as a number, the first the most significant.
 pub fn join4(a: u8, b: u8, c: u8, d: u8) -> u32
@@ -12,13 +18,21 @@ pub fn join4(a: u8, b: u8, c: u8, d: u8) -> u32
     (((a as u32) * 256 + (b as u32)) * 256 + (c as u32)) * 256 + (d as u32)
 }
 
-// The address of record i.
+// The address of record i as its bytes have it.
+pub fn raw_addr_at(table: &[u8], i: usize) -> u32
+    requires { ⌜ i < records (now table) ⌝ }
+    ensures { λ r. ⌜ r ≡ rawAt (now (table .entry)) i .addr ⌝ }
+{
+    let k = 8 * i;
+    join4(table[k], table[k + 1], table[k + 2], table[k + 3])
+}
+
+// The address of record i, without host bits.
 pub fn addr_at(table: &[u8], i: usize) -> u32
     requires { ⌜ i < records (now table) ⌝ }
     ensures { λ r. ⌜ r ≡ routeAt (now (table .entry)) i .addr ⌝ }
 {
-    let k = 8 * i;
-    join4(table[k], table[k + 1], table[k + 2], table[k + 3])
+    masked(raw_addr_at(table, i), len_at(table, i))
 }
 
 // The length of record i.

@@ -8,6 +8,7 @@ use Prim.Native.Nat.{ℕ}
 use native.Mathlib.Omega.{arith}
 use Rattle.refusals.specs.Order.{First}
 use Rattle.records.specs.Wire.{records}
+use Rattle.records.specs.declared.Form.{Form}
 use Rattle.table.specs.declared.Checked.{Checked}
 use Rattle.table.specs.declared.Checked.the-variants.{Valid, Refused}
 use Rattle.table.specs.Checking.{checkedSays, checkReply}
@@ -21,16 +22,16 @@ checked-same (Valid m) (Refused n i) e = let z : _≡_ {A = ℕ} 0 1 = cc in abs
 checked-same (Refused n i) (Valid m) e = let z : _≡_ {A = ℕ} 0 1 = cc in absurd (omega arith)
 checked-same (Refused m i) (Refused n j) e = cc
 
-module _ (s : Bool) (t : List ℕ) where
+module _ (form : Form) (s : Bool) (t : List ℕ) where
   -- No second answer satisfies the statement.
-  pub check-unique : (a b : Checked) → checkedSays a ≡ checkReply s t → checkedSays b ≡ checkReply s t → a ≡ b
-  check-unique = table-unique checkedSays checked-same s t (records t)
+  pub check-unique : (a b : Checked) → checkedSays a ≡ checkReply form s t → checkedSays b ≡ checkReply form s t → a ≡ b
+  check-unique = table-unique checkedSays checked-same form s t (records t)
 
-  module _ (r : Checked) (e : checkedSays r ≡ checkReply s t) where
+  module _ (r : Checked) (e : checkedSays r ≡ checkReply form s t) where
     -- It answers the number of records exactly for an accepted table.
-    pub check-valid-exactly : (n : ℕ) → r ≡ Valid n ↔ (Accepted s t × (records t ≡ n))
-    check-valid-exactly n = table-gives checkedSays checked-same s t (records t) r e (Valid n) n refl
+    pub check-valid-exactly : (n : ℕ) → r ≡ Valid n ↔ (Accepted form s t × (records t ≡ n))
+    check-valid-exactly n = table-gives checkedSays checked-same form s t (records t) r e (Valid n) n refl
 
     -- It answers a refusal exactly when its number and index are those of the first condition that holds.
-    pub check-refused-exactly : (n i : ℕ) → r ≡ Refused n i ↔ First (TableCondition s t) n i
-    check-refused-exactly n i = table-refuses checkedSays checked-same s t (records t) r e (Refused n i) n i refl
+    pub check-refused-exactly : (n i : ℕ) → r ≡ Refused n i ↔ First (TableCondition form s t) n i
+    check-refused-exactly n i = table-refuses checkedSays checked-same form s t (records t) r e (Refused n i) n i refl

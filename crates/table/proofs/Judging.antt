@@ -8,10 +8,10 @@ use native.Mathlib.Omega.{arith}
 use lib.Dec.{leb}
 use lib.ListN.{length}
 use borrow.Author.Tests.{eq-eqb, ne-eqb, le-leb, lt-leb}
-use Rattle.words.specs.Prefix.{hostClear}
 use Rattle.refusals.specs.Rules.{Rule, rule, gives, refuses, judge, broken}
 use Rattle.records.specs.Wire.{routeAt, records}
-use Rattle.table.specs.TableRules.{tailKept, inOrder, recordRules, rulesFrom, tableRules}
+use Rattle.records.specs.declared.Form.{Form}
+use Rattle.table.specs.TableRules.{hostKept, tailKept, inOrder, recordRules, rulesFrom, tableRules}
 
 -- ---- One record: rules 5 to 8 by the outcome of each.
 abbrev fourRules : ℕ → Bool → Bool → Bool → Bool → List Rule
@@ -35,41 +35,41 @@ four-broken i rs a true true false o z = refl
 four-broken i rs a true false r o z = refl
 four-broken i rs a false q r o z = refl
 
-module _ {A : Type 0} (a : A) (s : Bool) (t : List ℕ) where
+module _ {A : Type 0} (a : A) (form : Form) (s : Bool) (t : List ℕ) where
   -- ---- The records that are left, from record i on.
   -- A record that breaks no rule is passed.
-  pub scan-good : (i k : ℕ) → 0 < k → broken (recordRules s t i) ≡ 0 → judge (rulesFrom s t i k) a ≡ judge (rulesFrom s t (i + 1) (k - 1)) a
+  pub scan-good : (i k : ℕ) → 0 < k → broken (recordRules form s t i) ≡ 0 → judge (rulesFrom form s t i k) a ≡ judge (rulesFrom form s t (i + 1) (k - 1)) a
   unfolding rulesFrom recordRules
   scan-good i zero h z = absurd (omega arith)
   scan-good i (suc k) h z =
       let e : k ≡ suc k - 1 = omega arith in
-      four-kept i (rulesFrom s t (suc i) k) a (leb (routeAt t i .len) 32) (hostClear 32 (routeAt t i .addr) (routeAt t i .len)) (tailKept s t i) (inOrder t i) z
-      ∙ rw add-one (ap (λ (n : ℕ). judge (rulesFrom s t (suc i) n) a) e)
+      four-kept i (rulesFrom form s t (suc i) k) a (leb (routeAt t i .len) 32) (hostKept form t i) (tailKept s t i) (inOrder t i) z
+      ∙ rw add-one (ap (λ (n : ℕ). judge (rulesFrom form s t (suc i) n) a) e)
 
   -- A record that breaks a rule refuses with the first that it breaks.
-  pub scan-bad : (i k : ℕ) → 0 < k → (broken (recordRules s t i) ≡ 0 → ⊥) → judge (rulesFrom s t i k) a ≡ refuses (broken (recordRules s t i)) i
+  pub scan-bad : (i k : ℕ) → 0 < k → (broken (recordRules form s t i) ≡ 0 → ⊥) → judge (rulesFrom form s t i k) a ≡ refuses (broken (recordRules form s t i)) i
   unfolding rulesFrom recordRules
   scan-bad i zero h n = absurd (omega arith)
   scan-bad i (suc k) h n =
-      four-broken i (rulesFrom s t (suc i) k) a (leb (routeAt t i .len) 32) (hostClear 32 (routeAt t i .addr) (routeAt t i .len)) (tailKept s t i) (inOrder t i) n
+      four-broken i (rulesFrom form s t (suc i) k) a (leb (routeAt t i .len) 32) (hostKept form t i) (tailKept s t i) (inOrder t i) n
 
   -- No record is left.
-  pub scan-end : (i k : ℕ) → k ≡ 0 → judge (rulesFrom s t i k) a ≡ gives a
+  pub scan-end : (i k : ℕ) → k ≡ 0 → judge (rulesFrom form s t i k) a ≡ gives a
   unfolding judge rulesFrom
   scan-end i k e = rw e
 
   -- ---- The whole table.
   -- Number 3.
-  pub not-whole : (length t % 8 ≡ 0 → ⊥) → judge (tableRules s t) a ≡ refuses 3 0
+  pub not-whole : (length t % 8 ≡ 0 → ⊥) → judge (tableRules form s t) a ≡ refuses 3 0
   unfolding judge tableRules
   not-whole n = simp (ne-eqb (length t % 8) 0 n)
 
   -- Number 4.
-  pub too-many : length t % 8 ≡ 0 → 1024 < records t → judge (tableRules s t) a ≡ refuses 4 0
+  pub too-many : length t % 8 ≡ 0 → 1024 < records t → judge (tableRules form s t) a ≡ refuses 4 0
   unfolding judge tableRules
   too-many e h = simp (eq-eqb (length t % 8) 0 e, lt-leb (records t) 1024 h)
 
   -- Past 3 and 4 the records decide.
-  pub is-scan : length t % 8 ≡ 0 → records t ≤ 1024 → judge (tableRules s t) a ≡ judge (rulesFrom s t 0 (records t)) a
+  pub is-scan : length t % 8 ≡ 0 → records t ≤ 1024 → judge (tableRules form s t) a ≡ judge (rulesFrom form s t 0 (records t)) a
   unfolding judge tableRules
   is-scan e h = simp (eq-eqb (length t % 8) 0 e, le-leb (records t) 1024 h)

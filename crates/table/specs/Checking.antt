@@ -4,6 +4,7 @@ use mathlib.Core.Bool.{Bool}
 use mathlib.Core.List.{List}
 use Rattle.refusals.specs.Rules.{Reply, gives, refuses, judge}
 use Rattle.records.specs.Wire.{records}
+use Rattle.records.specs.declared.Form.{Form}
 use Rattle.table.specs.declared.Checked.{Checked}
 use Rattle.table.specs.declared.Checked.the-variants.{Valid, Refused}
 use Rattle.table.specs.TableRules.{tableRules}
@@ -13,6 +14,6 @@ abbrev pub checkedSays : Checked → Reply ℕ
 checkedSays (Valid n) = gives n
 checkedSays (Refused number index) = refuses number index
 
--- The right reply for a table of a set or of a map.
-abbrev pub checkReply : Bool → List ℕ → Reply ℕ
-checkReply isSet t = judge (tableRules isSet t) (records t)
+-- The right reply for a table of a set or of a map, read by the form.
+abbrev pub checkReply : Form → Bool → List ℕ → Reply ℕ
+checkReply form isSet t = judge (tableRules form isSet t) (records t)

@@ -2,6 +2,7 @@
 
 mod rules;
 
+use records::Form;
 ghost use mathlib.Core.Path.{_≡_};
 ghost use Rattle.table.specs.Checking.{checkedSays, checkReply};
 
@@ -11,9 +12,9 @@ pub enum Checked {
     Refused { number: u8, index: usize },
 }
 
-// Checks a table, of a set or of a map: the number of its records, or the refusal (3 to 8).
-pub fn check_table(table: &[u8], is_set: bool) -> Checked
-    ensures { λ r. ⌜ checkedSays r ≡ checkReply «is_set» (now (table .entry)) ⌝ }
+// Checks a table, of a set or of a map, read by the form: the number of its records, or the refusal (3 to 8).
+pub fn check_table(table: &[u8], form: Form, is_set: bool) -> Checked
+    ensures { λ r. ⌜ checkedSays r ≡ checkReply form «is_set» (now (table .entry)) ⌝ }
 {
     let size = table.len();
     if size % 8 != 0 {
@@ -31,7 +32,7 @@ pub fn check_table(table: &[u8], is_set: bool) -> Checked
     }
     let mut i = 0;
     while i < n {
-        let f = rules::fault(table, i, is_set);
+        let f = rules::fault(table, form, i, is_set);
         if f != 0 {
             return Checked::Refused {
                 number: f,

@@ -1,5 +1,6 @@
 -- The laws of the theory.
 pub mod Blocks
+pub mod Masked
 pub mod Lists
 pub mod Routed
 pub mod Agree

@@ -32,6 +32,10 @@ maximal w p (suc n) a =
 abbrev pub startOf : ℕ → ℕ → ℕ
 startOf n x = x / 2 ^ n * 2 ^ n
 
+-- A route without host bits: its address is the start of its prefix.
+abbrev pub masked : ℕ → Route → Route
+masked w r = record { addr = startOf (w - r .len) (r .addr); len = r .len; hop = r .hop }
+
 -- r is a maximal prefix for p: p holds throughout it, and not throughout the one-bit-shorter prefix, if there is one.
 pub record Maximal (w : ℕ) (p : ℕ → Bool) (r : Route) : Type 0 where
   pub valid : Valid w r

@@ -1,13 +1,15 @@
--- Masks of prefixes over the width w: what the code's shifts and complements give, and what a mask leaves of an address. Assumes nothing.
+-- Masks of prefixes over the width w: what the code's shifts and complements give, what a mask leaves of an address, and the start of its prefix.
+-- Assumes nothing.
 use mathlib.Core.Path.{_≡_, refl, sym, ap, ap₂, _∙_, subst}
 use mathlib.Core.Bool.{Bool, true, false}
 use Prim.Native.Nat.{ℕ, _+_, _-_, _*_, _/_, _%_, _^_, _≤_, _<_}
-use native.Mathlib.Nat.{sub-add-cancel}
+use native.Mathlib.Nat.{sub-add-cancel, div-mul-le-self}
 use native.Mathlib.Omega.{arith}
 use lib.Dec.{eqb}
 use lib.Pow.{pow-pos, pow-mono, high, ones-lt, ones-split, shl-shr, shr-mod}
 use lib.Bits.{bitAnd, and-high, and-mask}
 use borrow.Author.Tests.{eqb-true, eqb-false, eq-eqb, ne-eqb}
+use Rattle.theory.specs.Results.{startOf}
 use Rattle.words.specs.Prefix.{maskOf, agree}
 
 -- `!(!0 >> n)` is the mask of length n.
@@ -48,3 +50,11 @@ host-bits w a n h =
     let l : w - n ≤ w = omega arith in
     let e : (2 ^ w - 1) - maskOf w n ≡ 2 ^ (w - n) - 1 = omega (arith, pow-pos (w - n), pow-mono l) in
     ap (bitAnd a) e ∙ and-mask a (w - n)
+
+-- The start of a prefix has no more bits than the address.
+pub start-small : (w n a : ℕ) → a < 2 ^ w → startOf n a < 2 ^ w
+start-small w n a h = omega (arith, div-mul-le-self a (2 ^ n))
+
+-- From the width on, the start of a prefix is the address.
+pub start-whole : (w n a : ℕ) → w ≤ n → startOf (w - n) a ≡ a
+start-whole w n a h = let e : w - n ≡ 0 = omega arith in rw e (omega arith)

@@ -1,7 +1,8 @@
-// Prefix arithmetic on 32-bit addresses, for lengths 0 to 32. The first bit of an address is its most significant.
+// Prefix arithmetic on 32-bit addresses, for lengths 0 to 32; masking takes any length. The first bit of an address is its most significant.
 
 ghost use mathlib.Core.Path.{_≡_};
-ghost use Prim.Native.Nat.{_≤_};
+ghost use Prim.Native.Nat.{_-_, _≤_};
+ghost use Rattle.theory.specs.Results.{startOf};
 ghost use Rattle.words.specs.Prefix.{maskOf, within, hostClear};
 
 // The first `len` bits set, the others clear.
@@ -36,4 +37,15 @@ pub fn host_bits_clear(addr: u32, len: u8) -> bool
     ensures { λ r. ⌜ r ≡ hostClear 32 addr len ⌝ }
 {
     addr & !mask_from_prefix_len(len) == 0
+}
+
+// The address without its bits past the length: the start of the prefix. From length 32 on it is the address itself.
+pub fn masked(addr: u32, len: u8) -> u32
+    ensures { λ r. ⌜ r ≡ startOf (32 - len) addr ⌝ }
+{
+    if 32 <= len {
+        return addr;
+    }
+    let below = 32 - len;
+    (((addr as u64) >> below) << below) as u32
 }

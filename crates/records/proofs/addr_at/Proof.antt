@@ -1,52 +1,24 @@
--- `records::addr_at` joins the four octets of record i. Assumes nothing.
-use native.Mathlib.Nat.{add-zero}
+-- `records::addr_at` masks the address by the record's length. Assumes nothing.
+use mathlib.Core.Path.{_∙_, ap₂}
+use Prim.Native.Nat.{ℕ, _-_}
 use borrow.Author.Needs.{needs}
+use Rattle.theory.specs.Results.{startOf}
 use Rattle.records.specs.Wire.{routeAt}
 use Rattle.records.proofs.addr_at.Statement.{statement}
 use Rattle.records.proofs.addr_at.Tie as tie
 
-mul-k : tie.Need-mul-k
-mul-k c = search needs
+raw-addr-at-requires : tie.Need-raw-addr-at-requires
+raw-addr-at-requires c κs = search needs
 
-shared-slice-read-join4 : tie.Need-shared-slice-read-join4
-shared-slice-read-join4 c = search needs
+len-at-requires : tie.Need-len-at-requires
+len-at-requires c κs = search needs
 
-add-join4 : tie.Need-add-join4
-add-join4 c = search needs
-
-shared-slice-read-join4-2 : tie.Need-shared-slice-read-join4-2
-shared-slice-read-join4-2 c = search needs
-
-add-join4-2 : tie.Need-add-join4-2
-add-join4-2 c = search needs
-
-shared-slice-read-join4-3 : tie.Need-shared-slice-read-join4-3
-shared-slice-read-join4-3 c = search needs
-
-add-join4-3 : tie.Need-add-join4-3
-add-join4-3 c = search needs
-
-shared-slice-read-join4-4 : tie.Need-shared-slice-read-join4-4
-shared-slice-read-join4-4 c = search needs
-
-join4-requires : tie.Need-join4-requires
-join4-requires c κs = search needs
+masked-requires : tie.Need-masked-requires
+masked-requires c κs = search needs
 
 returns : tie.Need-returns
 unfolding routeAt
-returns c = simp add-zero (c .join4 .ensures)
+returns c = c .masked .ensures ∙ ap₂ (λ (l a : ℕ). startOf (32 - l) a) (c .before .len-at .ensures) (c .before .before .raw-addr-at .ensures)
 
 pub addr-at-spec : {M : Type 1} → statement M
-addr-at-spec =
-    tie.close
-    (tie.spec
-    mul-k
-    shared-slice-read-join4
-    add-join4
-    shared-slice-read-join4-2
-    add-join4-2
-    shared-slice-read-join4-3
-    add-join4-3
-    shared-slice-read-join4-4
-    join4-requires
-    returns)
+addr-at-spec = tie.close (tie.spec raw-addr-at-requires len-at-requires masked-requires returns)

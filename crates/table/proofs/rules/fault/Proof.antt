@@ -4,10 +4,9 @@ use mathlib.Core.Path.{_≡_, sym, _∙_}
 use lib.Dec.{leb}
 use borrow.Author.Needs.{needs}
 use borrow.Author.Tests.{le-leb, lt-leb, not-true, not-false}
-use Rattle.words.specs.Prefix.{hostClear}
 use Rattle.refusals.specs.Rules.{broken}
 use Rattle.records.specs.Wire.{routeAt}
-use Rattle.table.specs.TableRules.{recordRules}
+use Rattle.table.specs.TableRules.{hostKept, recordRules}
 use Rattle.table.proofs.rules.fault.Statement.{statement}
 use Rattle.table.proofs.rules.fault.Tie as tie
 
@@ -18,30 +17,20 @@ returns : tie.Need-returns
 unfolding broken recordRules
 returns c = simp (lt-leb _ _ (rw (c .before .len-at .ensures) at (c .if1 .taken)))
 
--- Past the first test the length is in range, past the second the host bits are clear, past the third bytes 5 to 7 are right.
+-- Past the first test the length is in range, past the second there are no host bits where the choice is strict, past the third bytes 5 to 7 are right.
 short : (c : tie.Else1) → leb (routeAt (c .before .before .before .args .table .now) (c .before .before .before .args .i) .len) 32 ≡ true
 short c = le-leb _ _ (rw (c .before .len-at .ensures) at (c .if1 .left))
 
-addr-at-requires : tie.Need-addr-at-requires
-addr-at-requires c κs = search needs
-
-host-bits-clear-requires : tie.Need-host-bits-clear-requires
-host-bits-clear-requires c κs = search needs
+host-kept-requires : tie.Need-host-kept-requires
+host-kept-requires c κs = search needs
 
 returns-2 : tie.Need-returns-2
 unfolding broken recordRules
-returns-2 c =
-    simp (
-      short (c .before .before .before),
-      sym (rw (c .before .before .addr-at .ensures, c .before .before .before .before .len-at .ensures) at (c .before .host-bits-clear .ensures))
-          ∙ not-true _ (c .if2 .taken),
-    )
+returns-2 c = simp (short (c .before .before), sym (c .before .host-kept .ensures) ∙ not-true _ (c .if2 .taken))
 
 clear : (c : tie.Else2)
-    → hostClear 32 (routeAt (c .before .before .before .before .before .before .args .table .now) (c .before .before .before .before .before .before .args .i) .addr) (routeAt (c .before .before .before .before .before .before .args .table .now) (c .before .before .before .before .before .before .args .i) .len) ≡ true
-clear c =
-    sym (rw (c .before .before .addr-at .ensures, c .before .before .before .before .len-at .ensures) at (c .before .host-bits-clear .ensures))
-    ∙ not-false _ (c .if2 .left)
+    → hostKept (c .before .before .before .before .before .args .form) (c .before .before .before .before .before .args .table .now) (c .before .before .before .before .before .args .i) ≡ true
+clear c = sym (c .before .host-kept .ensures) ∙ not-false _ (c .if2 .left)
 
 tail-kept-requires : tie.Need-tail-kept-requires
 tail-kept-requires c κs = search needs
@@ -50,7 +39,7 @@ returns-3 : tie.Need-returns-3
 unfolding broken recordRules
 returns-3 c =
     simp (
-      short (c .before .before .before .before .before),
+      short (c .before .before .before .before),
       clear (c .before .before),
       sym (c .before .tail-kept .ensures) ∙ not-true _ (c .if3 .taken),
     )
@@ -62,7 +51,7 @@ returns-4 : tie.Need-returns-4
 unfolding broken recordRules
 returns-4 c =
     simp (
-      short (c .before .before .before .before .before .before .before),
+      short (c .before .before .before .before .before .before),
       clear (c .before .before .before .before),
       sym (c .before .before .before .tail-kept .ensures) ∙ not-false _ (c .before .before .if3 .left),
       sym (c .before .in-order .ensures) ∙ not-true _ (c .if4 .taken),
@@ -72,7 +61,7 @@ returns-5 : tie.Need-returns-5
 unfolding broken recordRules
 returns-5 c =
     simp (
-      short (c .before .before .before .before .before .before .before),
+      short (c .before .before .before .before .before .before),
       clear (c .before .before .before .before),
       sym (c .before .before .before .tail-kept .ensures) ∙ not-false _ (c .before .before .if3 .left),
       sym (c .before .in-order .ensures) ∙ not-false _ (c .if4 .left),
@@ -84,8 +73,7 @@ fault-spec =
     (tie.spec
     len-at-requires
     returns
-    addr-at-requires
-    host-bits-clear-requires
+    host-kept-requires
     returns-2
     tail-kept-requires
     returns-3

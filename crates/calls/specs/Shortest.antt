@@ -7,14 +7,16 @@ use lib.IntN.{ℤ, pos}
 use Rattle.theory.specs.Results.{Mode, aggregateSet, aggregateConsistentSet, aggregateConsistentMap, aggregateMapDrop, aggregateMapFill}
 use Rattle.theory.specs.Demands.{Keeps}
 use Rattle.records.specs.Wire.{records, routes, Bytes}
+use Rattle.records.specs.declared.Form.{Form}
 use Rattle.table.specs.Conditions.{Accepted}
 use Rattle.calls.specs.Rewriting.{modeOf}
 
--- u is an accepted table, of a set or of a map, that says of each address what the mode's result for the table t must say.
+-- u is a table, accepted by some form, of a set or of a map, that says of each address what the mode's result for the table t must say.
 pub record Replaces (mode default : ℕ) (t u : List ℕ) : Type 0 where
   pub bytes : Bytes u
+  pub form : Form
   pub isSet : Bool
-  pub accepted : Accepted isSet u
+  pub accepted : Accepted form isSet u
   pub keeps : (x : ℕ) → x < 2 ^ 32 → Keeps 32 (modeOf mode default) (routes t) (routes u) x
 
 -- No such table has fewer than n records.

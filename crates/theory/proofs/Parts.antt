@@ -12,7 +12,7 @@ use borrow.Author.Tests.{lt-ltb, le-ltb, eqb-true, eqb-false}
 use Rattle.theory.specs.Results.{part}
 use Rattle.theory.specs.Routes.{Route, matches, Match, miss, hit, longer, tried, lookup, Answer, under, All, nil, cons, Before, Ascending, empty, first, Table, Member, head, later}
 use Rattle.theory.proofs.Lists.{all-member, member-all}
-use Rattle.theory.proofs.Order.{not-both}
+use Rattle.theory.proofs.Ordered.{not-both}
 use Rattle.theory.proofs.Preserve.{Deep, longer-miss}
 use Rattle.theory.proofs.Routed.{Every, lookup-every}
 

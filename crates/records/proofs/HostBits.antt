@@ -18,6 +18,10 @@ module _ (t : List ℕ) where
   unfolding routeAt
   route-len i = refl
 
+  pub route-length : (i : ℕ) → routeAt t i .len ≡ byteAt t i 4
+  unfolding routeAt rawAt
+  route-length i = refl
+
   pub route-hop : (i : ℕ) → routeAt t i .hop ≡ byteAt t i 5
   unfolding routeAt rawAt
   route-hop i = refl

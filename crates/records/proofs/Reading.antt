@@ -1,10 +1,12 @@
 -- Laws of a table's routes, read record by record. Assumes nothing.
-use mathlib.Core.Path.{_≡_, refl, ap, ap₂, _∙_}
+use mathlib.Core.Path.{_≡_, refl, sym, ap, ap₂, _∙_}
 use mathlib.Core.List.{List, [], _∷_}
 use Prim.Native.Nat.{ℕ, zero, suc, _+_, _-_, _≤_, _<_}
+use native.Mathlib.Nat.{sub-zero}
 use native.Mathlib.Omega.{arith}
 use lib.ListN.{length}
 use Rattle.theory.specs.Routes.{Route, All, cons}
+use Rattle.theory.proofs.Numbered.{counted, numbered}
 use Rattle.records.specs.Wire.{routeAt, routesFrom, records, routes}
 
 -- The routes from record i on.
@@ -41,6 +43,18 @@ all-next {P} t i lt ps = go (rw (rest-next t i lt) at ps)
   where
     go : {r : Route} {rs : List Route} → All P (r ∷ rs) → P r × All P rs
     go (cons p ps) = (p, ps)
+
+-- ---- By their numbers.
+-- The routes of k records from record lo on are those of these numbers.
+pub from-counted : (t : List ℕ) (lo k : ℕ) → routesFrom t lo k ≡ counted (routeAt t) lo k
+unfolding routesFrom
+from-counted t lo zero = refl
+from-counted t lo (suc k) = ap (λ (u : List Route). routeAt t lo ∷ u) (from-counted t (suc lo) k)
+
+-- A table's routes are those of its records' numbers.
+pub routes-numbered : (t : List ℕ) → routes t ≡ numbered (routeAt t) 0 (records t)
+unfolding routes
+routes-numbered t = from-counted t 0 (records t) ∙ ap (counted (routeAt t) 0) (sym (sub-zero (records t)))
 
 -- ---- How many they are.
 -- There are as many as asked for.

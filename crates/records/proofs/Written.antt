@@ -1,8 +1,9 @@
 -- From routes to bytes and back: reading the records of routes gives the routes, and writing the routes of a table without host bits gives its
 -- bytes. Assumes nothing.
 use mathlib.Core.Path.{_≡_, refl, sym, ap, ap₂, _∙_}
-use mathlib.Core.List.{List, [], _∷_, _++_}
+use mathlib.Core.List.{List, [], _∷_, _++_, append-nil}
 use Prim.Native.Nat.{ℕ, zero, suc, _+_, _*_, _%_, _^_, _≤_, _<_}
+use native.Mathlib.Nat.{zero-add, suc-add, add-zero}
 use native.Mathlib.Omega.{arith}
 use lib.ListN.{length, getD, take, drop, length-drop}
 use lib.Seq.{getD-append-add, getD-drop, take-all, take-add, drop-drop}
@@ -52,16 +53,21 @@ unfolding routesFrom
 routes-shift r t i zero = refl
 routes-shift r t i (suc k) = ap₂ _∷_ (route-shift r t i) (routes-shift r t (suc i) k)
 
-from-bytes : (rs : List Route) → All (Valid 32) rs → routesFrom (bytesOf rs) 0 (length rs) ≡ rs
+-- The routes of routes' records, and of k records behind them, are those routes, and then those of the k.
+pub routes-front : (rs : List Route) → All (Valid 32) rs → (t : List ℕ) (k : ℕ) → routesFrom (bytesOf rs ++ t) 0 (length rs + k) ≡ rs ++ routesFrom t 0 k
 unfolding routesFrom bytesOf
-from-bytes [] v = refl
-from-bytes (r ∷ rs) (cons v vs) =
-    ap₂ _∷_ (route-head r (bytesOf rs) v) (routes-shift r (bytesOf rs) 0 (length rs) ∙ from-bytes rs vs)
+routes-front [] v t k = rw zero-add
+routes-front (r ∷ rs) (cons v vs) t k =
+    ap (routesFrom (bytesOf (r ∷ rs) ++ t) 0) (suc-add (length rs) k)
+    ∙ ap₂ _∷_ (route-head r (bytesOf rs ++ t) v) (routes-shift r (bytesOf rs ++ t) 0 (length rs + k) ∙ routes-front rs vs t k)
 
 -- The routes of routes' records are those routes.
 pub routes-bytes : (rs : List Route) → All (Valid 32) rs → routes (bytesOf rs) ≡ rs
-unfolding routes
-routes-bytes rs v = ap (routesFrom (bytesOf rs) 0) (records-bytes rs) ∙ from-bytes rs v
+unfolding routes routesFrom
+routes-bytes rs v =
+    ap₂ (λ (l : List ℕ) (n : ℕ). routesFrom l 0 n) (sym (append-nil (bytesOf rs))) (records-bytes rs ∙ sym (add-zero (length rs)))
+    ∙ routes-front rs v [] 0
+    ∙ append-nil rs
 
 -- ---- Writing what is read.
 take-eight : (l : List ℕ) → 8 ≤ length l

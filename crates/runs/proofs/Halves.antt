@@ -18,7 +18,7 @@ use Rattle.positions.specs.Runs.{isAt, isIn, inside, own, headHop}
 use Rattle.positions.proofs.Runs.{is-at, is-in, inside-run}
 use Rattle.records.specs.Wire.{records, routeAt, routes}
 use Rattle.runs.specs.Runs.{run, RunAt, PastOwn, with-own, without, SplitAt}
-use Rattle.runs.proofs.Numbered.{member-numbered}
+use Rattle.theory.proofs.Numbered.{member-numbered}
 use Rattle.runs.proofs.Records.{run-numbered, run-whole, run-none, run-first, run-before, run-suffix, run-part}
 
 -- A test that cannot be passed fails.

@@ -1,4 +1,3 @@
 -- The laws of runs: lists of routes by number, a table's records as such a list, and a position's run taken apart.
-pub mod Numbered
 pub mod Records
 pub mod Halves

@@ -1,6 +1,6 @@
 -- The records lo..hi of a table are the routes of these numbers. Assumes nothing.
-use Prim.Native.Nat.{ℕ, zero, suc, _-_, _≤_, _<_}
-use mathlib.Core.Path.{_≡_, refl, ap, _∙_}
+use Prim.Native.Nat.{ℕ, suc, _-_, _≤_, _<_}
+use mathlib.Core.Path.{_≡_, ap, _∙_}
 use mathlib.Core.Bool.{Bool, true, false}
 use mathlib.Core.List.{List, [], _∷_, _++_}
 use mathlib.Core.Logic.{_⊎_, inl, inr}
@@ -9,18 +9,14 @@ use native.Mathlib.Omega.{arith}
 use Rattle.theory.specs.Results.{part}
 use Rattle.theory.specs.Routes.{Route, Before, Ascending, first}
 use Rattle.records.specs.Wire.{records, routeAt, routesFrom, routes}
+use Rattle.records.proofs.Reading.{from-counted}
 use Rattle.runs.specs.Runs.{run}
-use Rattle.runs.proofs.Numbered.{counted, numbered, before-numbered, none-numbered, first-numbered, split-numbered, part-numbered}
+use Rattle.theory.proofs.Numbered.{numbered, before-numbered, none-numbered, first-numbered, split-numbered, part-numbered}
 
 module _ (t : List ℕ) where
-  from-counted : (lo k : ℕ) → routesFrom t lo k ≡ counted (routeAt t) lo k
-  unfolding routesFrom
-  from-counted lo zero = refl
-  from-counted lo (suc k) = ap (λ (u : List Route). routeAt t lo ∷ u) (from-counted (suc lo) k)
-
-  -- So they have the laws of lists by number.
+  -- They have the laws of lists by number.
   pub run-numbered : (lo hi : ℕ) → run t lo hi ≡ numbered (routeAt t) lo hi
-  run-numbered lo hi = from-counted lo (hi - lo)
+  run-numbered lo hi = from-counted t lo (hi - lo)
 
   -- The run of all records is the table's routes.
   pub run-whole : run t 0 (records t) ≡ routes t

@@ -11,6 +11,9 @@ pub mod Chosen
 pub mod Order
 pub mod Repeat
 pub mod Parts
+pub mod Ordered
+pub mod Falling
+pub mod Numbered
 pub mod Halves
 pub mod Count
 pub mod Least

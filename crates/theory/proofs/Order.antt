@@ -13,6 +13,7 @@ use Rattle.theory.specs.Routes.{Route, Answer, none, via, Aligned, Valid
 use Rattle.theory.proofs.Blocks.{pow-pos, aligned-zero, aligned-left, aligned-right, in-left, in-right, aligned-down, next-block}
 use Rattle.theory.proofs.Hops.{some-chosen, Held, sets-held}
 use Rattle.theory.proofs.Lists.{all-append, all-map}
+use Rattle.theory.proofs.Ordered.{ascending-ordered, ordered-ascending, ordered-append}
 use Rattle.theory.proofs.Preserve.{ortc-within}
 
 -- Table order is transitive.
@@ -41,8 +42,7 @@ pub within-valid : (w : ℕ) (r : Route) → Within w w 0 r → Valid w r
 within-valid w r i = record { short = i .short; clean = i .aligned; small = omega (arith, pow-pos (w - r .len)) }
 
 pub ascending-append : {s t : List Route} → Ascending s → Ascending t → All (λ r. All (Before r) t) s → Ascending (s ++ t)
-ascending-append empty q p = q
-ascending-append (first b s) q (cons p ps) = first (all-append b p) (ascending-append s q ps)
+ascending-append s q p = ordered-ascending (ordered-append Before (ascending-ordered s) (ascending-ordered q) p)
 
 all-every : {P : Route → Type 0} → ((r : Route) → P r) → (t : List Route) → All P t
 all-every k [] = nil

@@ -205,7 +205,7 @@ part-none p [] k = refl
 part-none p (r ∷ t) k = rw (k r head) (part-none p t (λ s m. k s (later m)))
 
 -- Of two routes one at most stands before the other.
-not-both : (r s : Route) → Before r s → Before s r → ⊥
+pub not-both : (r s : Route) → Before r s → Before s r → ⊥
 not-both r s (inl p) (inl q) = omega arith
 not-both r s (inl p) (inr q) = omega arith
 not-both r s (inr p) (inl q) = omega arith

@@ -1,15 +1,18 @@
--- Lists of routes by number: what such a list says of each number, a list taken apart, and the part of one that is one itself. Assumes nothing.
+-- Lists of routes by number: what such a list says of each number, a list taken apart, and the part of one that is one itself.
 use Prim.Native.Nat.{ℕ, zero, suc, _+_, _-_, _≤_, _<_}
-use mathlib.Core.Path.{_≡_, sym, ap, ap₂, subst, _∙_}
+use mathlib.Core.Path.{_≡_, refl, sym, ap, ap₂, subst, _∙_}
 use mathlib.Core.Bool.{Bool, true, false}
 use mathlib.Core.List.{List, [], _∷_, _++_, append-nil}
 use mathlib.Core.Logic.{_⊎_, inl, inr}
+use native.Mathlib.Decide.{decLt}
 use native.Mathlib.Nat.{zero-add, suc-add, add-zero, add-suc, eq-or-lt-of-le}
 use native.Mathlib.Omega.{arith}
 use Rattle.theory.specs.Results.{part}
-use Rattle.theory.specs.Routes.{Route, All, nil, cons, Before, Ascending, first, Member, head, later}
+use Rattle.theory.specs.Routes.{Route, All, nil, cons, Before, Ascending, Member, head, later}
+use Rattle.theory.specs.Falling.{Ordered, next}
 use Rattle.theory.proofs.Lists.{all-member}
+use Rattle.theory.proofs.Ordered.{no-member, ascending-ordered, OneWay}
 use Rattle.theory.proofs.Parts.{part-whole, part-none, part-append}
 
 -- The routes of k numbers from lo on.
 abbrev pub counted : (ℕ → Route) → ℕ → ℕ → List Route
@@ -35,12 +38,17 @@ module _ (at : ℕ → Route) where
   all-counted lo zero p = nil
   all-counted lo (suc k) p = cons (p lo (omega arith) (omega arith)) (all-counted (suc lo) k (λ i l h. p i (omega arith) (omega arith)))
 
-  before-counted : (lo k i j : ℕ) → Ascending (counted at lo k) → lo ≤ i → i < j → j < lo + k → Before (at i) (at j)
-  before-counted lo zero i j o le lt h = absurd (omega arith)
-  before-counted lo (suc k) i j (first b o) le lt h = go (eq-or-lt-of-le le) (λ l. before-counted (suc lo) k i j o l lt (omega arith))
+  counted-member : (lo k : ℕ) {r : Route} → Member r (counted at lo k) → (i : ℕ) × (lo ≤ i) × (i < lo + k) × (at i ≡ r)
+  counted-member lo zero m = absurd (no-member m)
+  counted-member lo (suc k) head = (lo, omega arith, omega arith, refl)
+  counted-member lo (suc k) (later m) = let z = counted-member (suc lo) k m in (z .0, omega (arith, z .1), omega (arith, z .2), z .3)
+
+  ordered-counted : {Goes : Route → Route → Type 0} (lo k i j : ℕ) → Ordered Goes (counted at lo k) → lo ≤ i → i < j → j < lo + k → Goes (at i) (at j)
+  ordered-counted lo zero i j o le lt h = absurd (omega arith)
+  ordered-counted {Goes} lo (suc k) i j (next b o) le lt h = go (eq-or-lt-of-le le) (λ l. ordered-counted (suc lo) k i j o l lt (omega arith))
     where
-      go : (lo ≡ i) ⊎ (lo < i) → (suc lo ≤ i → Before (at i) (at j)) → Before (at i) (at j)
-      go (inl e) more = subst (λ (n : ℕ). Before (at n) (at j)) e (all-member b (member-counted (suc lo) k j (omega arith) (omega arith)))
+      go : (lo ≡ i) ⊎ (lo < i) → (suc lo ≤ i → Goes (at i) (at j)) → Goes (at i) (at j)
+      go (inl e) more = subst (λ (n : ℕ). Goes (at n) (at j)) e (all-member b (member-counted (suc lo) k j (omega arith) (omega arith)))
       go (inr l) more = more l
 
   append-counted : (lo k n : ℕ) → counted at lo (k + n) ≡ counted at lo k ++ counted at (lo + k) n
@@ -54,13 +62,34 @@ module _ (at : ℕ → Route) where
   pub member-numbered : (lo hi i : ℕ) → lo ≤ i → i < hi → Member (at i) (numbered at lo hi)
   member-numbered lo hi i le lt = member-counted lo (hi - lo) i le (omega arith)
 
+  -- Each member is the route of a number.
+  pub numbered-member : (lo hi : ℕ) {r : Route} → Member r (numbered at lo hi) → (i : ℕ) × (lo ≤ i) × (i < hi) × (at i ≡ r)
+  numbered-member lo hi m = let z = counted-member lo (hi - lo) m in (z .0, z .1, omega (arith, z .1, z .2), z .3)
+
   -- What holds of the route of each number holds of all.
   pub all-numbered : {P : Route → Type 0} (lo hi : ℕ) → ((i : ℕ) → lo ≤ i → i < hi → P (at i)) → All P (numbered at lo hi)
   all-numbered lo hi p = all-counted lo (hi - lo) (λ i l h. p i l (omega arith))
 
-  -- Ascending routes stand in the order of their numbers.
+  -- Routes in an order stand by their numbers.
+  pub ordered-numbered : {Goes : Route → Route → Type 0} (lo hi i j : ℕ) → Ordered Goes (numbered at lo hi) → lo ≤ i → i < j → j < hi → Goes (at i) (at j)
+  ordered-numbered lo hi i j o le lt h = ordered-counted lo (hi - lo) i j o le lt (omega arith)
+
+  -- So do ascending ones.
   pub before-numbered : (lo hi i j : ℕ) → Ascending (numbered at lo hi) → lo ≤ i → i < j → j < hi → Before (at i) (at j)
-  before-numbered lo hi i j o le lt h = before-counted lo (hi - lo) i j o le lt (omega arith)
+  before-numbered lo hi i j o = ordered-numbered lo hi i j (ascending-ordered o)
+
+  -- Each of them has one number alone.
+  pub numbered-once : {Goes : Route → Route → Type 0} → OneWay Goes → (lo hi i j : ℕ) → Ordered Goes (numbered at lo hi)
+      → lo ≤ i → i < hi → lo ≤ j → j < hi → at i ≡ at j → i ≡ j
+  numbered-once {Goes} way lo hi i j o li hi′ lj hj e = go (decLt i j) (decLt j i)
+    where
+      both : (a b : Route) → a ≡ b → Goes a b → ⊥
+      both a b e g = let here : Goes b b = subst (λ (u : Route). Goes u b) e g in way b b here here
+
+      go : Dec (i < j) → Dec (j < i) → i ≡ j
+      go (yes lt) d = absurd (both (at i) (at j) e (ordered-numbered lo hi i j o li lt hj))
+      go (no p) (yes lt) = absurd (both (at j) (at i) (sym e) (ordered-numbered lo hi j i o lj lt hi′))
+      go (no p) (no q) = omega arith
 
   -- A list that ends where it starts, or before, is empty.
   pub none-numbered : (lo hi : ℕ) → hi ≤ lo → numbered at lo hi ≡ []

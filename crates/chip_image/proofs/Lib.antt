@@ -1,0 +1,2 @@
+-- The laws of what the program writes.
+pub mod Writing

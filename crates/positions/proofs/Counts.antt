@@ -1,22 +1,20 @@
 -- How many entries a walk puts out: of a run no more than it has routes, and one more in modes 4 and 5, where what covers the run from above or
 -- fills can add one. So a count is small whatever the width. By the first slots of a node a walk puts out no more than by all.
 use Prim.Native.Nat.{ℕ, zero, suc, _+_, _-_, _^_, _≤_, _<_}
-use mathlib.Core.Path.{_≡_, refl, ap, _∙_}
+use mathlib.Core.Path.{_≡_, refl, ap}
 use mathlib.Core.Bool.{Bool, true, false, cond}
 use mathlib.Core.List.{List, [], _∷_}
 use mathlib.Core.Logic.{_⊎_, inl, inr}
 use native.Mathlib.Nat.{eq-or-lt-of-le}
 use native.Mathlib.Omega.{arith}
 use lib.ListN.{length, length-append}
-use Rattle.theory.specs.Routes.{Route, Match, miss, hit, lookup, Answer, none, under, All, nil, cons, held}
-use Rattle.theory.specs.Results.{sets, Chooses, ortc, part, unhopped, smallest}
+use Rattle.theory.specs.Routes.{Route, Match, miss, hit, lookup, Answer, under, All, nil, cons, held}
+use Rattle.theory.specs.Results.{sets, Chooses, ortc, part, unhopped}
 use Rattle.theory.specs.Shapes.{Within}
-use Rattle.theory.proofs.Chosen.{smallest-chooses}
 use Rattle.theory.proofs.Count.{missing-most}
 use Rattle.theory.proofs.Least.{least}
-use Rattle.theory.proofs.Lengths.{length-unhopped}
-use Rattle.theory.proofs.Maximal.{maximal-is-ortc}
-use Rattle.theory.proofs.Routed.{marked, answer-bare, all-unhopped, held-unhopped}
+use Rattle.theory.proofs.Routed.{length-unhopped}
+use Rattle.theory.proofs.Shortest.{answer-unhopped, fewest}
 use Rattle.positions.specs.Runs.{isAt, Run, headHop, orElse}
 use Rattle.positions.specs.Walk.{walk, slotsOf}
 use Rattle.positions.specs.Walks.{maximalOut, maximalNext, entryUnless, keptOut, keptNext}
@@ -82,9 +80,7 @@ maximal-few {w} {n} {a} {t} run false =
     omega (
       arith,
       ap length (maximal-walk w (held w t) n a),
-      ap length (maximal-is-ortc smallest smallest-chooses w (held w t) n a),
-      least smallest smallest-chooses w (λ x. marked (held w t x)) n a none none (unhopped t) (run .fits) (run .aligned) (within-unhopped (run .within))
-          (λ x i. answer-bare w x (all-unhopped t) ∙ ap marked (held-unhopped w x t)),
+      fewest w (held w t) n a (run .fits) (run .aligned) (within-unhopped (run .within)) (λ x i. answer-unhopped w x t),
       length-unhopped t,
     )
 

@@ -1,20 +1,19 @@
--- How long each mode's result is: at most as long as its table, and in fill at most one longer.
-use Prim.Native.Nat.{ℕ, suc, _+_, _≤_}
-use mathlib.Core.Path.{_≡_, refl, ap}
-use mathlib.Core.List.{List, [], _∷_}
-use native.Mathlib.Nat.{le-refl}
+-- How long each mode's result is: at most as long as its table, and in fill at most one longer. A result that is shortest is no longer than the table itself
+-- or, in fill, than the table with a route of length 0 to the default.
+use Prim.Native.Nat.{ℕ, suc, _+_, _-_, _^_, _≤_, _<_}
+use mathlib.Core.Path.{_≡_, refl}
+use mathlib.Core.Bool.{true}
+use mathlib.Core.List.{List, _∷_}
 use native.Mathlib.Omega.{arith}
 use lib.ListN.{length}
-use Rattle.theory.specs.Results.{unhopped, nearest, isMiss, isOther, sets, Chooses, whole, Mode, aggregateSet, aggregateConsistentSet, aggregateConsistentMap, aggregateMapDrop, aggregateMapFill, result}
-use Rattle.theory.specs.Routes.{Route, lookup, Answer, none, via, under, answer, filled, Valid, All, Table}
-use Rattle.theory.proofs.Blocks.{aligned-zero}
-use Rattle.theory.proofs.Computed.{valid-unhopped, under-default}
-use Rattle.theory.proofs.Count.{missing, missing-most}
-use Rattle.theory.proofs.Least.{least}
-use Rattle.theory.proofs.Lists.{all-map}
-use Rattle.theory.proofs.Maximal.{set-is-drop}
-use Rattle.theory.proofs.Order.{valid-within}
+use borrow.Author.Tests.{le-ltb}
+use Rattle.theory.specs.Results.{nearest, isMiss, isOther, Chooses, Mode, aggregateSet, aggregateConsistentSet, aggregateConsistentMap, aggregateMapDrop, aggregateMapFill, result}
+use Rattle.theory.specs.Routes.{Route, matches, Match, miss, hit, longer, lookup, none, under, orDefault, Valid, cons, Table}
+use Rattle.theory.specs.Shortest.{of-set, of-drop, of-fill, Serves}
+use Rattle.theory.proofs.Blocks.{pow-pos, aligned-zero}
 use Rattle.theory.proofs.Parts.{length-parts}
+use Rattle.theory.proofs.Routed.{matches-in}
+use Rattle.theory.proofs.Shortest.{result-shortest}
 
 -- How many records a mode's result has at most, of a table of n records: as many, and in fill one more, for the default.
 abbrev pub mostOf : Mode → ℕ → ℕ
@@ -32,31 +31,34 @@ most-of aggregateConsistentMap n = omega arith
 most-of aggregateMapDrop n = omega arith
 most-of (aggregateMapFill d) n = omega arith
 
--- Without their hops routes are as many.
-pub length-unhopped : (t : List Route) → length (unhopped t) ≡ length t
-length-unhopped [] = refl
-length-unhopped (r ∷ t) = ap suc (length-unhopped t)
+-- The route of length 0 to the default.
+abbrev toDefault : ℕ → Route
+toDefault d = record { addr = 0; len = 0; hop = d }
+
+default-valid : (w d : ℕ) → Valid w (toDefault d)
+default-valid w d = record { short = omega arith; clean = aligned-zero (w - 0); small = pow-pos w }
+
+default-matches : (w d x : ℕ) → x < 2 ^ w → matches w (toDefault d) x ≡ true
+default-matches w d x lt = let e : w - 0 ≡ w = omega arith in matches-in w (default-valid w d) x .1 (rw e (omega arith))
+
+-- In front of a table it answers the addresses that have no other route.
+default-last : (d : ℕ) (m : Match) → under none (longer (hit 0 d) m) ≡ orDefault d (under none m)
+default-last d miss = refl
+default-last d (hit k h) = rw (le-ltb k 0 (omega arith))
 
 module _ (choose : List ℕ → ℕ) (law : Chooses choose) (w : ℕ) where
-  -- The rewrite of what valid routes answer over a cover is no longer than they are, but for an entry that the cover saves.
-  whole-length : (cover : Answer) (f : ℕ → Answer) {t : List Route} → All (Valid w) t → ((x : ℕ) → under cover (lookup w t x) ≡ f x)
-      → length (whole choose w f) + missing cover (sets f w 0) ≤ length t + missing none (sets f w 0)
-  whole-length cover f {t} valid sem =
-      least choose law w f w 0 cover none t (le-refl w) (aligned-zero w) (all-map (valid-within w) valid) (λ x i. sem x)
-
-  -- Mode 4.
-  drop-length : {t : List Route} → All (Valid w) t → length (result choose w aggregateMapDrop t) ≤ length t
-  unfolding result
-  drop-length {t} valid = omega (arith, whole-length none (answer w t) valid (λ x. refl))
-
   -- The result of each mode.
   pub result-length : (mode : Mode) {t : List Route} → Table w t → length (result choose w mode t) ≤ mostOf mode (length t)
   unfolding result
-  result-length aggregateSet {t} table =
-      rw (set-is-drop w choose law t) (omega (arith, drop-length (valid-unhopped (table .valid)), length-unhopped t))
+  result-length aggregateSet {t} table = unfold result in result-shortest choose law w of-set t t (record { valid = table .valid; keeps = λ x lt. refl })
   result-length aggregateConsistentSet {t} table = omega (arith, length-parts (λ r. isMiss (nearest w t r)) t)
   result-length aggregateConsistentMap {t} table = omega (arith, length-parts (λ r. isOther (r .hop) (nearest w t r)) t)
-  result-length aggregateMapDrop table = drop-length (table .valid)
-  result-length (aggregateMapFill d) {t} table =
-      let f : ℕ → Answer = filled d (answer w t) in
-      omega (arith, whole-length (via d) f (table .valid) (λ x. under-default d (lookup w t x)), missing-most none (sets f w 0))
+  result-length aggregateMapDrop {t} table = result-shortest choose law w of-drop t t (record { valid = table .valid; keeps = λ x lt. refl })
+  result-length (aggregateMapFill d) {t} table = result-shortest choose law w (of-fill d) t (toDefault d ∷ t) serves
+    where
+      serves : Serves w (aggregateMapFill d) t (toDefault d ∷ t)
+      serves =
+          record {
+            valid = cons (default-valid w d) (table .valid);
+            keeps = λ x lt. rw (default-matches w d x lt) (default-last d (lookup w t x));
+          }

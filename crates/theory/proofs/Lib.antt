@@ -22,6 +22,8 @@ pub mod LongestMatch
 pub mod Kept
 pub mod Maximal
 pub mod Computed
+pub mod Shortest
+pub mod OnlyShortest
 pub mod Lengths
 pub mod Modes
 pub mod HowMany

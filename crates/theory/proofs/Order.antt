@@ -1,19 +1,19 @@
 -- The rewrite is in table order, its routes are well formed, and its hops are hops of f.
 use Prim.Native.Nat.{ℕ, zero, suc, _+_, _-_, _^_, _≤_, _<_}
-use mathlib.Core.Path.{_≡_, _∙_}
+use mathlib.Core.Path.{_≡_, refl, sym, ap₂, _∙_}
 use mathlib.Core.Bool.{Bool, true, false, cond}
 use mathlib.Core.List.{List, [], _∷_, _++_}
-use mathlib.Core.Logic.{_⊎_, inl, inr}
+use mathlib.Core.Logic.{_↔_, _⊎_, inl, inr, ⊎-elim}
 use native.Mathlib.Nat.{eq-or-lt-of-le}
 use native.Mathlib.Omega.{arith}
 use native.Mathlib.Nat.{le-refl}
 use Rattle.theory.specs.Shapes.{Within}
 use Rattle.theory.specs.Results.{In, Cand, hole, of, sets, allowed, Chooses, assigned, here, ortc, whole}
-use Rattle.theory.specs.Routes.{Route, Answer, none, via, Aligned, Valid, All, nil, cons, Before, Ascending, empty, first}
+use Rattle.theory.specs.Routes.{Route, Answer, none, via, Aligned, Valid, All, nil, cons, Before, Ascending, empty, first, Member, head, later}
 use Rattle.theory.proofs.Blocks.{pow-pos, aligned-zero, aligned-left, aligned-right, in-left, in-right, aligned-down, next-block}
 use Rattle.theory.proofs.Hops.{some-chosen, Held, sets-held}
-use Rattle.theory.proofs.Lists.{all-append, all-map}
-use Rattle.theory.proofs.Ordered.{ascending-ordered, ordered-ascending, ordered-append}
+use Rattle.theory.proofs.Lists.{all-append, all-map, all-member, member-cons}
+use Rattle.theory.proofs.Ordered.{not-both, ascending-ordered, ordered-ascending, ordered-append}
 use Rattle.theory.proofs.Preserve.{ortc-within}
 
 -- Table order is transitive.
@@ -22,6 +22,28 @@ before-trans r s u (inl a) (inl b) = inl (omega arith)
 before-trans r s u (inl a) (inr b) = inl (omega arith)
 before-trans r s u (inr a) (inl b) = inl (omega arith)
 before-trans r s u (inr a) (inr b) = inr (a .0 ∙ b .0, omega arith)
+
+-- Lists in table order with the same routes are the same.
+pub same-routes : {s t : List Route} → Ascending s → Ascending t → ((r : Route) → Member r s ↔ Member r t) → s ≡ t
+same-routes empty empty k = refl
+same-routes empty (first {r = q} c o) k = absurd (all-member {P = λ x. ⊥} nil (k q .1 head))
+same-routes (first {r = r} b o) empty k = absurd (all-member {P = λ x. ⊥} nil (k r .0 head))
+same-routes (first {r = r} {t = s} b o) (first {r = q} {t = t} c u) k =
+    ap₂ _∷_ same
+    (same-routes o u
+    (λ x. (λ m. behind (rw same at (all-member b m)) (k x .0 (later m)), λ m. behind (rw (← same) at (all-member c m)) (k x .1 (later m)))))
+  where
+    same : r ≡ q
+    same = go (member-cons (k r .0 head)) (member-cons (k q .1 head))
+      where
+        go : (r ≡ q) ⊎ Member r t → (q ≡ r) ⊎ Member q s → r ≡ q
+        go (inl e) m = e
+        go (inr m) (inl e) = sym e
+        go (inr m) (inr n) = absurd (not-both q r (all-member c m) (all-member b n))
+
+    -- What stands behind a route is not the route.
+    behind : {a x : Route} {l : List Route} → Before a x → Member x (a ∷ l) → Member x l
+    behind {a} {x} {l} h m = ⊎-elim (λ e. let z : Before a a = rw e at h in absurd (not-both a a z z)) (λ n. n) (member-cons m)
 
 pub valid-within : (w : ℕ) (r : Route) → Valid w r → Within w w 0 r
 valid-within w r v =

@@ -6,7 +6,6 @@ use native.Mathlib.Omega.{arith}
 use Rattle.theory.specs.Routes.{Route, All, nil, cons, Before, Ascending, empty, first, Member, head, later}
 use Rattle.theory.proofs.Lists.{all-append, all-member}
 use Rattle.theory.specs.Falling.{Sooner, Ordered, over, next}
-use Rattle.theory.proofs.Parts.{not-both}
 
 -- Ascending routes are in table order.
 pub ascending-ordered : {t : List Route} → Ascending t → Ordered Before t
@@ -20,6 +19,13 @@ ordered-ascending (next b o) = first b (ordered-ascending o)
 -- Of two routes one at most goes before the other.
 abbrev pub OneWay : (Route → Route → Type 0) → Type 0
 OneWay Goes = (r s : Route) → Goes r s → Goes s r → ⊥
+
+-- Of two routes one at most stands before the other.
+pub not-both : (r s : Route) → Before r s → Before s r → ⊥
+not-both r s (inl p) (inl q) = omega arith
+not-both r s (inl p) (inr q) = omega arith
+not-both r s (inr p) (inl q) = omega arith
+not-both r s (inr p) (inr q) = omega arith
 
 pub before-one-way : OneWay Before
 before-one-way = not-both

@@ -1,7 +1,7 @@
 -- A table taken apart by a test, and the longest match of the whole from those of the parts.
 use Prim.Native.Nat.{ℕ, suc, _+_, _-_, _≤_, _<_}
 use mathlib.Core.Path.{_≡_, refl, sym, ap, ap₂, _∙_}
-use mathlib.Core.Bool.{Bool, true, false, cond, _||_}
+use mathlib.Core.Bool.{Bool, true, false, cond, not, _||_}
 use mathlib.Core.List.{List, [], _∷_, _++_}
 use mathlib.Core.Logic.{_↔_, inl, inr}
 use native.Mathlib.Decide.{decLt}
@@ -12,6 +12,7 @@ use borrow.Author.Tests.{lt-ltb, le-ltb, eqb-true, eqb-false}
 use Rattle.theory.specs.Results.{part}
 use Rattle.theory.specs.Routes.{Route, matches, Match, miss, hit, longer, tried, lookup, Answer, under, All, nil, cons, Before, Ascending, empty, first, Table, Member, head, later}
 use Rattle.theory.proofs.Lists.{all-member, member-all}
+use Rattle.theory.proofs.Ordered.{not-both}
 use Rattle.theory.proofs.Preserve.{Deep, longer-miss}
 use Rattle.theory.proofs.Routed.{Every, lookup-every}
 
@@ -174,6 +175,28 @@ ascending-part p (first {r = r} {t = t} b o) = go (p r) (ascending-part p o)
 pub table-part : (w : ℕ) (p : Route → Bool) {t : List Route} → Table w t → Table w (part p t)
 table-part w p table = record { valid = all-part p (λ r v e. v) (table .valid); order = ascending-part p (table .order) }
 
+-- Where no route passes a test, all are left.
+pub rest-all : (p : Route → Bool) (t : List Route) → length (part p t) ≤ 0 → rest p t ≡ t
+rest-all p [] le = refl
+rest-all p (r ∷ t) le = go (p r) (rest-all p t) le
+  where
+    go : (b : Bool) → (length (part p t) ≤ 0 → rest p t ≡ t) → length (cond b (r ∷ part p t) (part p t)) ≤ 0 → cond b (rest p t) (r ∷ rest p t) ≡ r ∷ t
+    go true ih e = absurd (omega arith)
+    go false ih e = ap (λ (s : List Route). r ∷ s) (ih e)
+
+-- Those that are left are those that fail the test.
+pub rest-part : (p : Route → Bool) (t : List Route) → rest p t ≡ part (λ r. not (p r)) t
+rest-part p [] = refl
+rest-part p (r ∷ t) = go (p r) (rest-part p t)
+  where
+    go : (b : Bool) → rest p t ≡ part (λ s. not (p s)) t
+        → cond b (rest p t) (r ∷ rest p t) ≡ cond (not b) (r ∷ part (λ s. not (p s)) t) (part (λ s. not (p s)) t)
+    go true ih = ih
+    go false ih = ap (λ (s : List Route). r ∷ s) ih
+
+pub in-rest : (p : Route → Bool) {t : List Route} {r : Route} → Member r t → p r ≡ false → Member r (rest p t)
+in-rest p {t} m e = rw (rest-part p t) (member-part (λ r. not (p r)) t .1 (m, ap not e))
+
 -- Parts by tests that agree on the members are equal; a part by a test that all pass is the whole.
 pub part-agree : (p q : Route → Bool) (t : List Route) → ((r : Route) → Member r t → p r ≡ q r) → part p t ≡ part q t
 part-agree p q [] k = refl
@@ -203,13 +226,6 @@ part-twice p q t k = part-swap p q t ∙ part-whole q (part p t) (λ r m. k r (m
 pub part-none : (p : Route → Bool) (t : List Route) → ((r : Route) → Member r t → p r ≡ false) → part p t ≡ []
 part-none p [] k = refl
 part-none p (r ∷ t) k = rw (k r head) (part-none p t (λ s m. k s (later m)))
-
--- Of two routes one at most stands before the other.
-pub not-both : (r s : Route) → Before r s → Before s r → ⊥
-not-both r s (inl p) (inl q) = omega arith
-not-both r s (inl p) (inr q) = omega arith
-not-both r s (inr p) (inl q) = omega arith
-not-both r s (inr p) (inr q) = omega arith
 
 -- Where each route that passes one test stands before each that passes another, those that pass either are those of the one, then those of the other.
 pub part-either : (p q : Route → Bool) {t : List Route} → ((r s : Route) → p r ≡ true → q s ≡ true → Before r s) → Ascending t

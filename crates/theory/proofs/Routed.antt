@@ -1,10 +1,11 @@
 -- What a route matches, what a longest match inherits from the routes, whether a table holds an address; and tables whose hops are all 0.
-use Prim.Native.Nat.{ℕ, _-_}
+use Prim.Native.Nat.{ℕ, suc, _-_}
 use mathlib.Core.Path.{_≡_, refl, sym, ap, ap₂, _∙_}
 use mathlib.Core.Bool.{Bool, true, false, cond, _||_}
 use mathlib.Core.List.{List, [], _∷_}
 use mathlib.Core.Logic.{_↔_}
 use lib.Dec.{ltb}
+use lib.ListN.{length}
 use borrow.Author.Tests.{eq-eqb, eqb-true}
 use native.Mathlib.Bridge.{le-prop}
 use native.Mathlib.Omega.{arith}
@@ -125,3 +126,8 @@ unhopped-bare (cons {r = r} h hs) = ap₂ _∷_ (ap (λ (k : ℕ). record { addr
 pub held-unhopped : (w x : ℕ) (t : List Route) → held w (unhopped t) x ≡ held w t x
 held-unhopped w x [] = refl
 held-unhopped w x (r ∷ t) = ap (λ (b : Bool). matches w r x || b) (held-unhopped w x t)
+
+-- Without their hops routes are as many.
+pub length-unhopped : (t : List Route) → length (unhopped t) ≡ length t
+length-unhopped [] = refl
+length-unhopped (r ∷ t) = ap suc (length-unhopped t)

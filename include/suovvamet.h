@@ -86,7 +86,8 @@ enum suovvamet_mode {
 /*
  * Rewrites the table in a mode: the records of the mode's result stand in the output from its start, *count is their number and *change is
  * that number less the number of the table's records. The bytes of the output after these records stay as they were, and after a refusal
- * all of them. default_hop is read in mode 5 alone. Refusals 1 to 8, 10 and 11.
+ * all of them. default_hop is read in mode 5 alone. No table that answers every address alike has fewer records than mode 4's result, nor than mode
+ * 5's once unrouted addresses have the default; *change is never above 0 in modes 1 to 4 and never above 1 in mode 5. Refusals 1 to 8, 10 and 11.
  */
 uint32_t suovvamet_rewrite(const uint8_t *table, uint64_t table_length, uint32_t flags, uint32_t mode, uint32_t default_hop, uint8_t *output,
                            uint64_t output_length, uint32_t *work, uint64_t work_length, uint64_t *count, int64_t *change, uint64_t *index);

@@ -11,6 +11,7 @@ use Rattle.theory.specs.Routes.{Route}
 use Rattle.refusals.specs.Rules.{Rule, rule, gives, refuses, judge}
 use Rattle.refusals.proofs.Judged.{gives-exactly, kept-next, broken-here, all-next, some-here}
 use Rattle.records.specs.Wire.{records, Bytes, bytesOf, laid}
+use Rattle.records.specs.declared.Form.{Form}
 use Rattle.table.specs.Checking.{checkReply}
 use Rattle.table.specs.TableRules.{tableRules}
 use Rattle.table.proofs.Tables.{accepted-table}

@@ -1,4 +1,5 @@
--- Laws and theorems of the second engine. The theorems: Calls (what the statement settles), Agreement (the two engines agree) and Demand3 (of both engines).
+-- Laws and theorems of the second engine. The theorems: Calls (what the statement settles), Agreement (the two engines agree), Demand3 and Shortest (of both
+-- engines), Masking (host bits).
 -- Walk, Positions and Output are the walks' laws, Whole and Replies the call's.
 pub mod Walk
 pub mod Positions
@@ -8,3 +9,5 @@ pub mod Replies
 pub mod Calls
 pub mod Agreement
 pub mod Demand3
+pub mod Masking
+pub mod Shortest

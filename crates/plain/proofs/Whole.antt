@@ -26,7 +26,7 @@ use Rattle.table.proofs.Tables.{set-hops}
 use Rattle.positions.specs.Runs.{noHop}
 use Rattle.runs.specs.Runs.{run, RunAt}
 use Rattle.runs.proofs.Halves.{whole-run}
-use Rattle.runs.proofs.Numbered.{member-numbered}
+use Rattle.theory.proofs.Numbered.{member-numbered}
 use Rattle.runs.proofs.Records.{run-whole, run-numbered}
 use Rattle.calls.specs.declared.Rewritten.the-variants.{Records}
 use Rattle.calls.specs.Ending.{Fills, Finished}

@@ -1,0 +1,56 @@
+-- Host bits in the second engine: an answer under the strict choice is the default's wherever it is not refused by 6, and the masked bytes of an accepted table
+-- are answered as the table. Assumes of a table, where it says so, that its elements are bytes.
+use mathlib.Core.Path.{_≡_, ap, ap₂, subst, _∙_}
+use mathlib.Core.Bool.{Bool, not, _||_}
+use mathlib.Core.List.{List, [], _∷_, _++_}
+use Prim.Native.Nat.{ℕ, _*_, _/_}
+use lib.Dec.{eqb, leb}
+use lib.ListN.{length}
+use Rattle.refusals.specs.Rules.{Rule, rule}
+use Rattle.refusals.proofs.Waived.{waived, waived-append}
+use Rattle.records.specs.Wire.{Bytes, maskedBytes}
+use Rattle.records.specs.declared.Form.{Form}
+use Rattle.records.specs.Forms.{byDefault, strictly}
+use Rattle.table.specs.TableRules.{tableRules}
+use Rattle.table.specs.Conditions.{Accepted}
+use Rattle.table.proofs.Masking.{strict-waived, masked-routes, masked-length, masked-rules}
+use Rattle.calls.specs.declared.Rewritten.{Rewritten}
+use Rattle.calls.specs.declared.Rewritten.the-variants.{Refused}
+use Rattle.calls.specs.Rewriting.{resultOf, takesSet, replyBy, writtenOf, outputOf, RewritesBy}
+use Rattle.calls.proofs.Masking.{by-waived}
+use Rattle.plain.specs.Rewriting.{hasMode, plainRules}
+use Rattle.plain.proofs.Calls.{plain-settled}
+
+-- The default is the strict choice with number 6 waived.
+plain-waived : (t : List ℕ) (mode default room : ℕ) → waived 6 (plainRules strictly t mode default room) ≡ plainRules byDefault t mode default room
+unfolding plainRules
+plain-waived t mode default room =
+    ap (λ (l : List Rule). rule 1 0 (hasMode mode) ∷ rule 2 0 (not (eqb mode 5) || leb default 63) ∷ l)
+    (waived-append 6 (tableRules strictly (takesSet mode) t) last ∙ ap (λ (l : List Rule). l ++ last) (strict-waived (takesSet mode) t))
+  where
+    last : List Rule
+    last = rule 11 0 (leb (8 * length (resultOf t mode default)) room) ∷ []
+
+-- A rewrite that is not refused by 6 under the strict choice is the default's: the answer and the output.
+pub plain-carried : (t : List ℕ) (mode default : ℕ) (o : List ℕ) (r q : Rewritten) (o′ p′ : List ℕ)
+    → RewritesBy (plainRules strictly t mode default (length o)) t mode default o r o′
+    → RewritesBy (plainRules byDefault t mode default (length o)) t mode default o q p′
+    → ((i : ℕ) → r ≡ Refused 6 i → ⊥) → (q ≡ r) × (p′ ≡ o′)
+plain-carried t mode default o r q o′ p′ one other h =
+    plain-settled byDefault t mode default o q r p′ o′ other
+    (subst (λ (rules : List Rule). RewritesBy rules t mode default o r o′) (plain-waived t mode default (length o))
+    (by-waived (plainRules strictly t mode default (length o)) t mode default o r o′ one h))
+
+-- The masked bytes of a table that is accepted as a set or as a map, read by any form, satisfy the table's own statement, and no other answer does.
+pub plain-masked : (form : Form) (s : Bool) (t : List ℕ) → Bytes t → Accepted form s t → (other : Form) (mode default : ℕ) (o : List ℕ) (r : Rewritten) (o′ : List ℕ)
+    → RewritesBy (plainRules other (maskedBytes t) mode default (length o)) (maskedBytes t) mode default o r o′
+    → RewritesBy (plainRules byDefault t mode default (length o)) t mode default o r o′
+unfolding replyBy plainRules resultOf
+plain-masked form s t bytes ok other mode default o r o′ a =
+    let same : replyBy (plainRules other (maskedBytes t) mode default (length o)) (maskedBytes t) mode default
+        ≡ replyBy (plainRules byDefault t mode default (length o)) t mode default =
+    rw (masked-rules form s t bytes ok other (takesSet mode), masked-routes form s t bytes ok) in
+    record {
+      answer = a .answer ∙ ap₂ writtenOf (ap (λ (n : ℕ). n / 8) (masked-length form s t bytes ok)) same;
+      output = a .output ∙ ap (outputOf o) same;
+    }

@@ -56,7 +56,7 @@ plain-number (plain-large-default e h) = omega arith
 plain-number (of-plain-table c) = table-number c
 plain-number (short-plain-output h) = omega arith
 
-cover-number : {t : List ℕ} {len words n i : ℕ} → CoverCondition t len words n i → 1 ≤ n
+cover-number : {form : Form} {t : List ℕ} {len words n i : ℕ} → CoverCondition form t len words n i → 1 ≤ n
 cover-number (of-set c) = table-number c
 cover-number (long-query h) = omega arith
 cover-number (short-room h) = omega arith

@@ -20,7 +20,7 @@ use Rattle.plain.proofs.Calls.{plain-settled}
 use Rattle.holes.specs.Listing.{listedSays, listedCount}
 use Rattle.holes.specs.declared.Listed.{Listed}
 use Rattle.holes.proofs.Calls.{unrouted-settled}
-use Rattle.suovvamet.specs.Numbers.{numberOf, indexOf, coveredOf, foundOf, hopOf, lengthOf, addressesOf, isSetBy, wordsOf}
+use Rattle.suovvamet.specs.Numbers.{formBy, numberOf, indexOf, coveredOf, foundOf, hopOf, lengthOf, addressesOf, isSetBy, wordsOf}
 use Rattle.suovvamet.specs.Calls.{RewriteInC, PlainInC, CoversInC, LookupInC, HeldInC, WordsInC, UnroutedInC}
 
 -- Parts of two answers that are the same are the same.

@@ -1,2 +1,3 @@
 -- Laws of what replay keeps, and of the rooms that it looks at.
 pub mod KeptLaws
+pub mod SpecialLaws

@@ -1,2 +1,4 @@
 -- What the program replay keeps.
 pub mod Kept
+pub mod Lines
+pub mod SpecialKept

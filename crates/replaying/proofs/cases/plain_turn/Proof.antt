@@ -1,9 +1,11 @@
 -- `cases::plain_turn` meets its contract: what is read of the 16 bytes is what the case says. Assumes nothing.
-use mathlib.Core.Path.{ap, _∙_}
+use mathlib.Core.Path.{ap₂, _∙_}
+use Prim.Native.Nat.{ℕ}
 use native.Mathlib.Omega.{arith}
 use lib.ListN.{length-take}
 use lib.Seq.{length-take-le}
 use borrow.Author.Needs.{needs}
+use Rattle.records.specs.declared.Form.{Form}
 use Rattle.text.proofs.Puts.{put-as}
 use Rattle.replaying.specs.Kept.{byte, plainAnswer}
 use Rattle.replaying.proofs.cases.plain_turn.Statement.{statement}
@@ -24,14 +26,20 @@ element-copy-out-keep-plain c = search needs
 element-copy-out-keep-plain-2 : tie.Need-element-copy-out-keep-plain-2
 element-copy-out-keep-plain-2 c = search needs
 
+element-copy-out-form-of : tie.Need-element-copy-out-form-of
+element-copy-out-form-of c = search needs
+
+form-of-requires : tie.Need-form-of-requires
+form-of-requires c κs = search needs
+
 slice-relend-prefix-keep-plain : tie.Need-slice-relend-prefix-keep-plain
 slice-relend-prefix-keep-plain c = search needs
 
 slice-aggregate-keep-plain : tie.Need-slice-aggregate-keep-plain
-slice-aggregate-keep-plain c = simp length-take (omega (arith, c .before .before .before .join2 .ensures .1, c .before .before .before .before .before .before .before .before .before .pre .0))
+slice-aggregate-keep-plain c = simp length-take (omega (arith, c .before .before .before .before .before .join2 .ensures .1, c .before .before .before .before .before .before .before .before .before .before .before .pre .0))
 
 keep-plain-requires : tie.Need-keep-plain-requires
-keep-plain-requires c κs = (simp length-take (omega (arith, c .before .before .before .before .join2 .ensures .1)), c .before .before .before .before .before .before .before .before .before .before .pre .1)
+keep-plain-requires c κs = (simp length-take (omega (arith, c .before .before .before .before .before .before .join2 .ensures .1)), c .before .before .before .before .before .before .before .before .before .before .before .before .pre .1)
 
 same-length : tie.Need-same-length
 same-length c = search needs
@@ -41,11 +49,11 @@ same-length-2 c = search needs
 
 returns : tie.Need-returns
 returns c =
-    let start = c .before .before .before .before .before .before .before .before .before .before .before .before .before .before .before in
+    let start = c .before .before .before .before .before .before .before .before .before .before .before .before .before .before .before .before .before in
     let s = start .args in
-    let room = c .before .before .before .before .before .before .before .before .before .join2 in
+    let room = c .before .before .before .before .before .before .before .before .before .before .before .join2 in
     put-as
-    (ap (plainAnswer (s .table .now) (byte (s .head .now) 1) (byte (s .head .now) 2))
+    (ap₂ (λ (form : Form) (bytes : ℕ). plainAnswer form (s .table .now) (byte (s .head .now) 1) (byte (s .head .now) 2) bytes) (c .before .before .before .before .before .before .before .form-of .ensures)
     (length-take-le _ _ (omega (arith, room .ensures .1, start .pre .0)) ∙ room .ensures .0))
     (c .before .before .before .before .keep-plain .ensures)
 
@@ -58,6 +66,8 @@ plain-turn-spec =
     join2-requires
     element-copy-out-keep-plain
     element-copy-out-keep-plain-2
+    element-copy-out-form-of
+    form-of-requires
     slice-relend-prefix-keep-plain
     slice-aggregate-keep-plain
     keep-plain-requires

@@ -39,7 +39,7 @@ extern "C" {
 #endif
 
 /* One more whenever something that is declared or promised here changes. */
-#define SUOVVAMET_VERSION 5
+#define SUOVVAMET_VERSION 6
 
 /*
  * How a table is read, in every call: 0, or SUOVVAMET_STRICT for the strict choice. The other bits of the flags are kept for later and ignored;
@@ -60,7 +60,8 @@ enum suovvamet_refusal {
     SUOVVAMET_ORDER = 8,          /* a record is not strictly after the one before it, both masked */
     SUOVVAMET_QUERY_LENGTH = 9,   /* the cover query's length is above 32 */
     SUOVVAMET_WORK_ROOM = 10,     /* the work room has fewer than 160 words for each node of the table */
-    SUOVVAMET_OUTPUT = 11         /* the output has fewer than 8 bytes for each record of the result or the list */
+    SUOVVAMET_OUTPUT = 11,        /* the output has fewer than 8 bytes for each record of the result or the list */
+    SUOVVAMET_EDITION = 14        /* the edition is not 5735 or 6890; checked before 3 */
 };
 
 /* The modes of a rewrite. The first two take a set, the others a map. */
@@ -131,6 +132,14 @@ uint32_t suovvamet_work_words(const uint8_t *table, uint64_t table_length, uint3
 uint32_t suovvamet_unrouted(const uint8_t *table, uint64_t table_length, uint32_t flags, uint8_t *output, uint64_t output_length,
                             uint64_t *count, uint64_t *index);
 
+/*
+ * The special-use ranges, by the edition of their list: RFC 5735 (section 4) or RFC 6890 (section 2.2.2), named by the RFC's number. Is there a record
+ * of a map all of whose addresses lie in one range of the list? Then *found is 1 and *record is the index of the first such record, else both are
+ * 0. A record that is wider than a range does not lie in it. Refusals 14, then 3 to 8.
+ */
+uint32_t suovvamet_special_use(const uint8_t *table, uint64_t table_length, uint32_t flags, uint32_t edition, uint32_t *found, uint64_t *record,
+                               uint64_t *index);
+
 /* A refusal in words, for a person to read. It is C, no function of the library, and proved by nothing. */
 static inline const char *suovvamet_refusal_text(uint32_t refusal)
 {
@@ -147,6 +156,7 @@ static inline const char *suovvamet_refusal_text(uint32_t refusal)
     case SUOVVAMET_QUERY_LENGTH: return "the query's length is above 32";
     case SUOVVAMET_WORK_ROOM: return "the work room is shorter than the table needs";
     case SUOVVAMET_OUTPUT: return "the output is shorter than the result or the list";
+    case SUOVVAMET_EDITION: return "the edition is not 5735 or 6890";
     default: return "no call gives this number";
     }
 }

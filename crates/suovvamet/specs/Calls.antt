@@ -17,7 +17,9 @@ use Rattle.calls.specs.declared.Covers.{Covers}
 use Rattle.plain.specs.Rewriting.{plainRules}
 use Rattle.holes.specs.Listing.{listedSays, listedCount, Lists}
 use Rattle.holes.specs.declared.Listed.{Listed}
-use Rattle.suovvamet.specs.Numbers.{formBy, numberOf, indexOf, coveredOf, foundOf, hopOf, lengthOf, addressesOf, isSetBy, wordsOf}
+use Rattle.special.specs.Calls.{specialSays, specialReply}
+use Rattle.special.specs.declared.Special.{Special}
+use Rattle.suovvamet.specs.Numbers.{formBy, numberOf, indexOf, coveredOf, foundOf, hopOf, lengthOf, addressesOf, isSetBy, wordsOf, namedOf, recordOf}
 
 -- Of a rewrite: the table t, the output o and the room work were lent; the output is o′ then and the room work′.
 pub record RewriteInC (t : List ℕ) (flags mode default : ℕ) (o work : List ℕ) (number count : ℕ) (change : ℤ) (index : ℕ) (o′ work′ : List ℕ) : Type 0 where
@@ -78,3 +80,12 @@ pub record UnroutedInC (t : List ℕ) (flags : ℕ) (o : List ℕ) (number count
   pub number-is : number ≡ numberOf (listedSays answer)
   pub index-is : index ≡ indexOf (listedSays answer)
   pub count-is : count ≡ listedCount answer
+
+-- Of special use: whether a record was found, and its index.
+pub record SpecialInC (t : List ℕ) (flags edition number found place index : ℕ) : Type 0 where
+  pub answer : Special
+  pub replies : specialSays answer ≡ specialReply (formBy flags) t edition
+  pub number-is : number ≡ numberOf (specialSays answer)
+  pub index-is : index ≡ indexOf (specialSays answer)
+  pub found-is : found ≡ namedOf answer
+  pub place-is : place ≡ recordOf answer

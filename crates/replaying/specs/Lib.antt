@@ -2,3 +2,4 @@
 pub mod Kept
 pub mod Lines
 pub mod SpecialKept
+pub mod ChipKept

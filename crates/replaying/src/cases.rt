@@ -5,6 +5,7 @@ use super::FILLED_BYTE;
 use super::FILLED_WORD;
 use super::Turn;
 use super::call_of;
+use super::chip_cases::chip_turn;
 use super::form_of;
 use super::join2;
 use super::keep_output;
@@ -266,6 +267,12 @@ pub fn case_turn(
     ensures { λ r. ⌜ r .at ≤ length (now (kept .entry)) ⌝ }
 {
     let call = call_of(head[0]);
+    if call == 6 {
+        return Turn {
+            at: chip_turn(head, table, output, at, kept),
+            more: true,
+        };
+    }
     if call == 9 {
         return Turn {
             at: special_turn(head, table, at, kept),

@@ -13,6 +13,8 @@ use Rattle.workroom.specs.declared.WorkWords.{WorkWords}
 use Rattle.workroom.specs.declared.WorkWords.the-variants.{Words, Refused as NotNeeded}
 use Rattle.special.specs.declared.Special.{Special}
 use Rattle.special.specs.declared.Special.the-variants.{At, Nothing, Refused as NotSearched}
+use Rattle.chip.specs.declared.Loaded.{Loaded}
+use Rattle.chip.specs.declared.Loaded.the-variants.{Slots, Refused as NotLoaded}
 use Rattle.calls.specs.declared.Covers.{Covers}
 use Rattle.calls.specs.declared.Covers.the-variants.{Covered, Uncovered, Refused as NotAnswered}
 
@@ -87,3 +89,8 @@ abbrev pub recordOf : Special → ℕ
 recordOf (At i) = i
 recordOf Nothing = 0
 recordOf (NotSearched number index) = 0
+
+-- ---- Of the chip loader: the slots used, 0 in a refusal.
+abbrev pub slotsUsed : Loaded → ℕ
+slotsUsed (Slots used) = used
+slotsUsed (NotLoaded number index) = 0

@@ -3,7 +3,7 @@
 
 use std::collections::BTreeMap;
 
-use crate::case::{table_of, Answer, Case, Route, COVER, HELD, LOOKUP, MOST_LIST, MOST_WORK, PLAIN, REWRITE, UNROUTED};
+use crate::case::{table_of, Answer, Case, Route, CHIP, COVER, HELD, LOOKUP, MOST_LIST, MOST_WORK, PLAIN, REWRITE, UNROUTED};
 use crate::model::{self, Fault};
 
 /// A case, what it is, and the refusal that its damage was planned to give.
@@ -313,6 +313,16 @@ fn make_room(random: &mut Random, case: &mut Case, rooms: usize) {
         case.room = 0;
         return;
     }
+    if case.call == CHIP {
+        case.work = random.pick(&[0, u32::MAX]);
+        case.room = match rooms {
+            0 => 8_192,
+            1 => random.pick(&[8_193, 8_200, 16_384, 65_535]),
+            3 => 8_191,
+            _ => 0,
+        };
+        return;
+    }
     if case.call == UNROUTED {
         case.work = MOST_LIST;
         let Answer::Unrouted(list) = model::answer(case, Fault::None) else { unreachable!("every list fits") };
@@ -352,8 +362,8 @@ fn whole(random: &mut Random, call: u8, mode: u8, shape: usize, rooms: usize) ->
     let rooms = match (call, rooms) {
         (COVER, 3 | 6) => 0,
         (COVER, 4) => 2,
-        (UNROUTED, 2 | 5) => 0,
-        (UNROUTED, 4) => 3,
+        (UNROUTED | CHIP, 2 | 5) => 0,
+        (UNROUTED | CHIP, 4) => 3,
         _ => rooms,
     };
     let hop_count = if shape == 18 && random.chance(50) { 64 } else { random.pick(&[1, 2, 2, 3, 4, 5, 8, 16, 63, 64]) };
@@ -384,6 +394,7 @@ pub fn numbers(call: u8) -> &'static [u8] {
         REWRITE => &[1, 2, 3, 4, 5, 6, 7, 8, 10, 11],
         COVER => &[3, 4, 5, 6, 7, 8, 9, 10],
         UNROUTED => &[3, 4, 5, 6, 7, 8, 11],
+        CHIP => &[3, 4, 5, 6, 7, 8, 12],
         _ => &[3, 4, 5, 6, 7, 8],
     }
 }
@@ -485,7 +496,10 @@ fn damaged(random: &mut Random, call: u8, first: u8, second: u8, order: Order, s
     }
     ask(random, &mut case, &routes);
     case.query_length = if has(9) { random.pick(&[33, 33, 34, 64, 255]) } else { random.pick(&[0, 8, 31, 32]) };
-    if call == UNROUTED {
+    if call == CHIP {
+        make_room(random, &mut case, 0);
+        case.room = if has(12) { random.pick(&[0, 8_191, 8_193, 65_535]) } else { 8_192 };
+    } else if call == UNROUTED {
         case.work = MOST_LIST;
         if has(4) {
             case.work = if has(11) { 0 } else { MOST_LIST };
@@ -548,11 +562,12 @@ fn damaged(random: &mut Random, call: u8, first: u8, second: u8, order: Order, s
 pub fn seeded(seed: u64, index: u64) -> Made {
     let random = &mut Random::new(seed, index);
     let call = match random.below(100) {
-        0..=59 => REWRITE,
-        60..=76 => COVER,
-        77..=86 => LOOKUP,
-        87..=91 => HELD,
-        _ => UNROUTED,
+        0..=54 => REWRITE,
+        55..=70 => COVER,
+        71..=79 => LOOKUP,
+        80..=84 => HELD,
+        85..=91 => UNROUTED,
+        _ => CHIP,
     };
     if random.chance(20) {
         // Damage by number 4 needs a long table, and comes less often.
@@ -736,15 +751,33 @@ pub fn fixed() -> Vec<Made> {
             list.push(damaged(random, UNROUTED, first, second, order, Size::Few));
         }
     }
+    // The chip's image: every shape, the full tables, image rooms of other sizes, the refusals and their pairs with 12.
+    for shape in 0..SHAPES.len() {
+        list.push(small(random, CHIP, 0, shape, 0));
+    }
+    for rooms in [1, 3, 6] {
+        list.push(small(random, CHIP, 0, 14, rooms));
+    }
+    for &number in numbers(CHIP) {
+        list.push(damaged(random, CHIP, number, 0, Order::Same, size(number, 0)));
+    }
+    for (first, second, order) in pairs(CHIP) {
+        if second == 12 && first != 4 {
+            list.push(damaged(random, CHIP, first, second, order, Size::Few));
+        }
+    }
     // Host bits, masked and refused: the octets of 10.0.0.0/8 in the wrong order; two records that mask to one prefix; records in order only once they
     // are masked; every bit past the length set.
     for text in ["0.0.0.10/8>1", "10.1.2.3/8>1 10.4.5.6/8>1", "10.9.0.0/8>1 10.1.0.0/16>2", "255.255.255.255/0>1 255.255.255.255/1>2"]
     {
-        for call in [REWRITE, COVER, LOOKUP, HELD, UNROUTED] {
+        for call in [REWRITE, COVER, LOOKUP, HELD, UNROUTED, CHIP] {
             for strict in [false, true] {
                 let hops = if call == COVER { without_hops(prefixes(text)) } else { prefixes(text) };
                 let mut made = edge(call, 4, 0, 8, &table_of(&hops));
                 made.case.strict = strict;
+                if call == CHIP {
+                    made.case.room = 8_192;
+                }
                 list.push(made);
             }
         }

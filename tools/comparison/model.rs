@@ -4,7 +4,7 @@
 //! A call of the model can be given a fault, a planted mistake: `tools/compare --self-test` shows with them that the comparison
 //! finds mistakes. `Fault::None` is the model itself.
 
-use crate::case::{Answer, Case, Route, COVER, HELD, LOOKUP, PLAIN, REWRITE, UNROUTED};
+use crate::case::{Answer, Case, Route, CHIP, COVER, HELD, LOOKUP, PLAIN, REWRITE, UNROUTED};
 
 #[derive(Clone, Copy, PartialEq, Eq, Debug)]
 pub enum Fault {
@@ -44,10 +44,13 @@ pub enum Fault {
     HostBitsRefused,
     OrderUnmasked,
     RoutesUnmasked,
+    SlotsByRisingLength,
+    SlotsByFallingAddress,
+    ImageMayBeLonger,
 }
 
 /// Each planted mistake and what it does wrong.
-pub const FAULTS: [(Fault, &str); 35] = [
+pub const FAULTS: [(Fault, &str); 38] = [
     (Fault::LargestHop, "modes 4, 5: the largest hop of a set instead of the smallest"),
     (Fault::HoleIsEmptySet, "mode 4: a hole taken as an empty set"),
     (Fault::AlwaysSmallest, "modes 4, 5: the smallest hop even where the hop above is in the set"),
@@ -83,6 +86,9 @@ pub const FAULTS: [(Fault, &str); 35] = [
     (Fault::HostBitsRefused, "number 6: given without the strict choice"),
     (Fault::OrderUnmasked, "number 8: judged on the address as it stands"),
     (Fault::RoutesUnmasked, "the wire: host bits taken into the route"),
+    (Fault::SlotsByRisingLength, "chip image: the shortest prefixes first"),
+    (Fault::SlotsByFallingAddress, "chip image: within a length the last address first"),
+    (Fault::ImageMayBeLonger, "number 12: not given to an image room of more than 8,192 bytes"),
 ];
 
 /// The first `length` bits set.
@@ -431,6 +437,16 @@ fn unrouted(routes: &[Route], fault: Fault) -> Vec<Route> {
     }
 }
 
+/// The records as the chip has them: by falling length, within a length by rising address.
+fn slots(mut routes: Vec<Route>, fault: Fault) -> Vec<Route> {
+    match fault {
+        Fault::SlotsByRisingLength => routes.sort_by_key(|route| (route.1, route.0)),
+        Fault::SlotsByFallingAddress => routes.sort_by_key(|route| (32 - route.1, !route.0)),
+        _ => routes.sort_by_key(|route| (32 - route.1, route.0)),
+    }
+    routes
+}
+
 /// The model's answer to a case.
 pub fn answer(case: &Case, fault: Fault) -> Answer {
     let routes = match accepted(case, fault) {
@@ -465,6 +481,8 @@ pub fn answer(case: &Case, fault: Fault) -> Answer {
             }
             Answer::Unrouted(list)
         }
+        CHIP if case.room < 8192 || case.room > 8192 && fault != Fault::ImageMayBeLonger => Answer::Refused(12, 0),
+        CHIP => Answer::Slots(slots(routes, fault)),
         _ => unreachable!("a case names a call"),
     }
 }

@@ -15,6 +15,9 @@ pub const PLAIN: u8 = 5;
 /// The chip's slot image.
 pub const CHIP: u8 = 6;
 
+/// The first record in a special-use range.
+pub const SPECIAL: u8 = 9;
+
 /// Added to the call where host bits are refused, not masked.
 pub const STRICT: u8 = 128;
 
@@ -31,6 +34,7 @@ pub struct Case {
     pub mode: u8,
     pub default: u8,
     pub query_length: u8,
+    /// The query's address; the edition of the special-use ranges.
     pub query: u32,
     /// Words of work room; bytes of output for a list of what has no route; not read by the plain engine.
     pub work: u32,
@@ -71,7 +75,7 @@ impl Case {
             room: (word(12) >> 16) as u16,
             table: rest[..length].to_vec(),
         };
-        if case.call > CHIP {
+        if case.call > CHIP && case.call != SPECIAL {
             return Err("no such call");
         }
         if case.call == UNROUTED && case.work > MOST_LIST {
@@ -94,6 +98,7 @@ impl Case {
             LOOKUP => format!("lookup of {}", dotted(self.query)),
             HELD => "addresses held".to_string(),
             CHIP => "chip image".to_string(),
+            SPECIAL => format!("special use by RFC {}", self.query),
             _ => "list of what has no route".to_string(),
         };
         if self.strict {
@@ -103,6 +108,7 @@ impl Case {
             UNROUTED => writeln!(text, "; {} bytes of output, {} bytes of table", self.work, self.table.len()),
             PLAIN => writeln!(text, "; {} bytes of output, {} bytes of table", self.room, self.table.len()),
             CHIP => writeln!(text, "; {} bytes of image, {} bytes of table", self.room, self.table.len()),
+            SPECIAL => writeln!(text, "; {} bytes of table", self.table.len()),
             _ => writeln!(
                 text,
                 "; {} words of work room, {} bytes of output, {} bytes of table",
@@ -133,6 +139,8 @@ pub enum Answer {
     Unrouted(Vec<Route>),
     /// The used slots of the chip's image, in slot order.
     Slots(Vec<Route>),
+    /// The first record in a special-use range.
+    Special(Option<usize>),
 }
 
 impl Answer {
@@ -166,6 +174,8 @@ impl Answer {
                 }
                 writeln!(text, "slots {}", slots.len())
             }
+            Answer::Special(Some(at)) => writeln!(text, "special at {at}"),
+            Answer::Special(None) => writeln!(text, "none special"),
         };
         text
     }

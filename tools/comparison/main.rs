@@ -15,7 +15,7 @@ use std::process::{exit, Command, Stdio};
 use std::sync::{Mutex, OnceLock};
 use std::thread;
 
-use case::{Answer, Case, Route, CHIP, COVER, HELD, LOOKUP, PLAIN, REWRITE, UNROUTED};
+use case::{Answer, Case, Route, CHIP, COVER, HELD, LOOKUP, PLAIN, REWRITE, SPECIAL, UNROUTED};
 use generate::Made;
 use model::Fault;
 
@@ -64,7 +64,7 @@ fn matched_by_crate(routes: &[Route], slots: &[Route]) -> bool {
     oracle::lookups(routes, &asked).into_iter().eq(asked.iter().map(first_match))
 }
 
-/// The answer that is expected: refusals 1 to 9 and 12, the list of what has no route and the chip's image by the model, all else by the crate,
+/// The answer that is expected: refusals 1 to 9, 12 and 14, the list of what has no route and the chip's image by the model, all else by the crate,
 /// which is asked about those two all the same.
 fn expected(case: &Case) -> Answer {
     if let Err((number, at)) = model::accepted(case, Fault::None) {
@@ -87,6 +87,10 @@ fn expected(case: &Case) -> Answer {
         COVER if work_short() => Answer::Refused(10, 0),
         COVER => Answer::Covered(oracle::covers(&routes, case.query, case.query_length)),
         LOOKUP => Answer::Match(oracle::lookup(&routes, case.query)),
+        SPECIAL => {
+            let ranges = model::ranges(case.query, Fault::None).unwrap_or_default();
+            Answer::Special(oracle::within(&ranges, &routes).into_iter().position(|inside| inside))
+        }
         HELD => Answer::Addresses(oracle::addresses(&routes).map_or(1 << 32, u64::from)),
         _ => {
             let answer = model::answer(case, Fault::None);
@@ -163,6 +167,7 @@ impl Counts {
             LOOKUP => "lookup".to_string(),
             HELD => "addresses held".to_string(),
             CHIP => "chip image".to_string(),
+            SPECIAL => format!("special use, RFC {}", if [5735, 6890].contains(&made.case.query) { made.case.query } else { 0 }),
             _ => "list of what has no route".to_string(),
         };
         let outcome = match answer {
@@ -180,6 +185,8 @@ impl Counts {
             Answer::Unrouted(_) => "at most 1,024",
             Answer::Slots(slots) if slots.len() == 1_024 => "full",
             Answer::Slots(_) => "slots",
+            Answer::Special(Some(_)) => "a record",
+            Answer::Special(None) => "none",
         };
         self.add(format!("call     {call}: {outcome}"));
         if let Answer::Refused(number, _) = answer {
@@ -419,7 +426,9 @@ fn check_ends(command: &str) {
         tries.push((good[..cut].to_vec(), String::new()));
         tries.push(([&good[..], &good[..cut]].concat(), text.clone()));
     }
-    for bytes in [&[(0, CHIP + 1)][..], &[(0, 255)], &[(8, 1)], &[(0, UNROUTED), (8, 0), (9, 4), (10, 0), (11, 1)]] {
+    for bytes in
+        [&[(0, CHIP + 1)][..], &[(0, SPECIAL + 1)], &[(0, 255)], &[(8, 1)], &[(0, UNROUTED), (8, 0), (9, 4), (10, 0), (11, 1)]]
+    {
         let mut odd = good.clone();
         bytes.iter().for_each(|&(at, byte)| odd[at] = byte);
         tries.push(([&good[..], &odd].concat(), text.clone()));

@@ -11,10 +11,10 @@
  * record that has such bits is refused instead.
  *
  * What the caller owes, in every call:
- *   - a pointer that is followed by a length points to that many elements (bytes of a table or an output, 32-bit words of a work room),
- *     whatever they hold, and is not NULL even where the length is 0;
+ *   - a pointer that is followed by a length points to that many elements (bytes of a table, an output or an image, 32-bit words of a work
+ *     room), whatever they hold, and is not NULL even where the length is 0;
  *   - each other pointer points to one number, whatever it holds;
- *   - a table and an output may stand at any address; a work room stands at that of a 32-bit word, and a number at that of its type, as C
+ *   - a table, an output and an image may stand at any address; a work room stands at that of a 32-bit word, and a number at that of its type, as C
  *     has them anyway;
  *   - no two of what the pointers of a call point to overlap, and nothing else writes there until the call returns.
  * Nothing else is asked: any bytes and any numbers are answered or refused. Lengths are numbers of 64 bits on every processor; a size_t passes
@@ -39,7 +39,7 @@ extern "C" {
 #endif
 
 /* One more whenever something that is declared or promised here changes. */
-#define SUOVVAMET_VERSION 5
+#define SUOVVAMET_VERSION 6
 
 /*
  * How a table is read, in every call: 0, or SUOVVAMET_STRICT for the strict choice. The other bits of the flags are kept for later and ignored;
@@ -60,7 +60,9 @@ enum suovvamet_refusal {
     SUOVVAMET_ORDER = 8,          /* a record is not strictly after the one before it, both masked */
     SUOVVAMET_QUERY_LENGTH = 9,   /* the cover query's length is above 32 */
     SUOVVAMET_WORK_ROOM = 10,     /* the work room has fewer than 160 words for each node of the table */
-    SUOVVAMET_OUTPUT = 11         /* the output has fewer than 8 bytes for each record of the result or the list */
+    SUOVVAMET_OUTPUT = 11,        /* the output has fewer than 8 bytes for each record of the result or the list */
+    SUOVVAMET_IMAGE = 12,         /* the chip's image has not 8,192 bytes */
+    SUOVVAMET_EDITION = 14        /* the edition is not 5735 or 6890; checked before 3 */
 };
 
 /* The modes of a rewrite. The first two take a set, the others a map. */
@@ -82,6 +84,9 @@ enum suovvamet_mode {
 
 /* An output for every list of what has no route: of a table of n records it has at most 21 * n + 1,024 prefixes. */
 #define SUOVVAMET_MOST_UNROUTED 180224u /* bytes: 8 for each of 22,528 prefixes */
+
+/* The image of a chip of 1,024 slots of 8 bytes. */
+#define SUOVVAMET_IMAGE_SIZE 8192u /* bytes */
 
 /*
  * Rewrites the table in a mode: the records of the mode's result stand in the output from its start, *count is their number and *change is
@@ -131,6 +136,23 @@ uint32_t suovvamet_work_words(const uint8_t *table, uint64_t table_length, uint3
 uint32_t suovvamet_unrouted(const uint8_t *table, uint64_t table_length, uint32_t flags, uint8_t *output, uint64_t output_length,
                             uint64_t *count, uint64_t *index);
 
+/*
+ * The special-use ranges, by the edition of their list: RFC 5735 (section 4) or RFC 6890 (section 2.2.2), named by the RFC's number. Is there a record
+ * of a map all of whose addresses lie in one range of the list? Then *found is 1 and *record is the index of the first such record, else both are
+ * 0. A record that is wider than a range does not lie in it. Refusals 14, then 3 to 8.
+ */
+uint32_t suovvamet_special_use(const uint8_t *table, uint64_t table_length, uint32_t flags, uint32_t edition, uint32_t *found, uint64_t *record,
+                               uint64_t *index);
+
+/*
+ * The slot image of a map for a chip that has 1,024 slots and answers with the first slot that matches: all SUOVVAMET_IMAGE_SIZE bytes of the image are
+ * written. The records, without host bits, stand by falling length, within a length by rising address, one a slot from the first slot on; *slots is
+ * their number. Each other slot is eight bytes of 255, and the chip passes it over by its length. The first slot that matches an address answers as
+ * the longest match in the table, no route included. After a refusal the image is as it was. Refusals 3 to 8 and 12.
+ */
+uint32_t suovvamet_chip_image(const uint8_t *table, uint64_t table_length, uint32_t flags, uint8_t *image, uint64_t image_length, uint64_t *slots,
+                              uint64_t *index);
+
 /* A refusal in words, for a person to read. It is C, no function of the library, and proved by nothing. */
 static inline const char *suovvamet_refusal_text(uint32_t refusal)
 {
@@ -147,6 +169,8 @@ static inline const char *suovvamet_refusal_text(uint32_t refusal)
     case SUOVVAMET_QUERY_LENGTH: return "the query's length is above 32";
     case SUOVVAMET_WORK_ROOM: return "the work room is shorter than the table needs";
     case SUOVVAMET_OUTPUT: return "the output is shorter than the result or the list";
+    case SUOVVAMET_IMAGE: return "the image has not 8,192 bytes";
+    case SUOVVAMET_EDITION: return "the edition is not 5735 or 6890";
     default: return "no call gives this number";
     }
 }

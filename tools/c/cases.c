@@ -255,6 +255,48 @@ static void unrouted(size_t length, uint32_t flags, size_t room)
     promise_output((size_t)count.value, room);
 }
 
+/* The image is lent as the output is. */
+static void chip_image(size_t length, uint32_t flags, size_t room)
+{
+    struct guarded slots = unset, index = unset;
+    fill_output(room);
+    uint32_t refusal = suovvamet_chip_image(table, length, flags, output, room, &slots.value, &index.value);
+    promise_guards(&slots);
+    if (!answered(refusal, &index, slots.value == 0)) {
+        promise_output(0, room);
+        return;
+    }
+    promise(room == SUOVVAMET_IMAGE_SIZE && slots.value <= SUOVVAMET_IMAGE_SIZE / 8, "image of another size");
+    print_records((size_t)slots.value, 1);
+    print("slots ");
+    print_number(slots.value);
+    print("\n");
+    int clear = 1;
+    for (size_t i = 8 * (size_t)slots.value; i < room; i++)
+        clear &= output[i] == 255;
+    promise(clear, "slots not clear");
+    promise_output(room / 8, room);
+}
+
+static void special_use(size_t length, uint32_t flags, uint32_t edition)
+{
+    struct guarded32 found = unset32;
+    struct guarded record = unset, index = unset;
+    uint32_t refusal = suovvamet_special_use(table, length, flags, edition, &found.value, &record.value, &index.value);
+    promise_guards32(&found);
+    promise_guards(&record);
+    if (!answered(refusal, &index, found.value == 0 && record.value == 0))
+        return;
+    if (found.value == 1) {
+        print("special at ");
+        print_number(record.value);
+        print("\n");
+    } else {
+        print("none special\n");
+        promise(found.value == 0 && record.value == 0, "value without a record");
+    }
+}
+
 /* ---- The cases. */
 static uint32_t number(const uint8_t *bytes, int size)
 {
@@ -281,7 +323,7 @@ static const char *run(void)
         if (got < HEADER || platform_read(table, length) < length)
             return "case cut short";
         uint32_t call = header[0] % STRICT_CASE;
-        if (call > 5)
+        if (call > 6 && call != 9)
             return "no such call";
         uint32_t flags = header[0] < STRICT_CASE ? 0 : SUOVVAMET_STRICT;
         flags |= filler(at) & ~(uint32_t)SUOVVAMET_STRICT; /* bits that are ignored */
@@ -303,6 +345,8 @@ static const char *run(void)
         case 3: addresses_held(length, flags); break;
         case 4: unrouted(length, flags, words); break;
         case 5: rewrite(1, length, flags, header[1], header[2], room, 0); break;
+        case 6: chip_image(length, flags, room); break;
+        case 9: special_use(length, flags, number(header + 4, 4)); break;
         }
         uint32_t left = 0, round = 0;
         for (size_t i = 0; borrows && i < all; i++)

@@ -12,6 +12,11 @@ pub const HELD: u8 = 3;
 pub const UNROUTED: u8 = 4;
 /// A rewrite by the plain engine, which is lent no work room.
 pub const PLAIN: u8 = 5;
+/// The chip's slot image.
+pub const CHIP: u8 = 6;
+
+/// The first record in a special-use range.
+pub const SPECIAL: u8 = 9;
 
 /// Added to the call where host bits are refused, not masked.
 pub const STRICT: u8 = 128;
@@ -29,9 +34,11 @@ pub struct Case {
     pub mode: u8,
     pub default: u8,
     pub query_length: u8,
+    /// The query's address; the edition of the special-use ranges.
     pub query: u32,
     /// Words of work room; bytes of output for a list of what has no route; not read by the plain engine.
     pub work: u32,
+    /// Bytes of output; of the image room for the chip's image.
     pub room: u16,
     pub table: Vec<u8>,
 }
@@ -68,13 +75,13 @@ impl Case {
             room: (word(12) >> 16) as u16,
             table: rest[..length].to_vec(),
         };
-        if case.call > PLAIN {
+        if case.call > CHIP && case.call != SPECIAL {
             return Err("no such call");
         }
         if case.call == UNROUTED && case.work > MOST_LIST {
             return Err("output too large");
         }
-        if case.call != PLAIN && case.work > MOST_WORK {
+        if case.call < UNROUTED && case.work > MOST_WORK {
             return Err("work room too large");
         }
         Ok((case, &rest[length..]))
@@ -90,6 +97,8 @@ impl Case {
             COVER => format!("cover query of {}/{}", dotted(self.query), self.query_length),
             LOOKUP => format!("lookup of {}", dotted(self.query)),
             HELD => "addresses held".to_string(),
+            CHIP => "chip image".to_string(),
+            SPECIAL => format!("special use by RFC {}", self.query),
             _ => "list of what has no route".to_string(),
         };
         if self.strict {
@@ -98,6 +107,8 @@ impl Case {
         let _ = match self.call {
             UNROUTED => writeln!(text, "; {} bytes of output, {} bytes of table", self.work, self.table.len()),
             PLAIN => writeln!(text, "; {} bytes of output, {} bytes of table", self.room, self.table.len()),
+            CHIP => writeln!(text, "; {} bytes of image, {} bytes of table", self.room, self.table.len()),
+            SPECIAL => writeln!(text, "; {} bytes of table", self.table.len()),
             _ => writeln!(
                 text,
                 "; {} words of work room, {} bytes of output, {} bytes of table",
@@ -126,6 +137,10 @@ pub enum Answer {
     Addresses(u64),
     /// The prefixes without a route.
     Unrouted(Vec<Route>),
+    /// The used slots of the chip's image, in slot order.
+    Slots(Vec<Route>),
+    /// The first record in a special-use range.
+    Special(Option<usize>),
 }
 
 impl Answer {
@@ -153,6 +168,14 @@ impl Answer {
                 }
                 writeln!(text, "unrouted {}", list.len())
             }
+            Answer::Slots(slots) => {
+                for &(address, length, hop) in slots {
+                    let _ = writeln!(text, "{}/{length} {hop}", dotted(address));
+                }
+                writeln!(text, "slots {}", slots.len())
+            }
+            Answer::Special(Some(at)) => writeln!(text, "special at {at}"),
+            Answer::Special(None) => writeln!(text, "none special"),
         };
         text
     }

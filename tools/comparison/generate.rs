@@ -3,7 +3,7 @@
 
 use std::collections::BTreeMap;
 
-use crate::case::{table_of, Answer, Case, Route, COVER, HELD, LOOKUP, MOST_LIST, MOST_WORK, PLAIN, REWRITE, UNROUTED};
+use crate::case::{table_of, Answer, Case, Route, CHIP, COVER, HELD, LOOKUP, MOST_LIST, MOST_WORK, PLAIN, REWRITE, SPECIAL, UNROUTED};
 use crate::model::{self, Fault};
 
 /// A case, what it is, and the refusal that its damage was planned to give.
@@ -286,6 +286,29 @@ fn ask(random: &mut Random, case: &mut Case, routes: &[Route]) {
     }
 }
 
+/// Puts records into a table that lie in, at, beside and above the special-use ranges of one of the editions, and names an edition.
+fn near_special(random: &mut Random, case: &mut Case, routes: &mut Vec<Route>) {
+    case.query = random.pick(&[5735, 6890]);
+    let ranges = model::ranges(random.pick(&[5735, 6890]), Fault::None).unwrap_or_default();
+    // Most tables keep few records, so that the first in a range is not always the first of all.
+    if random.chance(60) {
+        routes.retain(|route| route.1 > 0 && !ranges.iter().any(|range| route.0 & mask(range.1 as u32) == range.0));
+    }
+    for _ in 0..random.below(4) {
+        let (address, length, _) = random.pick(&ranges);
+        let (address, length) = match random.below(4) {
+            0 => (address, length),
+            1 => (address, length.saturating_sub(1)),
+            2 => ((address | !mask(length as u32)).wrapping_add(1), length),
+            _ => (address | random.address() & !mask(length as u32), random.within(length as usize, 32) as u8),
+        };
+        routes.push((address & mask(length as u32), length, random.below(64) as u8));
+    }
+    routes.sort();
+    routes.dedup_by_key(|route| (route.0, route.1));
+    routes.truncate(1024);
+}
+
 /// Sets host bits in some of the records, or in none or all.
 fn loosen(random: &mut Random, table: &mut [u8]) {
     let loosened = random.pick(&[0, 10, 50, 100]);
@@ -308,9 +331,19 @@ fn make_room(random: &mut Random, case: &mut Case, rooms: usize) {
         case.room = random.pick(&[0, 7, 8, 8_200]);
         return;
     };
-    if case.call == LOOKUP || case.call == HELD {
+    if case.call == LOOKUP || case.call == HELD || case.call == SPECIAL {
         case.work = 0;
         case.room = 0;
+        return;
+    }
+    if case.call == CHIP {
+        case.work = random.pick(&[0, u32::MAX]);
+        case.room = match rooms {
+            0 => 8_192,
+            1 => random.pick(&[8_193, 8_200, 16_384, 65_535]),
+            3 => 8_191,
+            _ => 0,
+        };
         return;
     }
     if case.call == UNROUTED {
@@ -352,8 +385,8 @@ fn whole(random: &mut Random, call: u8, mode: u8, shape: usize, rooms: usize) ->
     let rooms = match (call, rooms) {
         (COVER, 3 | 6) => 0,
         (COVER, 4) => 2,
-        (UNROUTED, 2 | 5) => 0,
-        (UNROUTED, 4) => 3,
+        (UNROUTED | CHIP, 2 | 5) => 0,
+        (UNROUTED | CHIP, 4) => 3,
         _ => rooms,
     };
     let hop_count = if shape == 18 && random.chance(50) { 64 } else { random.pick(&[1, 2, 2, 3, 4, 5, 8, 16, 63, 64]) };
@@ -368,13 +401,16 @@ fn whole(random: &mut Random, call: u8, mode: u8, shape: usize, rooms: usize) ->
         routes = without_hops(routes);
     }
     ask(random, &mut case, &routes);
+    if call == SPECIAL {
+        near_special(random, &mut case, &mut routes);
+    }
     case.table = table_of(&routes);
     case.strict = random.chance(25);
     if !case.strict {
         loosen(random, &mut case.table);
     }
     make_room(random, &mut case, rooms);
-    let rooms = if call == LOOKUP || call == HELD { "none lent" } else { ROOMS[rooms] };
+    let rooms = if call == LOOKUP || call == HELD || call == SPECIAL { "none lent" } else { ROOMS[rooms] };
     Made { case, shape: SHAPES[shape], rooms, damage: None }
 }
 
@@ -384,6 +420,8 @@ pub fn numbers(call: u8) -> &'static [u8] {
         REWRITE => &[1, 2, 3, 4, 5, 6, 7, 8, 10, 11],
         COVER => &[3, 4, 5, 6, 7, 8, 9, 10],
         UNROUTED => &[3, 4, 5, 6, 7, 8, 11],
+        CHIP => &[3, 4, 5, 6, 7, 8, 12],
+        SPECIAL => &[14, 3, 4, 5, 6, 7, 8],
         _ => &[3, 4, 5, 6, 7, 8],
     }
 }
@@ -484,8 +522,14 @@ fn damaged(random: &mut Random, call: u8, first: u8, second: u8, order: Order, s
         loosen(random, &mut case.table);
     }
     ask(random, &mut case, &routes);
+    if call == SPECIAL {
+        case.query = if has(14) { random.pick(&[0, 1, 5734, 5736, 6889, 6891, u32::MAX]) } else { random.pick(&[5735, 6890]) };
+    }
     case.query_length = if has(9) { random.pick(&[33, 33, 34, 64, 255]) } else { random.pick(&[0, 8, 31, 32]) };
-    if call == UNROUTED {
+    if call == CHIP {
+        make_room(random, &mut case, 0);
+        case.room = if has(12) { random.pick(&[0, 8_191, 8_193, 65_535]) } else { 8_192 };
+    } else if call == UNROUTED {
         case.work = MOST_LIST;
         if has(4) {
             case.work = if has(11) { 0 } else { MOST_LIST };
@@ -548,11 +592,13 @@ fn damaged(random: &mut Random, call: u8, first: u8, second: u8, order: Order, s
 pub fn seeded(seed: u64, index: u64) -> Made {
     let random = &mut Random::new(seed, index);
     let call = match random.below(100) {
-        0..=59 => REWRITE,
-        60..=76 => COVER,
-        77..=86 => LOOKUP,
-        87..=91 => HELD,
-        _ => UNROUTED,
+        0..=54 => REWRITE,
+        55..=70 => COVER,
+        71..=79 => LOOKUP,
+        80..=84 => HELD,
+        85..=90 => UNROUTED,
+        91..=95 => CHIP,
+        _ => SPECIAL,
     };
     if random.chance(20) {
         // Damage by number 4 needs a long table, and comes less often.
@@ -736,15 +782,58 @@ pub fn fixed() -> Vec<Made> {
             list.push(damaged(random, UNROUTED, first, second, order, Size::Few));
         }
     }
+    // The chip's image: every shape, the full tables, image rooms of other sizes, the refusals and their pairs with 12.
+    for shape in 0..SHAPES.len() {
+        list.push(small(random, CHIP, 0, shape, 0));
+    }
+    for rooms in [1, 3, 6] {
+        list.push(small(random, CHIP, 0, 14, rooms));
+    }
+    for &number in numbers(CHIP) {
+        list.push(damaged(random, CHIP, number, 0, Order::Same, size(number, 0)));
+    }
+    for (first, second, order) in pairs(CHIP) {
+        if second == 12 && first != 4 {
+            list.push(damaged(random, CHIP, first, second, order, Size::Few));
+        }
+    }
+    // Special use: both editions on every shape, at every range of both, one bit wider and one bit longer; the refusals.
+    for shape in 0..LARGE {
+        list.push(small(random, SPECIAL, 0, shape, 0));
+    }
+    for edition in [5735, 6890] {
+        let first = model::ranges(edition, Fault::None).unwrap_or_default();
+        for (address, length, _) in first.into_iter().chain([prefix("100.64.0.0/10"), prefix("192.0.0.0/29"), prefix("224.0.0.0/4")]) {
+            for other in [length, length - 1, (length + 1).min(32)] {
+                let routes = [(address & mask(other as u32), other, 5)];
+                let mut made = edge(SPECIAL, 0, 0, 0, &table_of(&routes));
+                made.case.query = edition;
+                list.push(made);
+            }
+        }
+    }
+    for &number in numbers(SPECIAL) {
+        list.push(damaged(random, SPECIAL, number, 0, Order::Same, size(number, 0)));
+    }
+    for (first, second, order) in pairs(SPECIAL) {
+        if first == 14 && second != 4 {
+            list.push(damaged(random, SPECIAL, first, second, order, Size::Few));
+        }
+    }
     // Host bits, masked and refused: the octets of 10.0.0.0/8 in the wrong order; two records that mask to one prefix; records in order only once they
     // are masked; every bit past the length set.
     for text in ["0.0.0.10/8>1", "10.1.2.3/8>1 10.4.5.6/8>1", "10.9.0.0/8>1 10.1.0.0/16>2", "255.255.255.255/0>1 255.255.255.255/1>2"]
     {
-        for call in [REWRITE, COVER, LOOKUP, HELD, UNROUTED] {
+        for call in [REWRITE, COVER, LOOKUP, HELD, UNROUTED, CHIP, SPECIAL] {
             for strict in [false, true] {
                 let hops = if call == COVER { without_hops(prefixes(text)) } else { prefixes(text) };
                 let mut made = edge(call, 4, 0, 8, &table_of(&hops));
                 made.case.strict = strict;
+                match call {
+                    CHIP => made.case.room = 8_192,
+                    SPECIAL => made.case.query = 6890,
+                    _ => {}
+                }
                 list.push(made);
             }
         }

@@ -15,7 +15,7 @@ use std::process::{exit, Command, Stdio};
 use std::sync::{Mutex, OnceLock};
 use std::thread;
 
-use case::{Answer, Case, Route, COVER, HELD, LOOKUP, PLAIN, REWRITE, UNROUTED};
+use case::{Answer, Case, Route, CHIP, COVER, HELD, LOOKUP, PLAIN, REWRITE, SPECIAL, UNROUTED};
 use generate::Made;
 use model::Fault;
 
@@ -52,7 +52,20 @@ fn listed_by_crate(routes: &[Route], list: &[Route]) -> bool {
     found.iter().zip(&none).all(|(found, none)| found.is_none() == *none) && oracle::rewrite(1, 0, list) == (list.to_vec(), 0)
 }
 
-/// The answer that is expected: refusals 1 to 9 and the list of what has no route by the model, all else by the crate.
+/// Does the first slot that matches answer as the crate's longest match, at the edges of every slot's prefix and beside them?
+fn matched_by_crate(routes: &[Route], slots: &[Route]) -> bool {
+    let mut asked = vec![0, u32::MAX];
+    for slot in slots {
+        let (first, last) = (slot.0, last_of(slot) as u32);
+        asked.extend([first, last, first.wrapping_sub(1), last.wrapping_add(1)]);
+    }
+    let matches = |slot: &&Route, address: u32| (slot.0 as u64..=last_of(slot)).contains(&(address as u64));
+    let first_match = |&address: &u32| slots.iter().find(|slot| matches(slot, address)).map(|slot| (slot.2, slot.1));
+    oracle::lookups(routes, &asked).into_iter().eq(asked.iter().map(first_match))
+}
+
+/// The answer that is expected: refusals 1 to 9, 12 and 14, the list of what has no route and the chip's image by the model, all else by the crate,
+/// which is asked about those two all the same.
 fn expected(case: &Case) -> Answer {
     if let Err((number, at)) = model::accepted(case, Fault::None) {
         return Answer::Refused(number, at);
@@ -74,11 +87,19 @@ fn expected(case: &Case) -> Answer {
         COVER if work_short() => Answer::Refused(10, 0),
         COVER => Answer::Covered(oracle::covers(&routes, case.query, case.query_length)),
         LOOKUP => Answer::Match(oracle::lookup(&routes, case.query)),
+        SPECIAL => {
+            let ranges = model::ranges(case.query, Fault::None).unwrap_or_default();
+            Answer::Special(oracle::within(&ranges, &routes).into_iter().position(|inside| inside))
+        }
         HELD => Answer::Addresses(oracle::addresses(&routes).map_or(1 << 32, u64::from)),
         _ => {
             let answer = model::answer(case, Fault::None);
-            if let Answer::Unrouted(list) = &answer {
-                assert!(listed_by_crate(&routes, list), "the crate finds another list of what has no route");
+            match &answer {
+                Answer::Unrouted(list) => assert!(listed_by_crate(&routes, list), "the crate finds another list of what has no route"),
+                Answer::Slots(slots) => {
+                    assert!(matched_by_crate(&routes, slots), "the crate finds another answer than the first slot's")
+                }
+                _ => {}
             }
             answer
         }
@@ -145,6 +166,8 @@ impl Counts {
             COVER => "cover query".to_string(),
             LOOKUP => "lookup".to_string(),
             HELD => "addresses held".to_string(),
+            CHIP => "chip image".to_string(),
+            SPECIAL => format!("special use, RFC {}", if [5735, 6890].contains(&made.case.query) { made.case.query } else { 0 }),
             _ => "list of what has no route".to_string(),
         };
         let outcome = match answer {
@@ -160,6 +183,10 @@ impl Counts {
             Answer::Unrouted(list) if list.is_empty() => "nothing",
             Answer::Unrouted(list) if list.len() > 1_024 => "more than 1,024",
             Answer::Unrouted(_) => "at most 1,024",
+            Answer::Slots(slots) if slots.len() == 1_024 => "full",
+            Answer::Slots(_) => "slots",
+            Answer::Special(Some(_)) => "a record",
+            Answer::Special(None) => "none",
         };
         self.add(format!("call     {call}: {outcome}"));
         if let Answer::Refused(number, _) = answer {
@@ -399,7 +426,9 @@ fn check_ends(command: &str) {
         tries.push((good[..cut].to_vec(), String::new()));
         tries.push(([&good[..], &good[..cut]].concat(), text.clone()));
     }
-    for bytes in [&[(0, PLAIN + 1)][..], &[(0, 255)], &[(8, 1)], &[(0, UNROUTED), (8, 0), (9, 4), (10, 0), (11, 1)]] {
+    for bytes in
+        [&[(0, CHIP + 1)][..], &[(0, SPECIAL + 1)], &[(0, 255)], &[(8, 1)], &[(0, UNROUTED), (8, 0), (9, 4), (10, 0), (11, 1)]]
+    {
         let mut odd = good.clone();
         bytes.iter().for_each(|&(at, byte)| odd[at] = byte);
         tries.push(([&good[..], &odd].concat(), text.clone()));

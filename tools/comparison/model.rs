@@ -4,7 +4,7 @@
 //! A call of the model can be given a fault, a planted mistake: `tools/compare --self-test` shows with them that the comparison
 //! finds mistakes. `Fault::None` is the model itself.
 
-use crate::case::{Answer, Case, Route, COVER, HELD, LOOKUP, PLAIN, REWRITE, UNROUTED};
+use crate::case::{Answer, Case, Route, CHIP, COVER, HELD, LOOKUP, PLAIN, REWRITE, SPECIAL, UNROUTED};
 
 #[derive(Clone, Copy, PartialEq, Eq, Debug)]
 pub enum Fault {
@@ -44,10 +44,16 @@ pub enum Fault {
     HostBitsRefused,
     OrderUnmasked,
     RoutesUnmasked,
+    SlotsByRisingLength,
+    SlotsByFallingAddress,
+    ImageMayBeLonger,
+    WiderIsSpecial,
+    LastSpecial,
+    EditionsAlike,
 }
 
 /// Each planted mistake and what it does wrong.
-pub const FAULTS: [(Fault, &str); 35] = [
+pub const FAULTS: [(Fault, &str); 41] = [
     (Fault::LargestHop, "modes 4, 5: the largest hop of a set instead of the smallest"),
     (Fault::HoleIsEmptySet, "mode 4: a hole taken as an empty set"),
     (Fault::AlwaysSmallest, "modes 4, 5: the smallest hop even where the hop above is in the set"),
@@ -83,6 +89,12 @@ pub const FAULTS: [(Fault, &str); 35] = [
     (Fault::HostBitsRefused, "number 6: given without the strict choice"),
     (Fault::OrderUnmasked, "number 8: judged on the address as it stands"),
     (Fault::RoutesUnmasked, "the wire: host bits taken into the route"),
+    (Fault::SlotsByRisingLength, "chip image: the shortest prefixes first"),
+    (Fault::SlotsByFallingAddress, "chip image: within a length the last address first"),
+    (Fault::ImageMayBeLonger, "number 12: not given to an image room of more than 8,192 bytes"),
+    (Fault::WiderIsSpecial, "special use: a record wider than the range named"),
+    (Fault::LastSpecial, "special use: the last such record named"),
+    (Fault::EditionsAlike, "special use: RFC 6890 read as RFC 5735"),
 ];
 
 /// The first `length` bits set.
@@ -133,7 +145,7 @@ fn bad_record(record: &[u8], before: Option<&[u8]>, is_map: bool, strict: bool, 
     None
 }
 
-/// The routes of an accepted call's table, or the refusal by a number of 1 to 9.
+/// The routes of an accepted call's table, or the refusal by a number of 1 to 9 or 14.
 pub fn accepted(case: &Case, fault: Fault) -> Result<Vec<Route>, (u8, usize)> {
     if case.call == REWRITE || case.call == PLAIN {
         let known = match case.call {
@@ -146,6 +158,9 @@ pub fn accepted(case: &Case, fault: Fault) -> Result<Vec<Route>, (u8, usize)> {
         if (case.mode == 5 || fault == Fault::DefaultAlwaysRead) && case.default > 63 {
             return Err((2, 0));
         }
+    }
+    if case.call == SPECIAL && ranges(case.query, fault).is_none() {
+        return Err((14, 0));
     }
     let table = &case.table;
     if table.len() % 8 != 0 {
@@ -431,6 +446,81 @@ fn unrouted(routes: &[Route], fault: Fault) -> Vec<Route> {
     }
 }
 
+/// The records as the chip has them: by falling length, within a length by rising address.
+fn slots(mut routes: Vec<Route>, fault: Fault) -> Vec<Route> {
+    match fault {
+        Fault::SlotsByRisingLength => routes.sort_by_key(|route| (route.1, route.0)),
+        Fault::SlotsByFallingAddress => routes.sort_by_key(|route| (32 - route.1, !route.0)),
+        _ => routes.sort_by_key(|route| (32 - route.1, route.0)),
+    }
+    routes
+}
+
+/// RFC 5735, section 4.
+const RFC_5735: [(&str, u8); 15] = [
+    ("0.0.0.0", 8),
+    ("10.0.0.0", 8),
+    ("127.0.0.0", 8),
+    ("169.254.0.0", 16),
+    ("172.16.0.0", 12),
+    ("192.0.0.0", 24),
+    ("192.0.2.0", 24),
+    ("192.88.99.0", 24),
+    ("192.168.0.0", 16),
+    ("198.18.0.0", 15),
+    ("198.51.100.0", 24),
+    ("203.0.113.0", 24),
+    ("224.0.0.0", 4),
+    ("240.0.0.0", 4),
+    ("255.255.255.255", 32),
+];
+
+/// RFC 6890, section 2.2.2.
+const RFC_6890: [(&str, u8); 16] = [
+    ("0.0.0.0", 8),
+    ("10.0.0.0", 8),
+    ("100.64.0.0", 10),
+    ("127.0.0.0", 8),
+    ("169.254.0.0", 16),
+    ("172.16.0.0", 12),
+    ("192.0.0.0", 24),
+    ("192.0.0.0", 29),
+    ("192.0.2.0", 24),
+    ("192.88.99.0", 24),
+    ("192.168.0.0", 16),
+    ("198.18.0.0", 15),
+    ("198.51.100.0", 24),
+    ("203.0.113.0", 24),
+    ("240.0.0.0", 4),
+    ("255.255.255.255", 32),
+];
+
+/// The ranges of an edition.
+pub fn ranges(edition: u32, fault: Fault) -> Option<Vec<Route>> {
+    let list: &[(&str, u8)] = match edition {
+        5735 => &RFC_5735,
+        6890 if fault == Fault::EditionsAlike => &RFC_5735,
+        6890 => &RFC_6890,
+        _ => return None,
+    };
+    let range = |&(address, length): &(&str, u8)| (u32::from(address.parse::<std::net::Ipv4Addr>().unwrap()), length, 0);
+    Some(list.iter().map(range).collect())
+}
+
+/// The first record all of whose addresses lie in one of the ranges.
+fn special(routes: &[Route], ranges: &[Route], fault: Fault) -> Option<usize> {
+    let inside = |route: &Route, range: &Route| route.0 & mask(range.1 as u32) == range.0 && route.1 >= range.1;
+    let overlaps = |route: &Route, range: &Route| inside(route, range) || inside(range, route);
+    let named = |route: &Route| match fault {
+        Fault::WiderIsSpecial => ranges.iter().any(|range| overlaps(route, range)),
+        _ => ranges.iter().any(|range| inside(route, range)),
+    };
+    match fault {
+        Fault::LastSpecial => routes.iter().rposition(named),
+        _ => routes.iter().position(named),
+    }
+}
+
 /// The model's answer to a case.
 pub fn answer(case: &Case, fault: Fault) -> Answer {
     let routes = match accepted(case, fault) {
@@ -465,6 +555,9 @@ pub fn answer(case: &Case, fault: Fault) -> Answer {
             }
             Answer::Unrouted(list)
         }
+        CHIP if case.room < 8192 || case.room > 8192 && fault != Fault::ImageMayBeLonger => Answer::Refused(12, 0),
+        CHIP => Answer::Slots(slots(routes, fault)),
+        SPECIAL => Answer::Special(special(&routes, &ranges(case.query, fault).unwrap_or_default(), fault)),
         _ => unreachable!("a case names a call"),
     }
 }

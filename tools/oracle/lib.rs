@@ -205,6 +205,12 @@ pub fn lookups(routes: &[Route], addresses: &[u32]) -> Vec<Option<(u8, u8)>> {
     addresses.iter().map(longest).collect()
 }
 
+/// Which of these prefixes lie in one of the ranges: the crate's longest match of a prefix, which has an entry at or above it.
+pub fn within(ranges: &[Route], prefixes: &[Route]) -> Vec<bool> {
+    let table = filled(ranges.iter().copied(), |_| ());
+    prefixes.iter().map(|&(address, length, _)| table.find_lpm(address, length as u32).is_some()).collect()
+}
+
 /// The crate's count of the addresses that the prefixes cover. It gives none where they are all 2^32: a /0, or a sum that 32 bits do not hold.
 pub fn addresses(routes: &[Route]) -> Option<u32> {
     filled(routes.iter().copied(), |hop| hop).address_count::<(u32, u8)>()

@@ -106,7 +106,7 @@ module _ (head t : List ℕ) where
 -- ---- What a call leaves in the rooms.
 
 -- A list of one value is that throughout, and so is its end.
-all-replicate : (v n : ℕ) → allAre v (replicate n v) ≡ true
+pub all-replicate : (v n : ℕ) → allAre v (replicate n v) ≡ true
 unfolding allAre
 all-replicate v zero = refl
 all-replicate v (suc n) = ap (_&& allAre v (replicate n v)) (eq-eqb v v refl) ∙ all-replicate v n

@@ -1,2 +1,5 @@
 -- What the program replay keeps.
 pub mod Kept
+pub mod Lines
+pub mod SpecialKept
+pub mod ChipKept

@@ -5,12 +5,14 @@ use super::FILLED_BYTE;
 use super::FILLED_WORD;
 use super::Turn;
 use super::call_of;
+use super::chip_cases::chip_turn;
 use super::form_of;
 use super::join2;
 use super::keep_output;
 use super::keep_work;
 use super::last_line;
 use super::room_for;
+use super::special_cases::special_turn;
 use aggregate::covers;
 use aggregate::rewrite;
 use calls::Rewritten;
@@ -105,7 +107,15 @@ pub fn plain_turn(
     ensures { λ r. ⌜ Put (plainCase (now (head .entry)) (now (table .entry))) (beginOf at) r (now (kept .entry)) (now (kept .exit)) ⌝ }
 {
     let room = join2(head[12], head[13]);
-    keep_plain(head[1], head[2], table, form_of(head[0]), &mut output[..room], at, kept)
+    keep_plain(
+        head[1],
+        head[2],
+        table,
+        form_of(head[0]),
+        &mut output[..room],
+        at,
+        kept,
+    )
 }
 
 // Keeps the answer of the cover query.
@@ -199,7 +209,7 @@ pub fn listed_turn(
     }
 }
 
-// Keeps the answer of a case but for calls 4 and 5: its first 16 bytes, its table, and the rooms of which it is lent as much as it says.
+// Keeps the answer of a case with call 0 to 3: its first 16 bytes, its table, and the rooms of which it is lent as much as it says.
 pub fn keep_answer(
     head: &[u8; 16],
     table: &[u8],
@@ -257,6 +267,18 @@ pub fn case_turn(
     ensures { λ r. ⌜ r .at ≤ length (now (kept .entry)) ⌝ }
 {
     let call = call_of(head[0]);
+    if call == 6 {
+        return Turn {
+            at: chip_turn(head, table, output, at, kept),
+            more: true,
+        };
+    }
+    if call == 9 {
+        return Turn {
+            at: special_turn(head, table, at, kept),
+            more: true,
+        };
+    }
     if 5 < call {
         return last_line(b"no such call\n", at, kept);
     }

@@ -2,6 +2,9 @@
 // That what is kept is the text of the right answers is proved; what reading and writing do is not said by a contract.
 
 pub mod cases;
+mod chip_cases;
+mod counted;
+mod special_cases;
 
 use libc::STDOUT_FILENO;
 use records::Form;

@@ -27,7 +27,7 @@ use Rattle.special.proofs.Inside.{first-exactly}
 use Rattle.special.proofs.Listed.{list-table, edition-is, edition-kept, edition-failed}
 
 -- Answers that say the same are the same.
-special-same : (a b : Special) → specialSays a ≡ specialSays b → a ≡ b
+pub special-same : (a b : Special) → specialSays a ≡ specialSays b → a ≡ b
 special-same (At i) (At j) e = cc
 special-same (At i) Nothing e = let z : _≡_ {A = ℕ} 0 1 = cc in absurd (omega arith)
 special-same (At i) (Refused n j) e = let z : _≡_ {A = ℕ} 0 1 = cc in absurd (omega arith)
@@ -65,7 +65,7 @@ module _ (form : Form) (t : List ℕ) (edition : ℕ) where
   special-breaks n i (no-edition f) = inl (edition-failed edition f, refl, refl)
   special-breaks n i (of-table c) = inr (table-tests form false t n i .1 c)
 
-  special-tests : (n i : ℕ) → Broken (specialRules form t edition) n i ↔ Holds n i
+  pub special-tests : (n i : ℕ) → Broken (specialRules form t edition) n i ↔ SpecialCondition form t edition n i
   special-tests n i = (special-broken n i, special-breaks n i)
 
   -- None of the conditions holds exactly for an edition and an accepted table.

@@ -16,7 +16,8 @@ use Rattle.table.proofs.Tested.{table-numbers}
 use Rattle.table.specs.Conditions.{TableCondition}
 use Rattle.calls.specs.Conditions.{RewriteCondition, no-mode, large-default, of-table, short-work, short-output, CoverCondition, of-set, long-query, short-room}
 use Rattle.refusals.specs.Order.{First, None}
-use Rattle.records.specs.Wire.{routes}
+use Rattle.refusals.proofs.Judged.{gives-exactly}
+use Rattle.records.specs.Wire.{records, routes}
 use Rattle.records.specs.declared.Form.{Form}
 use Rattle.nodecount.specs.Nodes.{nodes}
 use Rattle.workroom.specs.Needed.{wordsSays}
@@ -36,8 +37,17 @@ use Rattle.holes.specs.Conditions.{UnroutedCondition, of-table as of-map, short
 use Rattle.holes.specs.Listing.{holesOf, listedSays}
 use Rattle.holes.specs.declared.Listed.the-variants.{Records as Listing, Refused as NotListed}
 use Rattle.holes.proofs.Calls.{listed-same, none-exactly, unrouted-listed, unrouted-refused}
+use Rattle.special.specs.Calls.{specialSays, specialRules, SpecialCondition, no-edition, of-table as of-searched}
+use Rattle.special.specs.Editions.{rangesOf}
+use Rattle.special.specs.Ranges.{Place, firstSpecial}
+use Rattle.special.specs.declared.Special.the-variants.{Refused as NotSearched}
+use Rattle.special.proofs.Calls.{special-same, special-tests, special-refused}
+use Rattle.chip.specs.Conditions.{LoadCondition, of-table as of-loaded, wrong-size}
+use Rattle.chip.specs.Loading.{loadRules, loadedSays}
+use Rattle.chip.specs.declared.Loaded.the-variants.{Refused as NotLoaded}
+use Rattle.chip.proofs.Calls.{loaded-same, load-tests, load-refused}
 use Rattle.suovvamet.specs.Numbers.{formBy, numberOf, indexOf, isSetBy, wordsOf}
-use Rattle.suovvamet.specs.Calls.{RewriteInC, PlainInC, CoversInC, LookupInC, HeldInC, WordsInC, UnroutedInC}
+use Rattle.suovvamet.specs.Calls.{RewriteInC, PlainInC, CoversInC, LookupInC, HeldInC, WordsInC, UnroutedInC, SpecialInC, ChipInC}
 
 -- ---- No condition has the number 0.
 table-number : {form : Form} {s : Bool} {t : List ℕ} {n i : ℕ} → TableCondition form s t n i → 1 ≤ n
@@ -64,6 +74,14 @@ cover-number (short-room h) = omega arith
 unrouted-number : {form : Form} {t : List ℕ} {room n i : ℕ} → UnroutedCondition form t room n i → 1 ≤ n
 unrouted-number (of-map c) = table-number c
 unrouted-number (short-list h) = omega arith
+
+special-number : {form : Form} {t : List ℕ} {edition n i : ℕ} → SpecialCondition form t edition n i → 1 ≤ n
+special-number (no-edition f) = omega arith
+special-number (of-searched c) = table-number c
+
+load-number : {form : Form} {t : List ℕ} {size n i : ℕ} → LoadCondition form t size n i → 1 ≤ n
+load-number (of-loaded c) = table-number c
+load-number (wrong-size f) = omega arith
 
 -- ---- Number 10 is the work room's alone.
 table-below : {form : Form} {s : Bool} {t : List ℕ} {n i : ℕ} → TableCondition form s t n i → n ≤ 8
@@ -275,3 +293,51 @@ module _ (t : List ℕ) (flags : ℕ) (o : List ℕ) {number count index : ℕ} 
   -- Else it is, with the index, the first that holds.
   pub unrouted-in-c-refused : (n i : ℕ) → ((1 ≤ n) × (number ≡ n) × (index ≡ i)) ↔ First (UnroutedCondition (formBy flags) t (length o)) n i
   unrouted-in-c-refused = numbered (listedSays (ok .answer)) given-list refused-list (λ n i f. unrouted-number (f .0)) (ok .number-is) (ok .index-is)
+
+-- ---- Special use.
+module _ (t : List ℕ) (flags edition : ℕ) {number found place index : ℕ} (ok : SpecialInC t flags edition number found place index) where
+  abbrev first : Place
+  first = firstSpecial 32 (rangesOf edition) (routes t)
+
+  given-special : ((p : Place) × (specialSays (ok .answer) ≡ gives p)) ↔ None (SpecialCondition (formBy flags) t edition)
+  given-special = (
+    λ (p, e). gives-exactly (specialRules (formBy flags) t edition) (special-tests (formBy flags) t edition) first {b = p} .0 (sym (ok .replies) ∙ e) .0,
+    λ none. (first, ok .replies ∙ gives-exactly (specialRules (formBy flags) t edition) (special-tests (formBy flags) t edition) first {b = first} .1 (none, refl)),
+  )
+
+  refused-special : (n i : ℕ) → specialSays (ok .answer) ≡ refuses n i ↔ First (SpecialCondition (formBy flags) t edition) n i
+  refused-special n i =
+      let exactly = special-refused (formBy flags) t edition (ok .answer) (ok .replies) n i in
+      (λ e. exactly .0 (special-same (ok .answer) (NotSearched n i) e), λ f. ap specialSays (exactly .1 f))
+
+  -- The result is 0 exactly when no condition for a refusal holds.
+  pub special-in-c-answered : number ≡ 0 ↔ None (SpecialCondition (formBy flags) t edition)
+  special-in-c-answered = answered (specialSays (ok .answer)) given-special refused-special (λ n i f. special-number (f .0)) (ok .number-is) (ok .index-is)
+
+  -- Else it is, with the index, the first that holds.
+  pub special-in-c-refused : (n i : ℕ) → ((1 ≤ n) × (number ≡ n) × (index ≡ i)) ↔ First (SpecialCondition (formBy flags) t edition) n i
+  special-in-c-refused = numbered (specialSays (ok .answer)) given-special refused-special (λ n i f. special-number (f .0)) (ok .number-is) (ok .index-is)
+
+-- ---- The chip loader.
+module _ (t : List ℕ) (flags : ℕ) (m : List ℕ) {number slots index : ℕ} {m′ : List ℕ} (ok : ChipInC t flags m number slots index m′) where
+  given-chip : ((n : ℕ) × (loadedSays (ok .answer) ≡ gives n)) ↔ None (LoadCondition (formBy flags) t (length m))
+  given-chip = (
+    λ (n, e). gives-exactly (loadRules (formBy flags) t (length m)) (load-tests (formBy flags) t (length m)) (records t) {b = n} .0 (sym (ok .loads .answer) ∙ e) .0,
+    λ none. (
+      records t,
+      ok .loads .answer ∙ gives-exactly (loadRules (formBy flags) t (length m)) (load-tests (formBy flags) t (length m)) (records t) {b = records t} .1 (none, refl),
+    ),
+  )
+
+  refused-chip : (n i : ℕ) → loadedSays (ok .answer) ≡ refuses n i ↔ First (LoadCondition (formBy flags) t (length m)) n i
+  refused-chip n i =
+      let exactly = load-refused (formBy flags) t m (ok .answer) m′ (ok .loads) n i in
+      (λ e. exactly .0 (loaded-same (ok .answer) (NotLoaded n i) e), λ f. ap loadedSays (exactly .1 f))
+
+  -- The result is 0 exactly when no condition for a refusal holds.
+  pub chip-in-c-answered : number ≡ 0 ↔ None (LoadCondition (formBy flags) t (length m))
+  chip-in-c-answered = answered (loadedSays (ok .answer)) given-chip refused-chip (λ n i f. load-number (f .0)) (ok .number-is) (ok .index-is)
+
+  -- Else it is, with the index, the first that holds.
+  pub chip-in-c-refused : (n i : ℕ) → ((1 ≤ n) × (number ≡ n) × (index ≡ i)) ↔ First (LoadCondition (formBy flags) t (length m)) n i
+  chip-in-c-refused = numbered (loadedSays (ok .answer)) given-chip refused-chip (λ n i f. load-number (f .0)) (ok .number-is) (ok .index-is)

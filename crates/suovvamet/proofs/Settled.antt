@@ -20,8 +20,14 @@ use Rattle.plain.proofs.Calls.{plain-settled}
 use Rattle.holes.specs.Listing.{listedSays, listedCount}
 use Rattle.holes.specs.declared.Listed.{Listed}
 use Rattle.holes.proofs.Calls.{unrouted-settled}
-use Rattle.suovvamet.specs.Numbers.{formBy, numberOf, indexOf, coveredOf, foundOf, hopOf, lengthOf, addressesOf, isSetBy, wordsOf}
-use Rattle.suovvamet.specs.Calls.{RewriteInC, PlainInC, CoversInC, LookupInC, HeldInC, WordsInC, UnroutedInC}
+use Rattle.special.specs.Calls.{specialSays}
+use Rattle.special.specs.declared.Special.{Special}
+use Rattle.special.proofs.Calls.{special-unique}
+use Rattle.chip.specs.Loading.{loadedSays}
+use Rattle.chip.specs.declared.Loaded.{Loaded}
+use Rattle.chip.proofs.Calls.{load-settled}
+use Rattle.suovvamet.specs.Numbers.{formBy, numberOf, indexOf, coveredOf, foundOf, hopOf, lengthOf, addressesOf, isSetBy, wordsOf, namedOf, recordOf, slotsUsed}
+use Rattle.suovvamet.specs.Calls.{RewriteInC, PlainInC, CoversInC, LookupInC, HeldInC, WordsInC, UnroutedInC, SpecialInC, ChipInC}
 
 -- Parts of two answers that are the same are the same.
 same-part : {R N : Type 0} (part : R → N) {a b : R} {m n : N} → a ≡ b → m ≡ part a → n ≡ part b → m ≡ n
@@ -110,5 +116,29 @@ unrouted-in-c-settled t flags o {o′ = o′} {o₁ = o₁} a b =
       same-part (λ (r : Listed). numberOf (listedSays r)) (s .0) (a .number-is) (b .number-is),
       same-part listedCount (s .0) (a .count-is) (b .count-is),
       same-part (λ (r : Listed). indexOf (listedSays r)) (s .0) (a .index-is) (b .index-is),
+      s .1,
+    )
+
+-- Of special use: the number, whether a record was found, which one, and the index.
+pub special-in-c-settled : (t : List ℕ) (flags edition : ℕ) {number number₁ found found₁ place place₁ index index₁ : ℕ}
+    → SpecialInC t flags edition number found place index → SpecialInC t flags edition number₁ found₁ place₁ index₁
+    → (number ≡ number₁) × (found ≡ found₁) × (place ≡ place₁) × (index ≡ index₁)
+special-in-c-settled t flags edition a b =
+    let e = special-unique (formBy flags) t edition (a .answer) (b .answer) (a .replies) (b .replies) in (
+      same-part (λ (r : Special). numberOf (specialSays r)) e (a .number-is) (b .number-is),
+      same-part namedOf e (a .found-is) (b .found-is),
+      same-part recordOf e (a .place-is) (b .place-is),
+      same-part (λ (r : Special). indexOf (specialSays r)) e (a .index-is) (b .index-is),
+    )
+
+-- Of the chip loader: the number, the slots used, the index and the image.
+pub chip-in-c-settled : (t : List ℕ) (flags : ℕ) (m : List ℕ) {number number₁ slots slots₁ index index₁ : ℕ} {m′ m₁ : List ℕ}
+    → ChipInC t flags m number slots index m′ → ChipInC t flags m number₁ slots₁ index₁ m₁
+    → (number ≡ number₁) × (slots ≡ slots₁) × (index ≡ index₁) × (m′ ≡ m₁)
+chip-in-c-settled t flags m {m′ = m′} {m₁ = m₁} a b =
+    let s = load-settled (formBy flags) t m (a .answer) (b .answer) m′ m₁ (a .loads) (b .loads) in (
+      same-part (λ (r : Loaded). numberOf (loadedSays r)) (s .0) (a .number-is) (b .number-is),
+      same-part slotsUsed (s .0) (a .slots-is) (b .slots-is),
+      same-part (λ (r : Loaded). indexOf (loadedSays r)) (s .0) (a .index-is) (b .index-is),
       s .1,
     )

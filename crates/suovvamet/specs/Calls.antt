@@ -17,7 +17,11 @@ use Rattle.calls.specs.declared.Covers.{Covers}
 use Rattle.plain.specs.Rewriting.{plainRules}
 use Rattle.holes.specs.Listing.{listedSays, listedCount, Lists}
 use Rattle.holes.specs.declared.Listed.{Listed}
-use Rattle.suovvamet.specs.Numbers.{formBy, numberOf, indexOf, coveredOf, foundOf, hopOf, lengthOf, addressesOf, isSetBy, wordsOf}
+use Rattle.special.specs.Calls.{specialSays, specialReply}
+use Rattle.special.specs.declared.Special.{Special}
+use Rattle.chip.specs.Loading.{loadedSays, Loads}
+use Rattle.chip.specs.declared.Loaded.{Loaded}
+use Rattle.suovvamet.specs.Numbers.{formBy, numberOf, indexOf, coveredOf, foundOf, hopOf, lengthOf, addressesOf, isSetBy, wordsOf, namedOf, recordOf, slotsUsed}
 
 -- Of a rewrite: the table t, the output o and the room work were lent; the output is o′ then and the room work′.
 pub record RewriteInC (t : List ℕ) (flags mode default : ℕ) (o work : List ℕ) (number count : ℕ) (change : ℤ) (index : ℕ) (o′ work′ : List ℕ) : Type 0 where
@@ -78,3 +82,20 @@ pub record UnroutedInC (t : List ℕ) (flags : ℕ) (o : List ℕ) (number count
   pub number-is : number ≡ numberOf (listedSays answer)
   pub index-is : index ≡ indexOf (listedSays answer)
   pub count-is : count ≡ listedCount answer
+
+-- Of special use: whether a record was found, and its index.
+pub record SpecialInC (t : List ℕ) (flags edition number found place index : ℕ) : Type 0 where
+  pub answer : Special
+  pub replies : specialSays answer ≡ specialReply (formBy flags) t edition
+  pub number-is : number ≡ numberOf (specialSays answer)
+  pub index-is : index ≡ indexOf (specialSays answer)
+  pub found-is : found ≡ namedOf answer
+  pub place-is : place ≡ recordOf answer
+
+-- Of the chip loader: the table t and the image m were lent, and the image is m′ then.
+pub record ChipInC (t : List ℕ) (flags : ℕ) (m : List ℕ) (number slots index : ℕ) (m′ : List ℕ) : Type 0 where
+  pub answer : Loaded
+  pub loads : Loads (formBy flags) t m answer m′
+  pub number-is : number ≡ numberOf (loadedSays answer)
+  pub index-is : index ≡ indexOf (loadedSays answer)
+  pub slots-is : slots ≡ slotsUsed answer

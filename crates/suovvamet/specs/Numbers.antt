@@ -11,6 +11,10 @@ use mathlib.Core.Bool.{Bool, not}
 use lib.Dec.{eqb}
 use Rattle.workroom.specs.declared.WorkWords.{WorkWords}
 use Rattle.workroom.specs.declared.WorkWords.the-variants.{Words, Refused as NotNeeded}
+use Rattle.special.specs.declared.Special.{Special}
+use Rattle.special.specs.declared.Special.the-variants.{At, Nothing, Refused as NotSearched}
+use Rattle.chip.specs.declared.Loaded.{Loaded}
+use Rattle.chip.specs.declared.Loaded.the-variants.{Slots, Refused as NotLoaded}
 use Rattle.calls.specs.declared.Covers.{Covers}
 use Rattle.calls.specs.declared.Covers.the-variants.{Covered, Uncovered, Refused as NotAnswered}
 
@@ -71,3 +75,22 @@ isSetBy n = not (eqb n 0)
 abbrev pub wordsOf : WorkWords → ℕ
 wordsOf (Words n) = n
 wordsOf (NotNeeded number index) = 0
+
+-- ---- Of special use.
+
+-- 1 for a record, else 0.
+abbrev pub namedOf : Special → ℕ
+namedOf (At i) = 1
+namedOf Nothing = 0
+namedOf (NotSearched number index) = 0
+
+-- Its index, 0 where there is none.
+abbrev pub recordOf : Special → ℕ
+recordOf (At i) = i
+recordOf Nothing = 0
+recordOf (NotSearched number index) = 0
+
+-- ---- Of the chip loader: the slots used, 0 in a refusal.
+abbrev pub slotsUsed : Loaded → ℕ
+slotsUsed (Slots used) = used
+slotsUsed (NotLoaded number index) = 0

@@ -3,10 +3,12 @@
 
 use calls::Covers;
 use calls::Rewritten;
+use chip::Loaded;
 use holes::Listed;
 use lookup::answers::AddressesHeld;
 use lookup::answers::Lookup;
 use records::Form;
+use special::Special;
 use workroom::WorkWords;
 ghost use mathlib.Core.Path.{_≡_};
 ghost use Rattle.lookup.specs.Calls.{lookupSays, heldSays};
@@ -14,8 +16,10 @@ ghost use Rattle.workroom.specs.Needed.{wordsSays};
 ghost use Rattle.calls.specs.Covering.{coversSays};
 ghost use Rattle.calls.specs.Rewriting.{rewrittenSays, countOf, changeOf};
 ghost use Rattle.holes.specs.Listing.{listedSays, listedCount};
-ghost use Rattle.suovvamet.specs.Numbers.{formBy, numberOf, indexOf, coveredOf, foundOf, hopOf, lengthOf, addressesOf, wordsOf};
-ghost use Rattle.suovvamet.specs.Calls.{RewriteInC, PlainInC, CoversInC, LookupInC, HeldInC, WordsInC, UnroutedInC};
+ghost use Rattle.special.specs.Calls.{specialSays};
+ghost use Rattle.chip.specs.Loading.{loadedSays};
+ghost use Rattle.suovvamet.specs.Numbers.{formBy, numberOf, indexOf, coveredOf, foundOf, hopOf, lengthOf, addressesOf, wordsOf, namedOf, recordOf, slotsUsed};
+ghost use Rattle.suovvamet.specs.Calls.{RewriteInC, PlainInC, CoversInC, LookupInC, HeldInC, WordsInC, UnroutedInC, SpecialInC, ChipInC};
 
 // How a table is read: strictly where the lowest bit of the flags is set. The others are ignored.
 fn form_of(flags: u32) -> Form
@@ -363,6 +367,103 @@ pub extern "C" fn suovvamet_unrouted(
     let answer = holes::unrouted(table, form_of(flags), output);
     *count = listed_count(answer);
     let refused = listed_refusal(answer);
+    *index = refused.index;
+    refused.number
+}
+
+// The parts of the answer of special use.
+fn special_refusal(r: Special) -> Refusal
+    ensures { λ f. ⌜ (f .number ≡ numberOf (specialSays r)) × (f .index ≡ indexOf (specialSays r)) ⌝ }
+{
+    match r {
+        Special::At(_) => no_refusal(),
+        Special::Nothing => no_refusal(),
+        Special::Refused { number, index } => in_numbers(number, index),
+    }
+}
+
+fn special_named(r: Special) -> u32
+    ensures { λ n. ⌜ n ≡ namedOf r ⌝ }
+{
+    match r {
+        Special::At(_) => 1,
+        Special::Nothing => 0,
+        Special::Refused {
+            number: _,
+            index: _,
+        } => 0,
+    }
+}
+
+fn special_record(r: Special) -> u64
+    ensures { λ n. ⌜ n ≡ recordOf r ⌝ }
+{
+    match r {
+        Special::At(i) => i as u64,
+        Special::Nothing => 0,
+        Special::Refused {
+            number: _,
+            index: _,
+        } => 0,
+    }
+}
+
+// The first record that lies in a special-use range of the edition: found is 1 with its index, or both are 0.
+#[no_mangle]
+pub extern "C" fn suovvamet_special_use(
+    table: &[u8],
+    flags: u32,
+    edition: u32,
+    found: &mut u32,
+    place: &mut u64,
+    index: &mut u64,
+) -> u32
+    ensures { λ n. ⌜ SpecialInC (now (table .entry)) flags edition n (now (found .exit)) (now (place .exit)) (now (index .exit)) ⌝ }
+{
+    let answer = special::special_use(table, form_of(flags), edition);
+    *found = special_named(answer);
+    *place = special_record(answer);
+    let refused = special_refusal(answer);
+    *index = refused.index;
+    refused.number
+}
+
+// The parts of the answer of the chip loader.
+fn loaded_refusal(r: Loaded) -> Refusal
+    ensures { λ f. ⌜ (f .number ≡ numberOf (loadedSays r)) × (f .index ≡ indexOf (loadedSays r)) ⌝ }
+{
+    match r {
+        Loaded::Slots(_) => no_refusal(),
+        Loaded::Refused { number, index } => in_numbers(number, index),
+    }
+}
+
+fn loaded_slots(r: Loaded) -> u64
+    ensures { λ n. ⌜ n ≡ slotsUsed r ⌝ }
+{
+    match r {
+        Loaded::Slots(used) => used as u64,
+        Loaded::Refused {
+            number: _,
+            index: _,
+        } => 0,
+    }
+}
+
+// The slot image of a map's table, into an image of 8,192 bytes: the number of slots used.
+#[no_mangle]
+pub extern "C" fn suovvamet_chip_image(
+    table: &[u8],
+    flags: u32,
+    image: &mut [u8],
+    slots: &mut u64,
+    index: &mut u64,
+) -> u32
+    ensures { λ n. ⌜ ChipInC (now (table .entry)) flags (now (image .entry)) n (now (slots .exit)) (now (index .exit)) (now (image .exit)) ⌝ }
+{
+    let answer = chip::load(table, form_of(flags), image);
+    *slots = loaded_slots(answer);
+    let refused = loaded_refusal(answer);
     *index = refused.index;
     refused.number
 }

@@ -1,6 +1,6 @@
 -- `cases::plain_turn` meets its contract: what is read of the 16 bytes is what the case says. Assumes nothing.
-use Prim.Native.Nat.{ℕ}
 use mathlib.Core.Path.{ap₂, _∙_}
+use Prim.Native.Nat.{ℕ}
 use native.Mathlib.Omega.{arith}
 use lib.ListN.{length-take}
 use lib.Seq.{length-take-le}
@@ -53,8 +53,7 @@ returns c =
     let s = start .args in
     let room = c .before .before .before .before .before .before .before .before .before .before .before .join2 in
     put-as
-    (ap₂ (λ (form : Form) (n : ℕ). plainAnswer form (s .table .now) (byte (s .head .now) 1) (byte (s .head .now) 2) n)
-    (c .before .before .before .before .before .before .before .form-of .ensures)
+    (ap₂ (λ (form : Form) (bytes : ℕ). plainAnswer form (s .table .now) (byte (s .head .now) 1) (byte (s .head .now) 2) bytes) (c .before .before .before .before .before .before .before .form-of .ensures)
     (length-take-le _ _ (omega (arith, room .ensures .1, start .pre .0)) ∙ room .ensures .0))
     (c .before .before .before .before .keep-plain .ensures)
 

@@ -19,6 +19,7 @@ pub mod Kept
 pub mod Maximal
 pub mod Computed
 pub mod Lengths
+pub mod Ranks
 pub mod Modes
 pub mod HowMany
 pub mod Reach

@@ -1,0 +1,47 @@
+-- The choice of a hop by rank: of the hops of a set, the one of lowest rank. Ranks are lent as a list, number h the rank of hop h.
+use Prim.Native.Nat.{ℕ, _<_}
+use mathlib.Core.Path.{_≡_}
+use mathlib.Core.Bool.{Bool, true, cond, not, _||_, _&&_}
+use mathlib.Core.List.{List, [], _∷_}
+use mathlib.Core.Logic.{_⊎_}
+use lib.Dec.{eqb, ltb}
+use lib.ListN.{length, getD}
+use Rattle.theory.specs.Results.{has}
+
+-- The rank of hop h: the number lent for it, or, where none is, its own. So with an empty list ranks are hop numbers.
+abbrev pub rankOf : List ℕ → ℕ → ℕ
+rankOf ranks h = getD ranks h h
+
+-- Of two hops the second if its rank is lower, else the first.
+abbrev pub better : List ℕ → ℕ → ℕ → ℕ
+better ranks h k = cond (ltb (rankOf ranks k) (rankOf ranks h)) k h
+
+-- The hop of lowest rank among h and those of a list; of two of one rank, the first.
+unfoldable pub best : List ℕ → ℕ → List ℕ → ℕ
+best ranks h [] = h
+best ranks h (k ∷ s) = best ranks (better ranks h k) s
+
+-- The hop of lowest rank of a set.
+abbrev pub lowest : List ℕ → List ℕ → ℕ
+lowest ranks [] = 0
+lowest ranks (h ∷ s) = best ranks h s
+
+-- Each of the numbers below n once.
+pub record EachOnce (n : ℕ) (ranks : List ℕ) : Type 0 where
+  pub count : length ranks ≡ n
+  pub low : (h : ℕ) → h < n → getD ranks h 0 < n
+  pub once : (h k : ℕ) → h < n → k < n → getD ranks h 0 ≡ getD ranks k 0 → h ≡ k
+  pub each : (r : ℕ) → r < n → (h : ℕ) × (h < n) × (getD ranks h 0 ≡ r)
+
+-- Ranks as they may be lent, of n hops: none, or each of the numbers below n once.
+abbrev pub Ranking : ℕ → List ℕ → Type 0
+Ranking n ranks = (ranks ≡ []) ⊎ EachOnce n ranks
+
+-- Are the numbers all below n, and is none of them there twice?
+abbrev pub differing : ℕ → List ℕ → Bool
+differing n [] = true
+differing n (r ∷ rs) = (ltb r n && not (has r rs)) && differing n rs
+
+-- The same as a test.
+abbrev pub isRanking : ℕ → List ℕ → Bool
+isRanking n ranks = eqb (length ranks) 0 || (eqb (length ranks) n && differing n ranks)

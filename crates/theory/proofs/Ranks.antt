@@ -102,7 +102,7 @@ within-list (x ∷ xs) zero d e lt = refl
 within-list (x ∷ xs) (suc h) d e lt = within-list xs h d e (omega arith)
 
 -- Past its end those do.
-past-list : (xs : List ℕ) (h d : ℕ) → length xs ≤ h → getD xs h d ≡ d
+pub past-list : (xs : List ℕ) (h d : ℕ) → length xs ≤ h → getD xs h d ≡ d
 past-list [] h d le = refl
 past-list (x ∷ xs) zero d le = absurd (omega arith)
 past-list (x ∷ xs) (suc h) d le = past-list xs h d (omega arith)
@@ -202,7 +202,7 @@ sorted-few n l (h ∷ s) p from low =
         go false = e
 
 -- What passes the test, of its first number and of the others.
-first-differs : (n r : ℕ) (rs : List ℕ) → differing n (r ∷ rs) ≡ true → (r < n) × (has r rs ≡ false) × (differing n rs ≡ true)
+pub first-differs : (n r : ℕ) (rs : List ℕ) → differing n (r ∷ rs) ≡ true → (r < n) × (has r rs ≡ false) × (differing n rs ≡ true)
 first-differs n r rs e = go (ltb r n) refl (has r rs) refl (differing n rs) refl e
   where
     go : (b : Bool) → ltb r n ≡ b → (c : Bool) → has r rs ≡ c → (d : Bool) → differing n rs ≡ d → ((b && not c) && d) ≡ true
@@ -212,7 +212,7 @@ first-differs n r rs e = go (ltb r n) refl (has r rs) refl (differing n rs) refl
     go true b true c d q z = absurd (true≢false (sym z))
     go false b c q d s z = absurd (true≢false (sym z))
 
-differ-first : (n r : ℕ) (rs : List ℕ) → r < n → has r rs ≡ false → differing n rs ≡ true → differing n (r ∷ rs) ≡ true
+pub differ-first : (n r : ℕ) (rs : List ℕ) → r < n → has r rs ≡ false → differing n rs ≡ true → differing n (r ∷ rs) ≡ true
 differ-first n r rs low new rest = rw (lt-ltb r n low, new, rest)
 
 -- Its numbers are below n,
@@ -223,7 +223,7 @@ differing-low n (r ∷ rs) e h m =
     ⊎-elim (λ q. rw (eqb-true h r q) (p .0)) (differing-low n rs (p .2) h) (or-cases (eqb h r) (has h rs) m)
 
 -- A list has what its set has.
-in-set : (h : ℕ) (rs : List ℕ) → has h (union rs []) ≡ has h rs
+pub in-set : (h : ℕ) (rs : List ℕ) → has h (union rs []) ≡ has h rs
 in-set h rs = has-union h rs [] ∙ or-false (has h rs)
 
 -- as many as their set,

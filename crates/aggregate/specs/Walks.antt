@@ -6,7 +6,7 @@ use mathlib.Core.List.{List, [], _∷_}
 use lib.Dec.{leb}
 use lib.ListN.{length}
 use Rattle.theory.specs.Routes.{Route, All, none}
-use Rattle.theory.specs.Results.{result, smallest}
+use Rattle.theory.specs.Results.{result}
 use Rattle.refusals.specs.Rules.{rule, Reply, judge}
 use Rattle.records.specs.Wire.{records}
 use Rattle.positions.specs.Runs.{noHop, hopOf}
@@ -38,9 +38,9 @@ pub record Prepared (t : List ℕ) (mode fill top : ℕ) (work : List ℕ) : Typ
   pub coverage : mode ≡ 1 → StoredBy uncovered coverageWord 7 0 (whole t) top work
   pub sets : 4 ≤ mode → Stored (setWords (answerIn (whole t) none (hopOf fill))) 7 0 (whole t) top work
 
--- What the mode makes of the table at wide addresses.
-unfoldable pub wideResult : List ℕ → ℕ → ℕ → List Route
-wideResult t mode fill = result smallest wide (modeOf mode fill) (whole t)
+-- What the mode makes of the table at wide addresses, by a choice among a set's hops.
+unfoldable pub wideResult : (List ℕ → ℕ) → List ℕ → ℕ → ℕ → List Route
+wideResult choose t mode fill = result choose wide (modeOf mode fill) (whole t)
 
 -- The end of a rewrite of a table that keeps the rules: only the output's room is still to be judged, by rule 11.
 abbrev pub lastReply : List ℕ → ℕ → ℕ → ℕ → Reply (List Route)

@@ -10,17 +10,17 @@ use native.Mathlib.Omega.{arith}
 use lib.Dec.{eqb, ltb}
 use lib.ListN.{length, getD}
 use borrow.Author.Tests.{eq-eqb, ne-eqb, lt-ltb, le-ltb, eqb-true, eqb-false, ltb-true, ltb-false}
-use Rattle.theory.specs.Ranks.{rankOf, better, best, lowest, EachOnce, Ranking, differing, isRanking}
+use Rattle.theory.specs.Ranks.{rankOf, better, best, lowest, RankedFirst, threeRanks, EachOnce, Ranking, differing, isRanking}
 use Rattle.theory.specs.Results.{has, insert, union, Cand, hole, of, sets, smallest, allowed, Chooses, assigned, here, ortc, whole, Mode, aggregateSet, aggregateConsistentSet, aggregateConsistentMap, aggregateMapDrop, aggregateMapFill, result}
-use Rattle.theory.specs.Routes.{Route, Answer, none, answer, filled}
+use Rattle.theory.specs.Routes.{Route, Answer, none, answer, filled, All, nil, cons}
 use Rattle.theory.specs.Shapes.{Above, Sorted}
 use Rattle.theory.proofs.Blocks.{aligned-zero}
 use Rattle.theory.proofs.Chosen.{SortedC, sets-sorted, sorted-union, above-has}
-use Rattle.theory.proofs.Hops.{has-union, or-cases, and-left}
+use Rattle.theory.proofs.Hops.{has-union, or-cases, and-left, some-chosen, Held, sets-held}
 use Rattle.theory.proofs.Least.{least}
-use Rattle.theory.proofs.Lists.{all-map}
+use Rattle.theory.proofs.Lists.{all-append, all-map}
 use Rattle.theory.proofs.Order.{whole-valid, valid-within}
-use Rattle.theory.proofs.Preserve.{answers}
+use Rattle.theory.proofs.Preserve.{back, answers}
 
 -- ---- The hop of lowest rank.
 
@@ -115,6 +115,10 @@ numbered-unranked ranks own s = alike-lowest ranks [] (λ h. go h (ltb h (length
     go h true e = let lt : h < length ranks = ltb-true h (length ranks) e in within-list ranks h h 0 lt ∙ own h lt
     go h false e = past-list ranks h h (ltb-false h (length ranks) e)
 
+pub three-chosen : lowest threeRanks (0 ∷ 1 ∷ 2 ∷ []) ≡ 2
+unfolding best
+three-chosen = refl
+
 -- ---- What a choice decides of a result.
 
 module _ (c d : List ℕ → ℕ) (same : (s : List ℕ) → Sorted s → c s ≡ d s) (w : ℕ) where
@@ -148,6 +152,43 @@ module _ (c d : List ℕ → ℕ) (same : (s : List ℕ) → Sorted s → c s �
 -- So without ranks the result is that of the smallest hop.
 pub unranked-result : (w : ℕ) (mode : Mode) (t : List Route) → result (lowest []) w mode t ≡ result smallest w mode t
 unranked-result w mode t = result-same (lowest []) smallest unranked-smallest w mode t
+
+-- Each route of a rewrite has, of the candidates of its prefix, the hop of lowest rank.
+module _ (ranks : List ℕ) (w : ℕ) where
+  module _ (f : ℕ → Answer) where
+    here-first : (S : Cand) (n a : ℕ) (above : Answer) → n ≤ w → sets f n a ≡ S → Held f n a S
+        → All (RankedFirst ranks w f) (here (lowest ranks) w S n a above)
+    here-first hole n a above le e p = nil
+    here-first (of s) n a above le e p = go (allowed above s)
+      where
+        go : (b : Bool) → All (RankedFirst ranks w f) (cond b [] (record { addr = a; len = w - n; hop = lowest ranks s } ∷ []))
+        go true = nil
+        go false =
+            cons
+            (record {
+              candidates = s;
+              are = ap (λ (k : ℕ). sets f k a) (back w n le) ∙ e;
+              one = some-chosen (lowest ranks) (lowest-chooses ranks) s (p .0);
+              first = lowest-least ranks s;
+            })
+            nil
+
+    ortc-first : (n a : ℕ) (above : Answer) → n ≤ w → All (RankedFirst ranks w f) (ortc (lowest ranks) w f n a above)
+    unfolding ortc
+    ortc-first zero a above le = here-first (sets f zero a) zero a above le refl (sets-held f zero a)
+    ortc-first (suc n) a above le =
+        let g : Answer = assigned (lowest ranks) (sets f (suc n) a) above in
+        all-append (here-first (sets f (suc n) a) (suc n) a above le refl (sets-held f (suc n) a))
+        (all-append (ortc-first n a g (omega arith)) (ortc-first n (a + 2 ^ n) g (omega arith)))
+
+  -- So of modes 4 and 5.
+  pub drop-first : (t : List Route) → All (RankedFirst ranks w (answer w t)) (result (lowest ranks) w aggregateMapDrop t)
+  unfolding result
+  drop-first t = ortc-first (answer w t) w 0 none (le-refl w)
+
+  pub fill-first : (d : ℕ) (t : List Route) → All (RankedFirst ranks w (filled d (answer w t))) (result (lowest ranks) w (aggregateMapFill d) t)
+  unfolding result
+  fill-first d t = ortc-first (filled d (answer w t)) w 0 none (le-refl w)
 
 module _ (w : ℕ) where
   -- No rewrite is longer than that of another choice, which answers as it does.

@@ -1,12 +1,13 @@
 -- The choice of a hop by rank: of the hops of a set, the one of lowest rank. Ranks are lent as a list, number h the rank of hop h.
-use Prim.Native.Nat.{ℕ, _<_}
+use Prim.Native.Nat.{ℕ, _-_, _≤_, _<_}
 use mathlib.Core.Path.{_≡_}
 use mathlib.Core.Bool.{Bool, true, cond, not, _||_, _&&_}
 use mathlib.Core.List.{List, [], _∷_}
 use mathlib.Core.Logic.{_⊎_}
 use lib.Dec.{eqb, ltb}
 use lib.ListN.{length, getD}
-use Rattle.theory.specs.Results.{has}
+use Rattle.theory.specs.Results.{has, of, sets}
+use Rattle.theory.specs.Routes.{Route, Answer}
 
 -- The rank of hop h: the number lent for it, or, where none is, its own. So with an empty list ranks are hop numbers.
 abbrev pub rankOf : List ℕ → ℕ → ℕ
@@ -25,6 +26,17 @@ best ranks h (k ∷ s) = best ranks (better ranks h k) s
 abbrev pub lowest : List ℕ → List ℕ → ℕ
 lowest ranks [] = 0
 lowest ranks (h ∷ s) = best ranks h s
+
+-- The hop of a route is one of the candidates of its prefix, where address x is answered by f x, and none of them has a lower rank.
+pub record RankedFirst (ranks : List ℕ) (w : ℕ) (f : ℕ → Answer) (r : Route) : Type 0 where
+  pub candidates : List ℕ
+  pub are : sets f (w - r .len) (r .addr) ≡ of candidates
+  pub one : has (r .hop) candidates ≡ true
+  pub first : (k : ℕ) → has k candidates ≡ true → rankOf ranks (r .hop) ≤ rankOf ranks k
+
+-- A worked case: hop 0 has rank 1, hop 1 rank 2 and hop 2 rank 0, so that 2 is chosen; by the list read the other way round it were 1.
+abbrev pub threeRanks : List ℕ
+threeRanks = 1 ∷ 2 ∷ 0 ∷ []
 
 -- Each of the numbers below n once.
 pub record EachOnce (n : ℕ) (ranks : List ℕ) : Type 0 where

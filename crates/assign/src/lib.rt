@@ -143,11 +143,11 @@ pub fn assign_nodes(work: &[u32], top: usize, above: u8, ranks: &[u16]) -> Assig
             top: reader.top,
         };
     }
-    let mut b: usize = 1;
+    let mut b: u32 = 1;
     while b < 31 {
-        let over = over_at(&hops, b, above);
-        let s = step_at(work, reader, over, entries, b as u32, ranks);
-        hops[b] = s.hop;
+        let over = over_at(&hops, b as usize, above);
+        let s = step_at(work, reader, over, entries, b, ranks);
+        hops[b as usize] = s.hop;
         entries = s.entries;
         let next = s.reader;
         reader = next;

@@ -52,16 +52,19 @@ loop-holds c =
     (λ i lt. s .ensures .1 i (omega arith)) in
     (omega arith, p)
 
+cast-over-at : tie.Need-cast-over-at Inv-loop μ-loop
+cast-over-at c = search needs
+
 over-at-requires : tie.Need-over-at-requires Inv-loop μ-loop
 over-at-requires c κs = search needs
-
-cast-step-at : tie.Need-cast-step-at Inv-loop μ-loop
-cast-step-at c = search needs
 
 step-at-requires-2 : tie.Need-step-at-requires-2 Inv-loop μ-loop
 step-at-requires-2 c κs =
     let h = c .before .before .before .before .before .before .before .before .before .before .before .pre .0 in
     (assigning-room (c .before .before .before .loop .inv .1) (h .0) (h .1) (omega arith), omega arith)
+
+cast-hops : tie.Need-cast-hops Inv-loop μ-loop
+cast-hops c = search needs
 
 array-write-hops : tie.Need-array-write-hops Inv-loop μ-loop
 array-write-hops c = search needs
@@ -95,9 +98,10 @@ assign-nodes-spec =
     step-at-requires
     returns
     loop-holds
+    cast-over-at
     over-at-requires
-    cast-step-at
     step-at-requires-2
+    cast-hops
     array-write-hops
     add-b
     loop-less

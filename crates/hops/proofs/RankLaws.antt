@@ -1,7 +1,7 @@
 -- The choice by rank over words: a set's hops from the smallest on, the best of them so far kept; and the test of ranks, from the last to the first.
 use Prim.Native.Nat.{ℕ, zero, suc, _+_, _-_, _^_, _≤_, _<_}
 use mathlib.Core.Path.{_≡_, refl, sym, ap, subst, _∙_}
-use mathlib.Core.Bool.{Bool, true, false, true≢false, cond, not, _||_, _&&_, and-false, and-true}
+use mathlib.Core.Bool.{Bool, true, false, true≢false, cond, not, _||_, _&&_, and-false, and-true, or-false}
 use mathlib.Core.List.{List, [], _∷_}
 use native.Mathlib.Omega.{arith}
 use lib.Bits.{bitAnd, bitOr, and-le-l, or-comm}
@@ -86,12 +86,12 @@ unranked (r ∷ ranks) s e p = absurd (omega arith)
 
 -- ---- The test of ranks.
 
--- Of 64 ranks it is whether they differ, of others but none it fails.
+-- Of 64 ranks it is whether they differ, of others whether there is none.
 pub tests-differing : (ranks : List ℕ) (b : Bool) → length ranks ≡ 64 → differing 64 ranks ≡ b → b ≡ isRanking 64 ranks
 tests-differing ranks b long e = rw (long, e)
 
-pub tests-length : (ranks : List ℕ) → (length ranks ≡ 0 → ⊥) → (length ranks ≡ 64 → ⊥) → false ≡ isRanking 64 ranks
-tests-length ranks some other = rw (ne-eqb (length ranks) 0 some, ne-eqb (length ranks) 64 other)
+pub tests-length : (ranks : List ℕ) → (length ranks ≡ 64 → ⊥) → eqb (length ranks) 0 ≡ isRanking 64 ranks
+tests-length ranks other = rw (ne-eqb (length ranks) 64 other) (sym (or-false (eqb (length ranks) 0)))
 
 -- The ranks from i on differ, and the word shows their set.
 pub record Seen (ranks : List ℕ) (i seen : ℕ) : Type 0 where

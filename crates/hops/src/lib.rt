@@ -83,10 +83,8 @@ pub fn assign(set: u64, above: u8, ranks: &[u16]) -> u8
         return NO_HOP;
     }
     if has(set, above) {
-        return above;
+        above
+    } else {
+        lowest(set, ranks)
     }
-    if ranks.len() == 0 {
-        return smallest(set);
-    }
-    lowest(set, ranks)
 }

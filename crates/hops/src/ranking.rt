@@ -41,11 +41,14 @@ fn rest_of(set: u64) -> u64
     set & (set - 1)
 }
 
-// The hop of lowest rank of a set.
+// The hop of lowest rank of a set: without ranks the smallest, else the best as its hops are gone through.
 pub fn lowest(set: u64, ranks: &[u16]) -> u8
     requires { ⌜ 0 < set ⌝ }
     ensures { λ r. ⌜ ((s : List ℕ) → ShowsHops set s → r ≡ Rattle.theory.specs.Ranks.lowest (now (ranks .entry)) s) × (r < noHop) ⌝ }
 {
+    if ranks.len() == 0 {
+        return smallest(set);
+    }
     let mut best = smallest(set);
     let mut rest = rest_of(set);
     while 0 < rest {
@@ -59,11 +62,8 @@ pub fn lowest(set: u64, ranks: &[u16]) -> u8
 pub fn is_ranking(ranks: &[u16]) -> bool
     ensures { λ r. ⌜ r ≡ isRanking noHop (now (ranks .entry)) ⌝ }
 {
-    if ranks.len() == 0 {
-        return true;
-    }
     if ranks.len() != 64 {
-        return false;
+        return ranks.len() == 0;
     }
     let mut seen: u64 = 0;
     let mut i: usize = 64;

@@ -11,7 +11,6 @@ use Rattle.theory.specs.Results.{Cand, hole, of, allowed, assigned}
 use Rattle.positions.specs.Runs.{noHop, hopOf}
 use Rattle.hops.specs.Sets.{ShowsHops, ShowsSet}
 use Rattle.hops.proofs.SetLaws.{zero-shows-hole}
-use Rattle.hops.proofs.RankLaws.{unranked}
 use Rattle.hops.proofs.assign.Statement.{statement}
 use Rattle.hops.proofs.assign.Tie as tie
 
@@ -33,35 +32,21 @@ returns c = (λ S p. rw (zero-shows-hole _ S p (c .if1 .taken)), omega arith)
 has-requires : tie.Need-has-requires
 has-requires c κs = search needs
 
+lowest-requires : tie.Need-lowest-requires
+lowest-requires c κs = search needs
+
 returns-2 : tie.Need-returns-2
 returns-2 c =
     (λ S p. kept _ _ _ S p (c .before .before .if1 .left) (λ s q. sym (c .if2 .taken) ∙ c .before .has .ensures s q), λ le. le)
 
-smallest-requires : tie.Need-smallest-requires
-smallest-requires c κs = search needs
-
 returns-3 : tie.Need-returns-3
 returns-3 c =
-    let r = c .smallest in (
-      λ S p.
-          chosen _ _ _ (r .result) (r .ensures .1) S p (c .before .before .before .before .if1 .left) (λ s q. sym (c .before .before .if2 .left) ∙ c .before .before .before .has .ensures s q)
-          (λ s q. r .ensures .0 s q ∙ unranked (c .before .before .before .before .before .before .args .ranks .now) s (omega (arith, c .before .if3 .taken)) (q .sorted)),
-      λ le. omega (arith, r .ensures .1),
-    )
-
-lowest-requires : tie.Need-lowest-requires
-lowest-requires c κs = search needs
-
-returns-4 : tie.Need-returns-4
-returns-4 c =
     let r = c .lowest in (
       λ S p.
-          chosen _ _ _ (r .result) (r .ensures .1) S p (c .before .before .before .before .if1 .left) (λ s q. sym (c .before .before .if2 .left) ∙ c .before .before .before .has .ensures s q)
-          (r .ensures .0),
+          chosen _ _ _ (r .result) (r .ensures .1) S p (c .before .before .before .if1 .left)
+          (λ s q. sym (c .before .if2 .left) ∙ c .before .before .has .ensures s q) (r .ensures .0),
       λ le. omega (arith, r .ensures .1),
     )
 
 pub assign-spec : {M : Type 1} → statement M
-assign-spec =
-    tie.close
-    (tie.spec returns has-requires returns-2 smallest-requires returns-3 lowest-requires returns-4)
+assign-spec = tie.close (tie.spec returns has-requires lowest-requires returns-2 returns-3)

@@ -20,12 +20,9 @@ abbrev μ-loop : tie.MeasureT-loop
 μ-loop ranks seen₀ i₀ seen i = i
 
 returns : tie.Need-returns Inv-loop μ-loop
-returns c = rw (eq-eqb (length (c .before .before .args .ranks .now)) 0 (omega arith))
-
-returns-2 : tie.Need-returns-2 Inv-loop μ-loop
-returns-2 c =
-    let ranks = c .before .before .before .args .ranks .now in
-    tests-length ranks (λ (e : length ranks ≡ 0). omega arith) (λ (e : length ranks ≡ 64). omega arith)
+returns c =
+    let ranks = c .before .before .args .ranks .now in
+    tests-length ranks (λ (e : length ranks ≡ 64). omega arith)
 
 loop-holds : tie.Need-loop-holds Inv-loop μ-loop
 loop-holds c = (omega arith, omega arith, seen-none _ 64 (omega arith))
@@ -39,9 +36,9 @@ mul-r c = search needs
 shared-slice-read-r : tie.Need-shared-slice-read-r Inv-loop μ-loop
 shared-slice-read-r c = search needs
 
-returns-3 : tie.Need-returns-3 Inv-loop μ-loop
-returns-3 c =
-    let ranks = c .before .before .before .before .before .before .before .args .ranks .now in
+returns-2 : tie.Need-returns-2 Inv-loop μ-loop
+returns-2 c =
+    let ranks = c .before .before .before .before .before .before .args .ranks .now in
     let l = c .before .before .before .loop in
     tests-differing ranks false (l .inv .1) (seen-high {ranks = ranks} {i = l .i - 1} (l .inv .2) (omega arith) (omega (arith, l .inv .1)) (omega arith))
 
@@ -51,13 +48,13 @@ cast-h c = search needs
 has-requires : tie.Need-has-requires Inv-loop μ-loop
 has-requires c κs = search needs
 
-returns-4 : tie.Need-returns-4 Inv-loop μ-loop
-returns-4 c =
-    let ranks = c .before .before .before .before .before .before .before .before .before .args .ranks .now in
+returns-3 : tie.Need-returns-3 Inv-loop μ-loop
+returns-3 c =
+    let ranks = c .before .before .before .before .before .before .before .before .args .ranks .now in
     let l = c .before .before .before .before .before .loop in
     tests-differing ranks false (l .inv .1)
     (seen-twice {ranks = ranks} {i = l .i - 1} (l .inv .2) (omega arith) (omega (arith, l .inv .1)) (omega arith)
-    (sym (c .if4 .taken) ∙ c .before .has .ensures (union (drop (l .i) ranks) []) (l .inv .2 .shown)))
+    (sym (c .if3 .taken) ∙ c .before .has .ensures (union (drop (l .i) ranks) []) (l .inv .2 .shown)))
 
 one-requires : tie.Need-one-requires Inv-loop μ-loop
 one-requires c κs = search needs
@@ -67,19 +64,19 @@ loop-less c = search needs
 
 loop-again : tie.Need-loop-again Inv-loop μ-loop
 loop-again c =
-    let ranks = c .before .before .before .before .before .before .before .before .before .before .args .ranks .now in
+    let ranks = c .before .before .before .before .before .before .before .before .before .args .ranks .now in
     let l = c .before .before .before .before .before .before .loop in (
       omega arith,
       l .inv .1,
       seen-next {ranks = ranks} {i = l .i - 1} (l .inv .2) (omega arith) (omega (arith, l .inv .1)) (c .one .result) (omega arith)
-          (sym (c .before .if4 .left) ∙ c .before .before .has .ensures (union (drop (l .i) ranks) []) (l .inv .2 .shown)) (c .one .ensures),
+          (sym (c .before .if3 .left) ∙ c .before .before .has .ensures (union (drop (l .i) ranks) []) (l .inv .2 .shown)) (c .one .ensures),
     )
 
-returns-5 : tie.Need-returns-5 Inv-loop μ-loop
-returns-5 c =
+returns-4 : tie.Need-returns-4 Inv-loop μ-loop
+returns-4 c =
     let l = c .before .loop .inv in
     let z : c .before .loop .i ≡ 0 = omega arith in
-    tests-differing (c .before .before .before .before .before .args .ranks .now) true (l .1) (rw z at (l .2 .differ))
+    tests-differing (c .before .before .before .before .args .ranks .now) true (l .1) (rw z at (l .2 .differ))
 
 pub is-ranking-spec : {M : Type 1} → statement M
 is-ranking-spec =
@@ -88,16 +85,15 @@ is-ranking-spec =
     Inv-loop
     μ-loop
     returns
-    returns-2
     loop-holds
     sub-i
     mul-r
     shared-slice-read-r
-    returns-3
+    returns-2
     cast-h
     has-requires
-    returns-4
+    returns-3
     one-requires
     loop-less
     loop-again
-    returns-5)
+    returns-4)

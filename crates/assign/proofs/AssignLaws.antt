@@ -18,7 +18,7 @@ use Rattle.theory.proofs.Preserve.{leaf-assigned}
 use Rattle.words.specs.Positions.{position}
 use Rattle.words.specs.Bits.{bit}
 use Rattle.words.specs.Rules.{PushedSlots}
-use Rattle.words.proofs.BitLaws.{if-eq, bit-zero}
+use Rattle.words.proofs.BitLaws.{bit-zero}
 use Rattle.words.proofs.PositionLaws.{in-word, below-left, below-right, pushed-is}
 use Rattle.words.proofs.PositionLaws as places
 use Rattle.positions.specs.Runs.{noHop, hopOf, orElse, sizeAt, placeAt}

@@ -1,6 +1,6 @@
 -- The choice by rank over words: a set's hops from the smallest on, the best of them so far kept; and the test of ranks, from the last to the first.
-use Prim.Native.Nat.{ℕ, zero, suc, _+_, _-_, _^_, _≤_, _<_}
-use mathlib.Core.Path.{_≡_, refl, sym, ap, subst, _∙_}
+use Prim.Native.Nat.{ℕ, zero, suc, _-_, _≤_, _<_}
+use mathlib.Core.Path.{_≡_, refl, sym, ap, _∙_}
 use mathlib.Core.Bool.{Bool, true, false, true≢false, cond, not, _||_, _&&_, and-false, and-true, or-false}
 use mathlib.Core.List.{List, [], _∷_}
 use native.Mathlib.Omega.{arith}
@@ -14,8 +14,7 @@ use Rattle.theory.specs.Results.{has, union, leaf, allowed, smallest}
 use Rattle.theory.specs.Routes.{via}
 use Rattle.theory.specs.Shapes.{Sorted}
 use Rattle.theory.proofs.Chosen.{above-has}
-use Rattle.theory.proofs.Ranks.{unranked-smallest, in-set, first-differs, differ-first}
-use Rattle.words.specs.Bits.{bit}
+use Rattle.theory.proofs.Ranks.{or-right, unranked-smallest, in-set, first-differs, differ-first}
 use Rattle.words.proofs.BitLaws.{bit-dropped, if-eq}
 use Rattle.positions.specs.Runs.{hopOf}
 use Rattle.hops.specs.Sets.{ShowsHops, ShowsSet}
@@ -27,7 +26,7 @@ use Rattle.hops.proofs.SetLaws.{shows-none, zero-shows-none, shows-smal
 pub shows-rest : (x h : ℕ) (s : List ℕ) → ShowsHops x (h ∷ s) → 0 < x → ShowsHops (bitAnd x (x - 1)) s
 shows-rest x h s p l = record {
   sorted = p .sorted .1;
-  low = λ k e. p .low k (later (eqb k h) (has k s) e);
+  low = λ k e. p .low k (or-right (eqb k h) (has k s) e);
   small = omega (arith, and-le-l x (x - 1), p .small);
   bits = λ k m.
       bit-dropped 64 x k l (p .small)
@@ -35,10 +34,6 @@ shows-rest x h s p l = record {
       (if-eq (λ t. ((t || has k s) && not t) ≡ has k s) k h (λ e. sym (absent k e (has k s) refl)) (λ e. and-true (has k s)));
 }
   where
-    later : (b c : Bool) → c ≡ true → (b || c) ≡ true
-    later true c e = refl
-    later false c e = e
-
     absent : (k : ℕ) → k ≡ h → (b : Bool) → has k s ≡ b → has k s ≡ false
     absent k e true m = absurd (omega (arith, above-has h s (p .sorted .0) k m))
     absent k e false m = m

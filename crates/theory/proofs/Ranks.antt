@@ -9,7 +9,7 @@ use native.Mathlib.Nat.{le-refl, le-antisymm}
 use native.Mathlib.Omega.{arith}
 use lib.Dec.{eqb, ltb}
 use lib.ListN.{length, getD}
-use borrow.Author.Tests.{eq-eqb, ne-eqb, lt-ltb, le-ltb, eqb-true, eqb-false, ltb-true, ltb-false}
+use borrow.Author.Tests.{eq-eqb, lt-ltb, le-ltb, eqb-true, ltb-true, ltb-false}
 use Rattle.theory.specs.Ranks.{rankOf, better, best, lowest, RankedFirst, threeRanks, EachOnce, Ranking, differing, isRanking}
 use Rattle.theory.specs.Results.{has, insert, union, Cand, hole, of, sets, smallest, allowed, Chooses, assigned, here, ortc, whole, Mode, aggregateSet, aggregateConsistentSet, aggregateConsistentMap, aggregateMapDrop, aggregateMapFill, result}
 use Rattle.theory.specs.Routes.{Route, Answer, none, answer, filled, All, nil, cons}
@@ -24,6 +24,11 @@ use Rattle.theory.proofs.Preserve.{back, answers}
 
 -- ---- The hop of lowest rank.
 
+-- What is second holds after either.
+pub or-right : (p q : Bool) → q ≡ true → (p || q) ≡ true
+or-right true q e = refl
+or-right false q e = e
+
 module _ (ranks : List ℕ) where
   -- The best of a hop and a list is one of them.
   best-in : (h : ℕ) (s : List ℕ) → has (best ranks h s) (h ∷ s) ≡ true
@@ -36,12 +41,8 @@ module _ (ranks : List ℕ) where
       later false true r e = refl
       later false false r e = e
 
-      earlier : (p q : Bool) → q ≡ true → (p || q) ≡ true
-      earlier true q e = refl
-      earlier false q e = e
-
       go : (b : Bool) (x : ℕ) → has x (cond b k h ∷ s) ≡ true → has x (h ∷ k ∷ s) ≡ true
-      go true x e = earlier (eqb x h) (has x (k ∷ s)) e
+      go true x e = or-right (eqb x h) (has x (k ∷ s)) e
       go false x e = later (eqb x h) (eqb x k) (has x s) e
 
   -- So it is a lawful choice, whatever the ranks.
@@ -58,7 +59,8 @@ module _ (ranks : List ℕ) where
       go false e = (omega arith, ltb-false (rankOf ranks k) (rankOf ranks h) e)
 
   -- nor has the best of a hop and a list.
-  best-least : (h : ℕ) (s : List ℕ) → (rankOf ranks (best ranks h s) ≤ rankOf ranks h) × ((k : ℕ) → has k s ≡ true → rankOf ranks (best ranks h s) ≤ rankOf ranks k)
+  best-least : (h : ℕ) (s : List ℕ)
+      → (rankOf ranks (best ranks h s) ≤ rankOf ranks h) × ((k : ℕ) → has k s ≡ true → rankOf ranks (best ranks h s) ≤ rankOf ranks k)
   unfolding best
   best-least h [] = (omega arith, λ k e. absurd (true≢false (sym e)))
   best-least h (j ∷ s) =
@@ -115,6 +117,7 @@ numbered-unranked ranks own s = alike-lowest ranks [] (λ h. go h (ltb h (length
     go h true e = let lt : h < length ranks = ltb-true h (length ranks) e in within-list ranks h h 0 lt ∙ own h lt
     go h false e = past-list ranks h h (ltb-false h (length ranks) e)
 
+-- The worked case.
 pub three-chosen : lowest threeRanks (0 ∷ 1 ∷ 2 ∷ []) ≡ 2
 unfolding best
 three-chosen = refl
@@ -212,6 +215,10 @@ module _ (w : ℕ) where
 
 -- ---- Which ranks may be lent.
 
+-- A list has what its set has.
+pub in-set : (h : ℕ) (rs : List ℕ) → has h (union rs []) ≡ has h rs
+in-set h rs = has-union h rs [] ∙ or-false (has h rs)
+
 -- A set with a hop that it had not has one more.
 length-insert : (h : ℕ) (s : List ℕ) → has h s ≡ false → length (insert h s) ≡ suc (length s)
 length-insert h [] e = refl
@@ -232,17 +239,10 @@ sorted-few n l (h ∷ s) p from low =
       arith,
       from h first,
       low h first,
-      sorted-few n (suc h) s (p .1) (λ k e. above-has h s (p .0) k e) (λ k e. low k (later k e)),
+      sorted-few n (suc h) s (p .1) (λ k e. above-has h s (p .0) k e) (λ k e. low k (or-right (eqb k h) (has k s) e)),
     )
-  where
-    later : (k : ℕ) → has k s ≡ true → has k (h ∷ s) ≡ true
-    later k e = go (eqb k h)
-      where
-        go : (b : Bool) → (b || has k s) ≡ true
-        go true = refl
-        go false = e
 
--- What passes the test, of its first number and of the others.
+-- What the test says of a list's first number and of the others.
 pub first-differs : (n r : ℕ) (rs : List ℕ) → differing n (r ∷ rs) ≡ true → (r < n) × (has r rs ≡ false) × (differing n rs ≡ true)
 first-differs n r rs e = go (ltb r n) refl (has r rs) refl (differing n rs) refl e
   where
@@ -256,16 +256,12 @@ first-differs n r rs e = go (ltb r n) refl (has r rs) refl (differing n rs) refl
 pub differ-first : (n r : ℕ) (rs : List ℕ) → r < n → has r rs ≡ false → differing n rs ≡ true → differing n (r ∷ rs) ≡ true
 differ-first n r rs low new rest = rw (lt-ltb r n low, new, rest)
 
--- Its numbers are below n,
+-- The numbers of a list that passes it are below n,
 differing-low : (n : ℕ) (rs : List ℕ) → differing n rs ≡ true → (h : ℕ) → has h rs ≡ true → h < n
 differing-low n [] e h m = absurd (true≢false (sym m))
 differing-low n (r ∷ rs) e h m =
     let p = first-differs n r rs e in
     ⊎-elim (λ q. rw (eqb-true h r q) (p .0)) (differing-low n rs (p .2) h) (or-cases (eqb h r) (has h rs) m)
-
--- A list has what its set has.
-pub in-set : (h : ℕ) (rs : List ℕ) → has h (union rs []) ≡ has h rs
-in-set h rs = has-union h rs [] ∙ or-false (has h rs)
 
 -- as many as their set,
 differing-set : (n : ℕ) (rs : List ℕ) → differing n rs ≡ true → length (union rs []) ≡ length rs
@@ -303,11 +299,7 @@ has-place (x ∷ rs) r e =
 place-has : (rs : List ℕ) (h : ℕ) → h < length rs → has (getD rs h 0) rs ≡ true
 place-has [] h lt = absurd (omega arith)
 place-has (x ∷ rs) zero lt = rw (eq-eqb x x refl)
-place-has (x ∷ rs) (suc h) lt = go (eqb (getD rs h 0) x) (place-has rs h (omega arith))
-  where
-    go : (b : Bool) → has (getD rs h 0) rs ≡ true → (b || has (getD rs h 0) rs) ≡ true
-    go true e = refl
-    go false e = e
+place-has (x ∷ rs) (suc h) lt = or-right (eqb (getD rs h 0) x) (has (getD rs h 0) rs) (place-has rs h (omega arith))
 
 -- Each number stands at one place,
 differing-once : (n : ℕ) (rs : List ℕ) → differing n rs ≡ true → (h k : ℕ) → h < length rs → k < length rs → getD rs h 0 ≡ getD rs k 0 → h ≡ k
@@ -338,7 +330,12 @@ once-differing n (r ∷ rs) low once =
 
 -- The test passes the lists that are empty or have each of the numbers below n once, and no others.
 pub ranking-tested : (n : ℕ) (ranks : List ℕ) → (isRanking n ranks ≡ true) ↔ Ranking n ranks
-ranking-tested n ranks = (λ e. ⊎-elim (λ q. inl (empty ranks (eqb-true (length ranks) 0 q))) (λ q. inr (full q)) (or-cases (eqb (length ranks) 0) (eqb (length ranks) n && differing n ranks) e), back)
+ranking-tested n ranks = (
+  λ e.
+      ⊎-elim (λ q. inl (empty ranks (eqb-true (length ranks) 0 q))) (λ q. inr (full q))
+      (or-cases (eqb (length ranks) 0) (eqb (length ranks) n && differing n ranks) e),
+  back,
+)
   where
     empty : (rs : List ℕ) → length rs ≡ 0 → rs ≡ []
     empty [] e = refl
@@ -366,11 +363,7 @@ ranking-tested n ranks = (λ e. ⊎-elim (λ q. inl (empty ranks (eqb-true (leng
           eq-eqb (length ranks) n (p .count),
           once-differing n ranks (λ h lt. p .low h (omega (arith, p .count))) (λ h k lt lt′ e. p .once h k (omega (arith, p .count)) (omega (arith, p .count)) e),
         )
-        (either (eqb (length ranks) 0))
-      where
-        either : (b : Bool) → (b || true) ≡ true
-        either true = refl
-        either false = refl
+        (or-right (eqb (length ranks) 0) true refl)
 
 -- Under such ranks no two hops rank alike, so the hop of lowest rank is the only one.
 pub lowest-only : (n : ℕ) (ranks : List ℕ) → Ranking n ranks → (s : List ℕ) → ((k : ℕ) → has k s ≡ true → k < n)

@@ -34,7 +34,7 @@ pub record RankedFirst (ranks : List ℕ) (w : ℕ) (f : ℕ → Answer) (r : Ro
   pub one : has (r .hop) candidates ≡ true
   pub first : (k : ℕ) → has k candidates ≡ true → rankOf ranks (r .hop) ≤ rankOf ranks k
 
--- A worked case: hop 0 has rank 1, hop 1 rank 2 and hop 2 rank 0, so that 2 is chosen; by the list read the other way round it were 1.
+-- A worked case: hop 0 has rank 1, hop 1 rank 2 and hop 2 rank 0, so that 2 is chosen; read the other way round the list would choose 1.
 abbrev pub threeRanks : List ℕ
 threeRanks = 1 ∷ 2 ∷ 0 ∷ []
 
@@ -49,11 +49,11 @@ pub record EachOnce (n : ℕ) (ranks : List ℕ) : Type 0 where
 abbrev pub Ranking : ℕ → List ℕ → Type 0
 Ranking n ranks = (ranks ≡ []) ⊎ EachOnce n ranks
 
--- Are the numbers all below n, and is none of them there twice?
+-- Are the numbers of a list all below n, and is none of them there twice?
 abbrev pub differing : ℕ → List ℕ → Bool
 differing n [] = true
 differing n (r ∷ rs) = (ltb r n && not (has r rs)) && differing n rs
 
--- The same as a test.
+-- Are these ranks that may be lent?
 abbrev pub isRanking : ℕ → List ℕ → Bool
 isRanking n ranks = eqb (length ranks) 0 || (eqb (length ranks) n && differing n ranks)

@@ -1,13 +1,12 @@
 -- `hops::ranking::is_ranking` meets its contract. The loop's invariant: the ranks from i on pass the test, and the word shows their set.
 -- Assumes nothing.
 use Prim.Native.Nat.{_-_, _≤_}
-use mathlib.Core.Path.{_≡_, refl, sym, _∙_}
+use mathlib.Core.Path.{_≡_, sym, _∙_}
 use mathlib.Core.Bool.{true, false}
 use mathlib.Core.List.{[]}
 use native.Mathlib.Omega.{arith}
 use lib.ListN.{length, drop}
 use borrow.Author.Needs.{needs}
-use borrow.Author.Tests.{eq-eqb}
 use Rattle.theory.specs.Results.{union}
 use Rattle.hops.proofs.RankLaws.{tests-differing, tests-length, Seen, seen-none, seen-next, seen-high, seen-twice}
 use Rattle.hops.proofs.ranking.is_ranking.Statement.{statement}

@@ -10,7 +10,7 @@ use calls::engine::most_records;
 use calls::engine::no_hop;
 use hops::NO_HOP;
 use hops::alone;
-use hops::assign;
+use hops::assign_smallest;
 use hops::combine;
 use hops::has;
 use hops::smallest;
@@ -144,7 +144,7 @@ fn write(
             mid,
             right,
         } => {
-            let taken = assign(set, above);
+            let taken = assign_smallest(set, above);
             let at = past(own, out.len());
             let left = write(table, first, mid, addr, len + 1, hop, taken, &mut out[at..]);
             let done = own + left;

@@ -7,7 +7,8 @@ use native.Mathlib.Decide.{decLt}
 use native.Mathlib.Nat.{eq-or-lt-of-le}
 use native.Mathlib.Omega.{arith}
 use Rattle.theory.specs.Routes.{Answer, none, via}
-use Rattle.steps.specs.Views.{orElse, best}
+use Rattle.positions.specs.Runs.{orElse}
+use Rattle.steps.specs.Views.{best}
 use Rattle.steps.proofs.Rungs.{best-alike}
 
 pick : (v u m : Answer) → m ≡ orElse v u → (m ≡ u) ⊎ (m ≡ v)

@@ -14,8 +14,9 @@ use Rattle.theory.specs.Routes.{Route, Answer, none, via, All, nil, cons, Befor
 use Rattle.theory.specs.Shapes.{routed}
 use Rattle.theory.proofs.Lists.{all-map}
 use Rattle.theory.proofs.Parts.{length-parts}
+use Rattle.positions.specs.Runs.{orElse}
 use Rattle.steps.specs.Steps.{Step, putting, taking, same, entry, present, precedes, put, without, apply}
-use Rattle.steps.specs.Views.{stepped, orElse, sameAnswer}
+use Rattle.steps.specs.Views.{stepped, sameAnswer}
 
 pub none-via : {h : ℕ} → none ≡ via h → ⊥
 none-via e = let z : _≡_ {A = ℕ} 0 1 = cc in absurd (omega arith)

@@ -12,8 +12,9 @@ use borrow.Author.Tests.{eqb-true, eq-eqb, ne-eqb}
 use Rattle.theory.specs.Routes.{Route, Answer, none, via, All, nil, cons, Before, Ascending, empty, first, Table}
 use Rattle.theory.proofs.Lists.{all-append, all-map}
 use Rattle.theory.proofs.Parts.{all-part, ascending-part, part-agree}
+use Rattle.positions.specs.Runs.{orElse}
 use Rattle.steps.specs.Steps.{entry, present}
-use Rattle.steps.specs.Views.{orElse, sameAnswer}
+use Rattle.steps.specs.Views.{sameAnswer}
 use Rattle.steps.specs.Planned.{changes, gone, level, falling, rising}
 use Rattle.steps.proofs.Entries.{entry-part, entry-append, entry-none, ascending-distinct, member-entry}
 use Rattle.steps.proofs.Phase.{Way, down, up, Sooner, Ordered, over, next, ordered-append}

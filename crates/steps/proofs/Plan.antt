@@ -10,8 +10,9 @@ use Rattle.theory.specs.Routes.{Route, Answer, none, via, Valid, All, nil, cons
 use Rattle.theory.specs.Shapes.{routed}
 use Rattle.theory.proofs.Lists.{all-map, all-member, member-all}
 use Rattle.theory.proofs.Parts.{table-part}
+use Rattle.positions.specs.Runs.{orElse}
 use Rattle.steps.specs.Steps.{putting, same, entry, present, OldOrNew, Hitless, Sounds}
-use Rattle.steps.specs.Views.{orElse, sameAnswer, rung, best}
+use Rattle.steps.specs.Views.{sameAnswer, rung, best}
 use Rattle.steps.specs.Planned.{changes, gone, together, falling, rising, takingOf, plan}
 use Rattle.steps.proofs.Entries.{none-via, answer-true, same-true, entry-append, distinct-append, ascending-distinct, member-entry, fits, same-entries}
 use Rattle.steps.proofs.Tables.{as-long}

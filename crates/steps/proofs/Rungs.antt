@@ -12,8 +12,9 @@ use Rattle.theory.specs.Routes.{Route, matches, Match, miss, hit, lookup, Answe
 use Rattle.theory.proofs.Blocks.{pow-pos, aligned-start, in-start, start-is, in→block}
 use Rattle.theory.proofs.Lists.{all-member}
 use Rattle.theory.proofs.LongestMatch.{lookup-found, lookup-none}
+use Rattle.positions.specs.Runs.{orElse}
 use Rattle.steps.specs.Steps.{same, entry}
-use Rattle.steps.specs.Views.{orElse, rung, best}
+use Rattle.steps.specs.Views.{rung, best}
 use Rattle.steps.proofs.Entries.{true-same, same-false, ascending-distinct, member-entry, entry-member}
 
 -- ---- The best of the answers at each length.

@@ -5,17 +5,13 @@ use mathlib.Core.List.{List}
 use lib.Dec.{eqb}
 use Rattle.theory.specs.Results.{startOf}
 use Rattle.theory.specs.Routes.{Route, Answer, none, via}
+use Rattle.positions.specs.Runs.{orElse}
 use Rattle.steps.specs.Steps.{Step, putting, taking, same, entry}
 
 -- What stands at the prefix (a, l) after a step, where e stood there before it.
 abbrev pub stepped : Step → ℕ → ℕ → Answer → Answer
 stepped (putting r) a l e = cond (same (r .addr) (r .len) a l) (via (r .hop)) e
 stepped (taking b m) a l e = cond (same b m a l) none e
-
--- The first answer, or, where it is none, the second.
-abbrev pub orElse : Answer → Answer → Answer
-orElse none b = b
-orElse (via h) b = via h
 
 -- Are the two answers one?
 abbrev pub sameAnswer : Answer → Answer → Bool

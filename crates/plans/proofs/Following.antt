@@ -39,7 +39,7 @@ Hopped v = All (λ r. r .hop < noHop) v
 
 -- ---- Numbers for answers.
 
-small-entry : {v : List Route} → Hopped v → (a l : ℕ) → Small (entry v a l)
+pub small-entry : {v : List Route} → Hopped v → (a l : ℕ) → Small (entry v a l)
 small-entry {v} hops a l = go (entry v a l) refl
   where
     go : (w : Answer) → entry v a l ≡ w → Small w

@@ -11,7 +11,7 @@ use Rattle.theory.specs.Routes.{Answer}
 use Rattle.words.specs.Prefix.{hostClear}
 use Rattle.positions.specs.Runs.{noHop}
 use Rattle.refusals.specs.Rules.{Reply, gives, refuses}
-use Rattle.records.specs.Wire.{records, routeAt, routes}
+use Rattle.records.specs.Wire.{records, routeAt, routes, Bytes}
 use Rattle.records.specs.declared.Form.{Form}
 use Rattle.table.specs.Checking.{checkReply}
 use Rattle.steps.specs.Views.{rung}
@@ -174,6 +174,12 @@ begunBy strict t u n (gives m) (gives l) = cond (eqb n 0) (overOf (cond (unchang
 
 abbrev pub begunOf : Form → List ℕ → List ℕ → ℕ → Check
 begunOf form t u n = begunBy (form .strict) t u n (checkReply form false t) (checkReply form false u)
+
+-- The check r has begun, and the tables are of bytes.
+pub record Begun (form : Form) (t u : List ℕ) (n : ℕ) (r : Check) : Type 0 where
+  pub state : r ≡ begunOf form t u n
+  pub old-bytes : Bytes t
+  pub new-bytes : Bytes u
 
 abbrev pub verdictBy : Stage → Check → Judged
 verdictBy Yes c = judged.Yes

@@ -26,7 +26,7 @@ ghost use Rattle.words.specs.Prefix.{agree};
 ghost use Rattle.positions.specs.Runs.{noHop};
 ghost use Rattle.records.specs.Wire.{records, routeAt, routes};
 ghost use Rattle.plans.specs.Passes.{emptyPass, passedOf, leftOf, longerOf, behindOf};
-ghost use Rattle.plans.specs.Checking.{hostKeptOf, hopKeptOf, stepKept, countedOf, sameFrom, overOf, judgingOf, pickingOf, passOf, recordOrEnd, stepOrRecord, judgedOf, metOf, seenOf, MaySee, begunOf, verdictOf};
+ghost use Rattle.plans.specs.Checking.{hostKeptOf, hopKeptOf, stepKept, countedOf, sameFrom, overOf, judgingOf, pickingOf, passOf, recordOrEnd, stepOrRecord, judgedOf, metOf, seenOf, MaySee, Begun, verdictOf};
 
 // What a check is at.
 pub enum Stage {
@@ -559,7 +559,7 @@ fn unchanged(installed: &[u8], new: &[u8]) -> bool
 
 // The check of n steps, before any is shown.
 pub fn begin(installed: &[u8], new: &[u8], form: Form, n: usize) -> Check
-    ensures { λ r. ⌜ r ≡ begunOf form (now (installed .entry)) (now (new .entry)) n ⌝ }
+    ensures { λ r. ⌜ Begun form (now (installed .entry)) (now (new .entry)) n r ⌝ }
 {
     match check_table(installed, form, false) {
         Checked::Refused { number, index } => over(Stage::Refused, number, index, n),

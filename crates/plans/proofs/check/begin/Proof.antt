@@ -42,25 +42,50 @@ over-requires-3 : tie.Need-over-requires-3
 over-requires-3 c κs = search needs
 
 returns : tie.Need-returns
-returns c = rw ((sym (c .before .before .before .before .before .before .before .before .before .before .check-table .ensures) ∙ ap checkedSays (c .before .before .before .before .before .before .before .before .count .given .1)), (sym (c .before .before .before .before .before .before .check-table2 .ensures) ∙ ap checkedSays (c .before .before .before .before .enum-told .given .1)), eq-eqb _ _ (c .before .before .before .if1 .taken), sym (c .before .before .unchanged .ensures) ∙ c .before .if2 .taken) (c .over3 .ensures)
+returns c =
+    record {
+      state = rw ((sym (c .before .before .before .before .before .before .before .before .before .before .check-table .ensures) ∙ ap checkedSays (c .before .before .before .before .before .before .before .before .count .given .1)), (sym (c .before .before .before .before .before .before .check-table2 .ensures) ∙ ap checkedSays (c .before .before .before .before .enum-told .given .1)), eq-eqb _ _ (c .before .before .before .if1 .taken), sym (c .before .before .unchanged .ensures) ∙ c .before .if2 .taken) (c .over3 .ensures);
+      old-bytes = λ k. omega (arith, c .before .before .before .before .before .before .before .before .before .before .before .before .shared-slice-known .given k);
+      new-bytes = λ k. omega (arith, c .before .before .before .before .before .before .before .before .before .before .before .shared-slice-known2 .given k);
+    }
 
 over-requires-4 : tie.Need-over-requires-4
 over-requires-4 c κs = search needs
 
 returns-2 : tie.Need-returns-2
-returns-2 c = rw ((sym (c .before .before .before .before .before .before .before .before .before .before .check-table .ensures) ∙ ap checkedSays (c .before .before .before .before .before .before .before .before .count .given .1)), (sym (c .before .before .before .before .before .before .check-table2 .ensures) ∙ ap checkedSays (c .before .before .before .before .enum-told .given .1)), eq-eqb _ _ (c .before .before .before .if1 .taken), sym (c .before .before .unchanged .ensures) ∙ c .before .if2 .left) (c .over4 .ensures)
+returns-2 c =
+    record {
+      state = rw ((sym (c .before .before .before .before .before .before .before .before .before .before .check-table .ensures) ∙ ap checkedSays (c .before .before .before .before .before .before .before .before .count .given .1)), (sym (c .before .before .before .before .before .before .check-table2 .ensures) ∙ ap checkedSays (c .before .before .before .before .enum-told .given .1)), eq-eqb _ _ (c .before .before .before .if1 .taken), sym (c .before .before .unchanged .ensures) ∙ c .before .if2 .left) (c .over4 .ensures);
+      old-bytes = λ k. omega (arith, c .before .before .before .before .before .before .before .before .before .before .before .before .shared-slice-known .given k);
+      new-bytes = λ k. omega (arith, c .before .before .before .before .before .before .before .before .before .before .before .shared-slice-known2 .given k);
+    }
 
 judging-requires : tie.Need-judging-requires
 judging-requires c κs = search needs
 
 returns-3 : tie.Need-returns-3
-returns-3 c = rw ((sym (c .before .before .before .before .check-table .ensures) ∙ ap checkedSays (c .before .before .number .given .1))) (c .over .ensures)
+returns-3 c =
+    record {
+      state = rw ((sym (c .before .before .before .before .check-table .ensures) ∙ ap checkedSays (c .before .before .number .given .1))) (c .over .ensures);
+      old-bytes = λ k. omega (arith, c .before .before .before .before .before .before .shared-slice-known .given k);
+      new-bytes = λ k. omega (arith, c .before .before .before .before .before .shared-slice-known2 .given k);
+    }
 
 returns-4 : tie.Need-returns-4
-returns-4 c = rw ((sym (c .before .before .before .before .before .before .before .before .check-table .ensures) ∙ ap checkedSays (c .before .before .before .before .before .before .count .given .1)), (sym (c .before .before .before .before .check-table2 .ensures) ∙ ap checkedSays (c .before .before .number2 .given .1))) (c .over2 .ensures)
+returns-4 c =
+    record {
+      state = rw ((sym (c .before .before .before .before .before .before .before .before .check-table .ensures) ∙ ap checkedSays (c .before .before .before .before .before .before .count .given .1)), (sym (c .before .before .before .before .check-table2 .ensures) ∙ ap checkedSays (c .before .before .number2 .given .1))) (c .over2 .ensures);
+      old-bytes = λ k. omega (arith, c .before .before .before .before .before .before .before .before .before .before .shared-slice-known .given k);
+      new-bytes = λ k. omega (arith, c .before .before .before .before .before .before .before .before .before .shared-slice-known2 .given k);
+    }
 
 returns-5 : tie.Need-returns-5
-returns-5 c = rw ((sym (c .before .before .before .before .before .before .before .before .check-table .ensures) ∙ ap checkedSays (c .before .before .before .before .before .before .count .given .1)), (sym (c .before .before .before .before .check-table2 .ensures) ∙ ap checkedSays (c .before .before .enum-told .given .1)), ne-eqb _ _ (c .before .if1 .left)) (c .judging .ensures)
+returns-5 c =
+    record {
+      state = rw ((sym (c .before .before .before .before .before .before .before .before .check-table .ensures) ∙ ap checkedSays (c .before .before .before .before .before .before .count .given .1)), (sym (c .before .before .before .before .check-table2 .ensures) ∙ ap checkedSays (c .before .before .enum-told .given .1)), ne-eqb _ _ (c .before .if1 .left)) (c .judging .ensures);
+      old-bytes = λ k. omega (arith, c .before .before .before .before .before .before .before .before .before .before .shared-slice-known .given k);
+      new-bytes = λ k. omega (arith, c .before .before .before .before .before .before .before .before .before .shared-slice-known2 .given k);
+    }
 
 pub begin-spec : {M : Type 1} → statement M
 begin-spec =

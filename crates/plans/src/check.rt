@@ -434,8 +434,7 @@ pub fn see(
     len: u8,
     hop: u8,
 ) -> Check
-    requires { ⌜ Table 32 (routes (now installed)) × Table 32 (routes (now new)) ⌝ }
-    requires { ⌜ MaySee n c len ⌝ }
+    requires { ⌜ (Table 32 (routes (now installed)) × Table 32 (routes (now new))) × MaySee n c len ⌝ }
     ensures { λ r. ⌜ r ≡ seenOf (now (installed .entry)) (now (new .entry)) n c p put addr len hop ⌝ }
 {
     if !p.good {

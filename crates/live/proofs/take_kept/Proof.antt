@@ -1,0 +1,81 @@
+-- `take_kept` finds the prefix's place, and takes the record there away. Assumes nothing.
+use Prim.Native.Nat.{ℕ, _+_, _*_, _≤_, _<_}
+use Rattle.live.proofs.Calling.{table-from, small, put-done-old, take-done, take-absent, with-table, put-17, put-10, more-holds, put-done-new}
+use Rattle.live.proofs.Passing.{sound-short}
+use Rattle.live.specs.Conditions.{Words}
+use Rattle.live.proofs.Sound.{Proper, Live, live-is, sound-proper}
+use Rattle.live.proofs.take_kept.Statement.{statement}
+use Rattle.live.proofs.take_kept.Tie as tie
+use Rattle.live.specs.Inner.{Placed, isAt, PutsKept, TakesKept}
+use Rattle.live.specs.Rooms.{countIn, shown}
+use Rattle.live.specs.declared.answers.Kept.the-variants.{Done, Absent}
+use Rattle.records.specs.Wire.{route}
+use borrow.Author.Needs.{needs}
+use lib.ListN.{getD}
+use mathlib.Core.Bool.{true, false}
+use mathlib.Core.List.{List}
+use mathlib.Core.Path.{_≡_, refl, sym, ap, _∙_}
+use native.Mathlib.Omega.{arith}
+
+alive : (c : tie.Start) → Live (c .args .room .now)
+alive c = live-is (c .args .room .now) (c .pre)
+
+words : (c : tie.After-slice-known) → Words (c .before .args .room .now)
+words c k = c .slice-known .given k .fits
+
+slice-read-n : tie.Need-slice-read-n
+slice-read-n c = let l = alive (c .before .before) in omega (arith, l .holds)
+
+cast-n : tie.Need-cast-n
+cast-n c = omega (arith, c .slice-known2 .given 1)
+
+place-requires : tie.Need-place-requires
+place-requires c κs =
+    let l = alive (c .before .before .before) in
+    (l .holds, table-from (c .before .before .before .args .room .now) (words (c .before .before)) l .order)
+
+is-at-requires : tie.Need-is-at-requires
+is-at-requires c κs = alive (c .before .before .before .before .before) .holds
+
+-- The prefix is at its place, or it is not.
+old : (c : tie.Then1) → isAt (c .before .before .before .before .before .before .before .args .room .now) (countIn (c .before .before .before .before .before .before .before .args .room .now)) (c .before .before .before .place .result) (c .before .before .before .before .before .before .before .args .addr) (c .before .before .before .before .before .before .before .args .len) ≡ true
+old c = sym (c .before .is-at .ensures) ∙ c .if1 .taken
+
+new : (c : tie.Else1) → isAt (c .before .before .before .before .before .before .before .args .room .now) (countIn (c .before .before .before .before .before .before .before .args .room .now)) (c .before .before .before .place .result) (c .before .before .before .before .before .before .before .args .addr) (c .before .before .before .before .before .before .before .args .len) ≡ false
+new c = sym (c .before .is-at .ensures) ∙ c .if1 .left
+
+remove-requires : tie.Need-remove-requires
+remove-requires c κs =
+    let a = c .before .before .before .before .before .before .before .before .args in
+    let l = alive (c .before .before .before .before .before .before .before .before) in
+    (l .holds, (small (a .room .now) (words (c .before .before .before .before .before .before .before)) (alive (c .before .before .before .before .before .before .before .before)) (a .addr) (a .len) _ (c .before .before .before .before .place .ensures) (old (c .before)), l .few))
+
+same-length : tie.Need-same-length
+same-length c = search needs
+
+returns : tie.Need-returns
+returns c =
+    let a = c .before .before .before .before .before .before .before .before .before .before .before .args in
+    rw (sym (c .before .before .remove .ensures)) at (take-done (a .room .now) (words (c .before .before .before .before .before .before .before .before .before .before)) (alive (c .before .before .before .before .before .before .before .before .before .before .before)) (a .addr) (a .len) _ (c .before .before .before .before .before .before .before .place .ensures) (old (c .before .before .before .before)))
+
+same-length-2 : tie.Need-same-length-2
+same-length-2 c = search needs
+
+returns-2 : tie.Need-returns-2
+returns-2 c =
+    let a = c .before .before .before .before .before .before .before .args in
+    take-absent (a .room .now) (words (c .before .before .before .before .before .before)) (alive (c .before .before .before .before .before .before .before)) (a .addr) (a .len) _ (c .before .before .before .place .ensures) (new c)
+
+pub take-kept-spec : {M : Type 1} → statement M
+take-kept-spec =
+    tie.close
+    (tie.spec
+    slice-read-n
+    cast-n
+    place-requires
+    is-at-requires
+    remove-requires
+    same-length
+    returns
+    same-length-2
+    returns-2)

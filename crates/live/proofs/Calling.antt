@@ -1,29 +1,26 @@
 -- What is said and left past the first rules: of a put and of a take, in a room that holds a live map.
-use Prim.Native.Nat.{ℕ, suc, _+_, _-_, _*_, _/_, _^_, _≤_, _<_}
-use mathlib.Core.Path.{_≡_, refl, sym, ap, ap₂, _∙_}
-use mathlib.Core.Bool.{Bool, true, false, cond, not, _||_, _&&_}
-use mathlib.Core.List.{List, [], _∷_, _++_}
+use Prim.Native.Nat.{ℕ, suc, _+_, _-_, _≤_, _<_}
+use mathlib.Core.Path.{_≡_, refl, sym, ap, _∙_}
+use mathlib.Core.Bool.{Bool, true, false}
+use mathlib.Core.List.{List}
 use native.Mathlib.Omega.{arith}
-use lib.Dec.{leb}
-use lib.ListN.{length, getD}
+use lib.ListN.{length}
 use borrow.Author.Tests.{le-leb, lt-leb}
-use Rattle.theory.specs.Routes.{Route, Valid, All, Ascending, Table}
-use Rattle.nodecount.specs.Nodes.{nodes, bare}
+use Rattle.theory.specs.Routes.{Route, Valid, Table}
 use Rattle.refusals.specs.Rules.{Reply, gives, refuses, judge}
 use Rattle.records.specs.Wire.{route}
-use Rattle.steps.specs.Steps.{putting, present, put, without}
+use Rattle.nodecount.specs.Nodes.{nodes, bare}
+use Rattle.steps.specs.Steps.{putting, present, put}
 use Rattle.steps.proofs.Tables.{table-step, length-new, length-old}
-use Rattle.live.specs.declared.answers.Kept.{Kept}
 use Rattle.live.specs.declared.answers.Kept.the-variants.{Done, Absent, Refused}
 use Rattle.live.specs.Tables.{roomRules}
-use Rattle.live.specs.Calls.{keptSays, leftBy}
-use Rattle.live.specs.Rooms.{mark, routeIn, shownFrom, shown, countIn, stored, fit, live}
+use Rattle.live.specs.Rooms.{shownFrom, shown, countIn, stored, fit}
 use Rattle.live.specs.Inner.{Holds, InRange, Placed, isAt, withAt, written, inserted, removed, PutsKept, TakesKept}
+use Rattle.live.specs.Conditions.{Words}
 use Rattle.live.proofs.Changing.{inserted-stored, written-stored, removed-stored}
 use Rattle.live.proofs.Placing.{at-small, put-at, present-at, without-at, put-new, absent-at, without-none}
 use Rattle.live.proofs.Present.{nodes-old, nodes-hop, own-words}
 use Rattle.live.proofs.Reading.{length-shown, shown-all}
-use Rattle.live.specs.Conditions.{Words}
 use Rattle.live.proofs.Sound.{Proper, Mapped, Live, live-mapped, mapped-table}
 use Rattle.live.proofs.Storing.{room-stored}
 

@@ -1,22 +1,22 @@
 -- What the calls' statements settle: no second answer and no second room satisfies one, each case of an answer stands for exactly these facts, and a refusal
 -- leaves the room. The answer of a call is any k, and the room `after`, of which the call's `ensures` holds. Assumes nothing.
 use Prim.{tt}
-use Prim.Native.Nat.{ℕ, _-_, _%_, _^_, _≤_, _<_}
+use Prim.Native.Nat.{ℕ, _-_, _%_, _^_}
 use mathlib.Core.Path.{_≡_, refl, sym, ap, _∙_}
 use mathlib.Core.Bool.{Bool, true, false, not, _||_, true≢false}
-use mathlib.Core.List.{List, [], _∷_, _++_}
-use mathlib.Core.Logic.{_⊎_, inl, inr, _↔_}
+use mathlib.Core.List.{List, [], _∷_}
+use mathlib.Core.Logic.{inl, inr, _↔_}
 use native.Mathlib.Omega.{arith}
 use lib.Dec.{leb}
 use lib.ListN.{length}
 use borrow.Author.Tests.{leb-false, lt-leb, eqb-false, ne-eqb}
 use Rattle.theory.specs.Routes.{Route, Match, miss, hit, lookup}
 use Rattle.words.specs.Prefix.{hostClear}
-use Rattle.refusals.specs.Rules.{Rule, rule, Reply, gives, refuses, judge}
+use Rattle.refusals.specs.Rules.{Rule, rule, Reply, gives, refuses}
 use Rattle.refusals.specs.Order.{rank, First, None}
 use Rattle.refusals.proofs.Answered.{given-exactly, refused-exactly}
 use Rattle.refusals.proofs.Judged.{Broken}
-use Rattle.refusals.proofs.Ranked.{broken-right, sound-each, ahead-in-order}
+use Rattle.refusals.proofs.Ranked.{sound-each, ahead-in-order}
 use Rattle.records.specs.declared.Form.{Form}
 use Rattle.nodecount.specs.Nodes.{nodes}
 use Rattle.lookup.specs.Calls.{lookupSays}
@@ -27,8 +27,8 @@ use Rattle.steps.specs.Steps.{present}
 use Rattle.live.specs.declared.answers.Kept.{Kept}
 use Rattle.live.specs.declared.answers.Kept.the-variants.{Done, Absent, Refused}
 use Rattle.live.specs.Rooms.{shown, fit, live}
-use Rattle.live.specs.Tables.{masked, putting, taking, prefixRules, putRules}
-use Rattle.live.specs.Calls.{keptSays, leftBy, liveRules, Makes, putReply, Puts, takeReply, Takes, lookReply}
+use Rattle.live.specs.Tables.{masked, putting, prefixRules, putRules}
+use Rattle.live.specs.Calls.{keptSays, leftBy, liveRules, Makes, Puts, Takes, lookReply}
 use Rattle.live.specs.Conditions.{Words, Holding, MakeCondition, short-room, LookCondition, no-map, TakeCondition, of-room, too-long, host-bits, PutCondition, of-prefix, bad-hop, too-many, too-wide}
 use Rattle.live.proofs.Maps.{live-holds, holds-live}
 

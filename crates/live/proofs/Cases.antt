@@ -1,6 +1,6 @@
 -- Worked sequences of calls on a room in which an empty map was made, as one table with a single theorem over it.
 use Prim.{tt, Unit}
-use Prim.Native.Nat.{ℕ, _+_, _*_, _^_, _<_}
+use Prim.Native.Nat.{ℕ, _+_, _*_}
 use mathlib.Core.Path.{_≡_, refl, ap, _∙_}
 use mathlib.Core.Bool.{true, false}
 use mathlib.Core.List.{List, [], _∷_}

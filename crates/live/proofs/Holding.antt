@@ -1,11 +1,11 @@
 -- The nodes of the map that a room holds, and of the map with one more route.
-use Prim.Native.Nat.{ℕ, zero, suc, _+_, _-_, _*_, _/_, _^_, _≤_, _<_}
+use Prim.Native.Nat.{ℕ, zero, suc, _+_, _-_, _≤_, _<_}
 use mathlib.Core.Path.{_≡_, refl, sym, ap, ap₂, _∙_}
-use mathlib.Core.Bool.{Bool, true, false, cond, true≢false}
+use mathlib.Core.Bool.{Bool, true, false, true≢false}
 use mathlib.Core.List.{List, [], _∷_, _++_}
 use native.Mathlib.Omega.{arith}
 use lib.ListN.{length, getD}
-use Rattle.theory.specs.Routes.{Route, Valid, All, Table}
+use Rattle.theory.specs.Routes.{Route, Table}
 use Rattle.nodecount.specs.Nodes.{nodes, newNodes, bare}
 use Rattle.nodecount.proofs.NodeCount.{root, passed, nodes-pass, nodes-most}
 use Rattle.nodecount.proofs.NodePass.{passed-bare}

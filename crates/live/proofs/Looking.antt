@@ -1,9 +1,9 @@
 -- The longest match among a room's records in order: of those that match an address the last is the longest, and none stands behind its place.
-use Prim.Native.Nat.{ℕ, _+_, _-_, _^_, _≤_, _<_}
+use Prim.Native.Nat.{ℕ, _+_, _-_, _≤_, _<_}
 use mathlib.Core.Path.{_≡_, refl, sym, ap, ap₂, _∙_}
 use mathlib.Core.Bool.{Bool, true, false, true≢false, _&&_}
 use mathlib.Core.List.{List}
-use mathlib.Core.Logic.{_⊎_, inl, inr}
+use mathlib.Core.Logic.{inl, inr}
 use native.Mathlib.Nat.{le-refl}
 use native.Mathlib.Decide.{decLt}
 use native.Mathlib.Omega.{arith}
@@ -14,7 +14,6 @@ use Rattle.theory.proofs.Lists.{all-member}
 use Rattle.theory.proofs.LongestMatch.{lookup-is, lookup-none}
 use Rattle.theory.proofs.Routed.{matches-in}
 use Rattle.words.specs.Prefix.{within}
-use Rattle.records.specs.Wire.{route}
 use Rattle.table.specs.TableRules.{before}
 use Rattle.nodecount.specs.Nodes.{bare}
 use Rattle.live.specs.Rooms.{routeIn, shownFrom}

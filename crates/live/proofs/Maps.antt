@@ -2,13 +2,13 @@
 -- is a good room. Assumes nothing.
 use Prim.{tt}
 use Prim.Native.Nat.{ℕ, zero, suc, _+_, _-_, _*_, _/_, _^_, _≤_, _<_}
-use mathlib.Core.Path.{_≡_, refl, sym, ap, _∙_}
+use mathlib.Core.Path.{_≡_, sym, ap, _∙_}
 use mathlib.Core.Bool.{true, not}
-use mathlib.Core.List.{List, [], _∷_, _++_}
+use mathlib.Core.List.{List, _∷_, _++_}
 use native.Mathlib.Omega.{arith}
-use lib.ListN.{length, getD, drop}
+use lib.ListN.{length, drop}
 use lib.Seq.{getD-drop, drop-append-add, drop-drop}
-use Rattle.theory.specs.Routes.{Route, All, nil, cons, empty, Table}
+use Rattle.theory.specs.Routes.{Route, All, nil, cons, Table}
 use Rattle.theory.proofs.Lists.{all-map}
 use Rattle.theory.proofs.Parts.{all-part}
 use Rattle.nodecount.specs.Nodes.{nodes}

@@ -1,22 +1,21 @@
 -- The pass over a room's records: what the first record and each later one add to the order and to the count of nodes.
-use Prim.Native.Nat.{ℕ, zero, suc, _+_, _-_, _*_, _^_, _≤_, _<_}
-use mathlib.Core.Path.{_≡_, refl, sym, ap, ap₂, _∙_}
-use mathlib.Core.Bool.{Bool, true, false, cond, _&&_}
-use mathlib.Core.List.{List, [], _∷_, _++_}
+use Prim.Native.Nat.{ℕ, zero, suc, _+_, _-_, _≤_, _<_}
+use mathlib.Core.Path.{_≡_, refl, sym, ap, _∙_}
+use mathlib.Core.Bool.{true, false, _&&_}
+use mathlib.Core.List.{List, [], _∷_}
 use native.Mathlib.Omega.{arith}
 use lib.Dec.{leb}
-use lib.ListN.{length}
 use borrow.Author.Tests.{leb-true}
-use Rattle.theory.specs.Routes.{Route, All, Table}
-use Rattle.nodecount.specs.Nodes.{nodes, newNodes, bare, fresh, brought}
+use Rattle.theory.specs.Routes.{Route}
 use Rattle.records.specs.Wire.{route}
 use Rattle.table.specs.TableRules.{before}
+use Rattle.nodecount.specs.Nodes.{nodes, newNodes, bare, brought}
 use Rattle.nodecount.proofs.NodeCount.{root, passed, nodes-pass}
 use Rattle.nodecount.proofs.NodePass.{passed-bare}
 use Rattle.live.specs.Rooms.{routeIn, shownFrom, sound, after, lawful}
 use Rattle.live.specs.Inner.{passedNodes, priorAt}
-use Rattle.live.proofs.Reading.{restIn, rest-next, rest-end, rest-all}
 use Rattle.live.specs.Conditions.{Words}
+use Rattle.live.proofs.Reading.{restIn, rest-next, rest-end, rest-all}
 use Rattle.live.proofs.Sound.{and-true, lawful-mapped, mapped-table, small-shown}
 
 -- The hop of the route before is of no account.

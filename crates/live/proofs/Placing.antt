@@ -1,27 +1,25 @@
 -- A prefix at its place among a room's records: what a put and a take make of them.
-use Prim.Native.Nat.{ℕ, zero, suc, _+_, _-_, _*_, _^_, _≤_, _<_}
+use Prim.Native.Nat.{ℕ, _+_, _-_, _≤_, _<_}
 use mathlib.Core.Path.{_≡_, refl, sym, ap, ap₂, _∙_}
-use mathlib.Core.Bool.{Bool, true, false, cond, not, _||_, _&&_, true≢false, false≢true}
+use mathlib.Core.Bool.{Bool, true, false, cond, not, true≢false}
 use mathlib.Core.List.{List, [], _∷_, _++_}
 use mathlib.Core.Logic.{_⊎_, inl, inr}
 use native.Mathlib.Nat.{eq-or-lt-of-le}
 use native.Mathlib.Decide.{decLt}
 use native.Mathlib.Omega.{arith}
-use lib.Dec.{eqb, ltb}
-use lib.ListN.{length}
-use borrow.Author.Tests.{lt-ltb, le-ltb, ltb-true}
-use Rattle.theory.specs.Results.{part}
-use Rattle.theory.specs.Routes.{Route, Answer, none, via, All, nil, cons, Before, Ascending, empty, first, Member, head, later}
+use lib.Dec.{ltb}
+use borrow.Author.Tests.{lt-ltb, ltb-true}
+use Rattle.theory.specs.Routes.{Route, Answer, none, via, All, nil, cons, Before, Ascending, first}
 use Rattle.theory.specs.Shapes.{routed}
 use Rattle.theory.proofs.Lists.{all-map, all-member}
 use Rattle.theory.proofs.Parts.{part-append, part-whole}
-use Rattle.nodecount.specs.Nodes.{bare}
+use Rattle.theory.proofs.Order.{before-trans}
 use Rattle.records.specs.Wire.{route}
 use Rattle.table.specs.TableRules.{before}
+use Rattle.nodecount.specs.Nodes.{bare}
 use Rattle.steps.specs.Steps.{same, entry, present, precedes, put, without}
 use Rattle.steps.specs.Views.{orElse}
-use Rattle.steps.proofs.Entries.{same-true, true-same, same-false, same-sym, entry-append, entry-none, before-none, order}
-use Rattle.theory.proofs.Order.{before-trans}
+use Rattle.steps.proofs.Entries.{same-true, true-same, same-false, same-sym, entry-append, order}
 use Rattle.live.specs.Rooms.{routeIn, shownFrom}
 use Rattle.live.specs.Inner.{Placed, isAt, withAt}
 use Rattle.live.proofs.Reading.{restIn, rest-next, rest-end, rest-split, shown-before, all-shown}

@@ -1,20 +1,20 @@
 -- Which prefixes are present decides the nodes; and what a put and a take make of them.
-use Prim.Native.Nat.{ℕ, _+_, _-_, _*_, _/_, _^_, _≤_, _<_}
-use mathlib.Core.Path.{_≡_, refl, sym, ap, ap₂, _∙_}
+use Prim.Native.Nat.{ℕ, _+_, _-_, _*_, _≤_}
+use mathlib.Core.Path.{_≡_, refl, sym, ap, _∙_}
 use mathlib.Core.Bool.{Bool, true, false, cond, not, true≢false, false≢true}
 use mathlib.Core.List.{List, [], _∷_}
 use native.Mathlib.Nat.{le-antisymm}
 use native.Mathlib.Omega.{arith}
 use lib.ListN.{length}
-use Rattle.theory.specs.Routes.{Route, Answer, none, via, Valid, All, Table, Member}
+use Rattle.theory.specs.Routes.{Route, Answer, none, via, Valid, Table}
 use Rattle.theory.specs.Shapes.{routed}
-use Rattle.nodecount.specs.Nodes.{nodes}
 use Rattle.records.specs.Wire.{route}
+use Rattle.nodecount.specs.Nodes.{nodes}
 use Rattle.nodecount.proofs.NodeRecords.{records-few}
+use Rattle.nodecount.proofs.NodeRuns.{Has, Prefixes, nodes-prefixes}
 use Rattle.steps.specs.Steps.{putting, taking, same, entry, present, put, without}
 use Rattle.steps.proofs.Entries.{same-true, entry-put, entry-step, ascending-distinct, member-entry, entry-member}
 use Rattle.steps.proofs.Tables.{table-step}
-use Rattle.nodecount.proofs.NodeRuns.{Has, Prefixes, nodes-prefixes}
 use Rattle.live.proofs.Holding.{nodes-some}
 
 -- The prefixes present in s are present in t.

@@ -1,19 +1,19 @@
 -- The request's sentences, for any room of words and any answer of which a call's statement holds: which rooms are refused, what an answered call leaves, when a
 -- put is refused for room, and what a take of an absent prefix does. Assumes nothing.
-use Prim.Native.Nat.{ℕ, _+_, _-_, _*_, _/_, _%_, _^_, _≤_, _<_}
+use Prim.Native.Nat.{ℕ, _-_, _%_, _^_, _≤_, _<_}
 use mathlib.Core.Path.{_≡_, refl, sym, ap, subst, _∙_}
 use mathlib.Core.Bool.{Bool, true, false, cond, not, _||_, true≢false}
-use mathlib.Core.List.{List, [], _∷_, _++_}
+use mathlib.Core.List.{List, [], _∷_}
 use mathlib.Core.Logic.{_↔_}
 use native.Mathlib.Omega.{arith}
 use lib.Dec.{leb}
-use lib.ListN.{length, drop}
+use lib.ListN.{length}
 use borrow.Author.Tests.{le-leb, lt-leb, leb-true, leb-false, eq-eqb}
 use Rattle.theory.specs.Routes.{Route, none, via, lookup, Table}
 use Rattle.words.specs.Prefix.{hostClear}
 use Rattle.words.proofs.PrefixLaws.{start-small}
 use Rattle.refusals.specs.Rules.{Rule, rule, Reply, gives, refuses, judge}
-use Rattle.refusals.proofs.Judged.{kept-next, broken-here, all-next}
+use Rattle.refusals.proofs.Judged.{kept-next, broken-here}
 use Rattle.records.specs.Wire.{route}
 use Rattle.records.specs.declared.Form.{Form}
 use Rattle.nodecount.specs.Nodes.{nodes}
@@ -21,19 +21,19 @@ use Rattle.lookup.specs.Calls.{lookupSays}
 use Rattle.lookup.specs.declared.answers.Lookup.{Lookup}
 use Rattle.lookup.specs.declared.answers.Lookup.the-variants.{Refused as NotLooked}
 use Rattle.lookup.proofs.Calls.{lookup-same}
-use Rattle.steps.specs.Steps.{same, entry, present, put, taking as takingStep}
+use Rattle.steps.specs.Steps.{same, entry, present, taking as takingStep}
 use Rattle.steps.proofs.Entries.{entry-put, entry-step}
 use Rattle.steps.proofs.Tables.{length-old}
 use Rattle.live.specs.declared.answers.Kept.{Kept}
 use Rattle.live.specs.declared.answers.Kept.the-variants.{Done, Absent, Refused}
 use Rattle.live.specs.Rooms.{shown, stored, fit, live}
-use Rattle.live.specs.Tables.{masked, putting, taking, prefixRules, roomRules, tablePut, tableTake}
-use Rattle.live.specs.Calls.{keptSays, leftBy, Makes, Puts, takeReply, Takes, lookReply}
+use Rattle.live.specs.Tables.{masked, putting, taking, roomRules, tablePut, tableTake}
+use Rattle.live.specs.Calls.{keptSays, leftBy, Makes, Puts, Takes, lookReply}
 use Rattle.live.specs.Sequences.{keptBy}
 use Rattle.live.specs.Conditions.{Words, HoldsMap, Holding}
-use Rattle.live.proofs.Calls.{kept-same, is-dead, take-done, take-absent}
+use Rattle.live.proofs.Calls.{kept-same, is-dead, take-absent}
 use Rattle.live.proofs.Demands.{gives-not, put-said, put-good, take-said, take-good, make-good}
-use Rattle.live.proofs.Maps.{Good, live-holds, holds-live, holds-shown, behind-nodes}
+use Rattle.live.proofs.Maps.{Good, live-holds, holds-live, holds-shown}
 use Rattle.live.proofs.Present.{without-absent, nodes-old, nodes-less}
 use Rattle.live.proofs.Replies.{masked-sound}
 use Rattle.live.proofs.Sound.{live-is, is-live, sound-proper}
@@ -87,19 +87,21 @@ module _ {room after : List ℕ} {form : Form} {a l h : ℕ} {k : Kept} (words :
   pub put-entries : (b m : ℕ) → entry (shown after) b m ≡ cond (same (masked a l) l b m) (via h) (entry (shown room) b m)
   put-entries b m = ap (λ (t : List Route). entry t b m) (holds-shown put-leaves) ∙ entry-put (route (masked a l) l h) (shown room) b m
 
-module _ {room after : List ℕ} {form : Form} {a l : ℕ} {k : Kept} (words : Words room) (ok : Takes room form a l k after) (done : k ≡ Done) where
+-- A take may answer that the prefix was absent, too.
+module _ {room after : List ℕ} {form : Form} {a l : ℕ} {k : Kept} (words : Words room) (ok : Takes room form a l k after) {c : Bool}
+    (given : keptSays k ≡ gives c) where
   pub take-was-live : HoldsMap room (shown room)
-  take-was-live = live-holds room words (was-live (present (shown room) (masked a l) l) (live room) _ (sym (ok .reply) ∙ ap keptSays done))
+  take-was-live = live-holds room words (was-live (present (shown room) (masked a l) l) (live room) _ (sym (ok .reply) ∙ given))
 
   good-take : Good (fit room) (shown room) room
   good-take =
-      let e = holds-live (take-was-live) in
+      let e = holds-live take-was-live in
       record { words = words; alive = live-is room e; shows = refl; size = refl }
 
-  -- A take leaves the map of the routes without the prefix,
+  -- It leaves the map of the routes without the prefix,
   pub take-leaves : HoldsMap after (taking (shown room) a l)
   take-leaves =
-      let e : tableTake (shown room) form a l ≡ gives true = sym (take-said (fit room) (shown room) room good-take form a l k after ok) ∙ ap keptSays done in
+      let e : tableTake (shown room) form a l ≡ gives c = sym (take-said (fit room) (shown room) room good-take form a l k after ok) ∙ given in
       subst (HoldsMap after) (ap (λ (x : Reply Bool). keptBy x (taking (shown room) a l) (shown room)) e)
       (good-holds (take-good (fit room) (shown room) room good-take form a l k after ok))
 
@@ -107,7 +109,7 @@ module _ {room after : List ℕ} {form : Form} {a l : ℕ} {k : Kept} (words : W
   pub take-entries : (b m : ℕ) → entry (shown after) b m ≡ cond (same (masked a l) l b m) none (entry (shown room) b m)
   take-entries b m = ap (λ (t : List Route). entry t b m) (holds-shown take-leaves) ∙ entry-step (takingStep (masked a l) l) (shown room) b m
 
-  -- It has no more nodes than before: what the taken prefix alone had is given up.
+  -- There are no more nodes than before: what the taken prefix alone had is given up.
   pub take-nodes : nodes 32 (shown after) ≤ nodes 32 (shown room)
   take-nodes = rw (holds-shown take-leaves) (nodes-less (take-was-live .lawful .table) (masked a l) l)
 
@@ -115,7 +117,7 @@ module _ {room after : List ℕ} {form : Form} {a l : ℕ} {k : Kept} (words : W
 pub absent-left : {room after : List ℕ} {form : Form} {a l : ℕ} {k : Kept} → Words room → Takes room form a l k after → k ≡ Absent → after ≡ room
 absent-left {room} {after} {form} {a} {l} {k} words ok e =
     let f = take-absent room words form a l k after ok .0 e in
-    let h = live-holds room words (was-live (present (shown room) (masked a l) l) (live room) _ (sym (ok .reply) ∙ ap keptSays e)) in
+    let h = take-was-live words ok (ap keptSays e) in
     ok .left
     ∙ ap (λ (x : Reply Bool). leftBy x (taking (shown room) a l) room) (sym (ok .reply) ∙ ap keptSays e)
     ∙ ap (λ (t : List Route). stored t room) (without-absent (masked a l) l (shown room) (f .1))

@@ -1,17 +1,16 @@
 -- The records of a room, one after another.
 use Prim.Native.Nat.{ℕ, zero, suc, _+_, _-_, _*_, _/_, _%_, _≤_, _<_}
 use mathlib.Core.Path.{_≡_, refl, sym, ap, ap₂, subst, _∙_}
-use mathlib.Core.Bool.{Bool, true}
 use mathlib.Core.List.{List, [], _∷_, _++_}
 use native.Mathlib.Nat.{div-add-mod'}
 use native.Mathlib.Decide.{decLt}
 use native.Mathlib.Numerals.{add-one}
 use native.Mathlib.Omega.{arith}
-use lib.ListN.{length, getD, take, drop}
-use lib.Seq.{drop-cons, take-append-add}
-use Rattle.theory.specs.Routes.{Route, All, nil, cons, Before, Ascending, Member}
+use lib.ListN.{length, getD, drop}
+use lib.Seq.{drop-cons}
+use Rattle.theory.specs.Routes.{Route, All, cons, Before, Ascending, Member}
 use Rattle.runs.proofs.Numbered.{counted, numbered, member-numbered, all-numbered, before-numbered, none-numbered, first-numbered, split-numbered}
-use Rattle.live.specs.Rooms.{mark, routeIn, shownFrom, shown, countIn, pairs, wordsOf, stored}
+use Rattle.live.specs.Rooms.{routeIn, shownFrom, shown, countIn, pairs}
 use Rattle.live.specs.Inner.{Holds}
 
 -- Of n records, those from record i on.

@@ -1,24 +1,21 @@
 -- Sound routes in order are a table, and a table's routes are sound and in order.
 use Prim.Native.Nat.{ℕ, _+_, _-_, _*_, _/_, _%_, _^_, _≤_, _<_}
-use mathlib.Core.Path.{_≡_, refl, sym, ap, _∙_}
-use mathlib.Core.Bool.{Bool, true, false, _||_, _&&_, and-eq-true-iff, false≢true}
-use mathlib.Core.List.{List, [], _∷_}
-use mathlib.Core.Logic.{_⊎_, inl, inr}
+use mathlib.Core.Path.{_≡_, refl, ap, _∙_}
+use mathlib.Core.Bool.{Bool, true, false, _&&_, and-eq-true-iff}
+use mathlib.Core.List.{List, _∷_}
 use native.Mathlib.Nat.{mul-mod-left}
 use native.Mathlib.Omega.{arith}
-use lib.Dec.{leb, ltb, eqb}
 use lib.ListN.{length, getD}
 use lib.Pow.{split}
-use borrow.Author.Tests.{leb-true, le-leb, eqb-true, eq-eqb, ltb-true, lt-ltb}
+use borrow.Author.Tests.{leb-true, le-leb, eqb-true, eq-eqb}
 use Rattle.theory.specs.Routes.{Route, Valid, All, nil, cons, Before, Ascending, empty, first, Table}
 use Rattle.theory.proofs.Lists.{all-map}
 use Rattle.theory.proofs.Order.{before-trans}
 use Rattle.refusals.proofs.Shown.{passes, proved}
-use Rattle.nodecount.specs.Nodes.{nodes}
 use Rattle.table.specs.TableRules.{before}
 use Rattle.table.specs.Conditions.{Lawful}
 use Rattle.table.proofs.Tested.{before-shown}
-use Rattle.words.specs.Prefix.{hostClear}
+use Rattle.nodecount.specs.Nodes.{nodes}
 use Rattle.live.specs.Rooms.{mark, routeIn, shownFrom, shown, countIn, sound, after, lawful, fit, live}
 use Rattle.live.specs.Conditions.{Words}
 use Rattle.live.specs.Inner.{Holds}

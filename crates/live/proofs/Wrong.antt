@@ -1,13 +1,12 @@
 -- Wrong live maps that the statements shut out: one that refuses everything, one that never gives a node up, and one that forgets on replace. A map is known
 -- by its answers alone: any that the statements allow.
-use Prim.Native.Nat.{ℕ, _≤_, _<_}
-use mathlib.Core.Path.{_≡_, refl, sym, ap, subst, _∙_}
-use mathlib.Core.Bool.{Bool}
+use Prim.Native.Nat.{ℕ, _≤_}
+use mathlib.Core.Path.{_≡_, refl}
 use mathlib.Core.List.{List, [], _∷_}
 use native.Mathlib.Omega.{arith}
 use lib.ListN.{length}
-use Rattle.theory.specs.Routes.{Route, Match, hit}
-use Rattle.refusals.specs.Rules.{Reply, gives, refuses}
+use Rattle.theory.specs.Routes.{Match, hit}
+use Rattle.refusals.specs.Rules.{gives, refuses}
 use Rattle.nodecount.specs.Nodes.{fresh, brought, nodes}
 use Rattle.live.specs.declared.answers.Kept.{Kept}
 use Rattle.live.specs.declared.answers.Kept.the-variants.{Done}
@@ -15,7 +14,7 @@ use Rattle.live.specs.Rooms.{shown, fit}
 use Rattle.live.specs.Tables.{putting}
 use Rattle.live.specs.Calls.{Makes, Puts}
 use Rattle.live.specs.Sequences.{Said, changed, found, Runs}
-use Rattle.live.specs.Conditions.{Words, HoldsMap, MakeCondition, short-room}
+use Rattle.live.specs.Conditions.{Words, MakeCondition, short-room}
 use Rattle.live.proofs.Calls.{make-done}
 use Rattle.live.proofs.Cases.{byDefault, emptied, replaced, worked}
 use Rattle.live.proofs.Maps.{holds-shown}

@@ -6,9 +6,9 @@ use mathlib.Core.List.{List, [], _∷_, _++_}
 use lib.Dec.{leb, eqb}
 use lib.ListN.{length, getD, drop}
 use Rattle.theory.specs.Routes.{Route}
-use Rattle.nodecount.specs.Nodes.{nodes}
-use Rattle.table.specs.TableRules.{before}
 use Rattle.words.specs.Prefix.{hostClear}
+use Rattle.table.specs.TableRules.{before}
+use Rattle.nodecount.specs.Nodes.{nodes}
 
 -- The mark: "live" in four octets.
 abbrev pub mark : ℕ

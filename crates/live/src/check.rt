@@ -8,7 +8,6 @@ use nodecount::new_nodes;
 use words::prefix::host_bits_clear;
 ghost use mathlib.Core.Path.{_≡_};
 ghost use mathlib.Core.Bool.{_&&_};
-ghost use mathlib.Core.List.{_∷_, _++_};
 ghost use Prim.Native.Nat.{_≤_, _<_};
 ghost use Rattle.theory.specs.Routes.{Table};
 ghost use Rattle.nodecount.specs.Nodes.{bare, newNodes, nodes};

@@ -1,23 +1,23 @@
 -- A node has at most 65 records of its own (31, in truth), so a table has at most 65 for each of its nodes. Over the width w.
 use Prim.Native.Nat.{ℕ, zero, suc, _+_, _-_, _*_, _/_, _^_, _≤_, _<_}
-use mathlib.Core.Path.{_≡_, refl, sym, ap, ap₂, _∙_}
-use mathlib.Core.Bool.{Bool, true, false, cond, not, _&&_}
+use mathlib.Core.Path.{_≡_, refl, ap, _∙_}
+use mathlib.Core.Bool.{Bool, true, false, cond, not}
 use mathlib.Core.List.{List, [], _∷_}
-use mathlib.Core.Logic.{_⊎_, inl, inr}
+use mathlib.Core.Logic.{inl, inr}
 use native.Mathlib.Nat.{sub-zero, div-lt-iff-lt-mul, add-mul, lt-of-mul-lt-mul-right}
 use native.Mathlib.Decide.{decLt}
 use native.Mathlib.Omega.{arith}
-use lib.Dec.{leb, eqb}
+use lib.Dec.{leb}
 use lib.ListN.{length}
 use lib.Pow.{pow-add, pow-mono, shl-shr, shr-mono}
-use borrow.Author.Tests.{leb-true, leb-false}
-use Rattle.theory.specs.Results.{In, part}
+use borrow.Author.Tests.{leb-false}
+use Rattle.theory.specs.Results.{part}
 use Rattle.theory.specs.Routes.{Route, Aligned, Valid, All, nil, cons, Before, Ascending, empty, first, Table}
-use Rattle.theory.proofs.Blocks.{pow-pos, aligned-zero, aligned-down, same-start, block→in}
+use Rattle.theory.proofs.Blocks.{pow-pos, aligned-zero, aligned-down, same-start}
 use Rattle.theory.proofs.Lists.{all-map}
+use Rattle.theory.proofs.Parts.{rest, length-parts, all-part, all-rest, ascending-part}
 use Rattle.positions.specs.Runs.{isIn}
 use Rattle.positions.proofs.Runs.{is-in}
-use Rattle.theory.proofs.Parts.{rest, length-parts, all-part, all-rest, ascending-part}
 use Rattle.nodecount.specs.Nodes.{nodes}
 use Rattle.nodecount.specs.Walk.{orNone, sumTo, nodesIn}
 use Rattle.nodecount.proofs.NodeRuns.{slotKey, slotRun, Inside, nodes-walked, slots-length, slot-lined}

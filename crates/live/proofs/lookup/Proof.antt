@@ -1,19 +1,16 @@
 -- `lookup` replies with the longest match in a live map, and refuses any other room. Assumes nothing.
-use Prim.Native.Nat.{ℕ, _+_, _*_}
+use mathlib.Core.Bool.{true}
+use mathlib.Core.Path.{_≡_, refl, _∙_}
+use native.Mathlib.Omega.{arith}
+use borrow.Author.Needs.{needs}
+use Rattle.live.specs.Rooms.{shown, live}
+use Rattle.live.specs.Conditions.{Words}
 use Rattle.live.proofs.Calling.{table-from, in-range}
 use Rattle.live.proofs.Holding.{held-live, held-dead}
 use Rattle.live.proofs.Replies.{looks-dead, looks-past}
 use Rattle.live.proofs.Sound.{Live, live-is}
 use Rattle.live.proofs.lookup.Statement.{statement}
 use Rattle.live.proofs.lookup.Tie as tie
-use Rattle.live.specs.Rooms.{shown, live}
-use Rattle.live.specs.Conditions.{Words}
-use Rattle.refusals.specs.Rules.{gives}
-use borrow.Author.Needs.{needs}
-use lib.ListN.{getD}
-use mathlib.Core.Bool.{true}
-use mathlib.Core.Path.{_≡_, refl, _∙_}
-use native.Mathlib.Omega.{arith}
 
 nodes-held-requires : tie.Need-nodes-held-requires
 nodes-held-requires c κs = search needs

@@ -1,12 +1,12 @@
 -- `prefix_fault` tries rules 5 and 6. Assumes nothing.
-use Rattle.live.proofs.prefix_fault.Statement.{statement}
-use Rattle.live.proofs.prefix_fault.Tie as tie
-use Rattle.refusals.specs.Rules.{broken}
-use Rattle.words.specs.Prefix.{hostClear}
-use borrow.Author.Needs.{needs}
-use borrow.Author.Tests.{le-leb, lt-leb, not-true, not-false}
 use mathlib.Core.Bool.{true, false}
 use mathlib.Core.Path.{_≡_, sym, _∙_}
+use borrow.Author.Needs.{needs}
+use borrow.Author.Tests.{le-leb, lt-leb, not-true, not-false}
+use Rattle.words.specs.Prefix.{hostClear}
+use Rattle.refusals.specs.Rules.{broken}
+use Rattle.live.proofs.prefix_fault.Statement.{statement}
+use Rattle.live.proofs.prefix_fault.Tie as tie
 
 returns : tie.Need-returns
 unfolding broken

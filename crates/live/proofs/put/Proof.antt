@@ -1,17 +1,15 @@
 -- `put` replies by the rules in their order. Assumes nothing.
-use Prim.Native.Nat.{ℕ, _+_, _*_, _≤_}
-use Rattle.live.proofs.Holding.{held-live, held-dead}
-use Rattle.live.proofs.Replies.{prefix-short, masked-sound, puts-dead, puts-faulty, puts-hop, puts-past, takes-dead, takes-faulty, takes-past}
-use Rattle.live.proofs.put.Statement.{statement}
-use Rattle.live.proofs.put.Tie as tie
-use Rattle.live.specs.Inner.{PutsKept, TakesKept}
-use Rattle.live.specs.Rooms.{shown, sound, live}
-use Rattle.nodecount.specs.Nodes.{nodes}
-use Rattle.records.specs.Wire.{route}
-use borrow.Author.Needs.{needs}
 use mathlib.Core.Bool.{true}
 use mathlib.Core.Path.{_≡_}
 use native.Mathlib.Omega.{arith}
+use borrow.Author.Needs.{needs}
+use Rattle.records.specs.Wire.{route}
+use Rattle.nodecount.specs.Nodes.{nodes}
+use Rattle.live.specs.Rooms.{shown, sound, live}
+use Rattle.live.proofs.Holding.{held-live, held-dead}
+use Rattle.live.proofs.Replies.{prefix-short, masked-sound, puts-dead, puts-faulty, puts-hop, puts-past}
+use Rattle.live.proofs.put.Statement.{statement}
+use Rattle.live.proofs.put.Tie as tie
 
 nodes-held-requires : tie.Need-nodes-held-requires
 nodes-held-requires c κs = search needs

@@ -1,22 +1,17 @@
 -- `put_kept` finds the prefix's place, and writes the record there or makes one. Assumes nothing.
-use Prim.Native.Nat.{ℕ, _+_, _*_, _≤_, _<_}
-use Rattle.live.proofs.Calling.{table-from, small, put-done-old, take-done, take-absent, with-table, put-17, put-10, more-holds, put-done-new}
-use Rattle.live.proofs.Passing.{sound-short}
+use mathlib.Core.Bool.{true, false}
+use mathlib.Core.Path.{_≡_, sym, _∙_}
+use native.Mathlib.Omega.{arith}
+use borrow.Author.Needs.{needs}
+use Rattle.records.specs.Wire.{route}
+use Rattle.nodecount.specs.Nodes.{nodes}
 use Rattle.live.specs.Conditions.{Words}
+use Rattle.live.specs.Inner.{isAt}
+use Rattle.live.specs.Rooms.{countIn, shownFrom, shown}
+use Rattle.live.proofs.Calling.{table-from, small, put-done-old, with-table, put-17, put-10, more-holds, put-done-new}
 use Rattle.live.proofs.Sound.{Proper, Live, live-is, sound-proper}
 use Rattle.live.proofs.put_kept.Statement.{statement}
 use Rattle.live.proofs.put_kept.Tie as tie
-use Rattle.live.specs.Inner.{Placed, isAt, PutsKept, TakesKept}
-use Rattle.live.specs.Rooms.{countIn, shownFrom, shown}
-use Rattle.nodecount.specs.Nodes.{nodes}
-use Rattle.live.specs.declared.answers.Kept.the-variants.{Done, Absent}
-use Rattle.records.specs.Wire.{route}
-use borrow.Author.Needs.{needs}
-use lib.ListN.{getD}
-use mathlib.Core.Bool.{true, false}
-use mathlib.Core.List.{List}
-use mathlib.Core.Path.{_≡_, refl, sym, ap, _∙_}
-use native.Mathlib.Omega.{arith}
 
 alive : (c : tie.Start) → Live (c .args .room .now)
 alive c = live-is (c .args .room .now) (c .pre .0)

@@ -1,15 +1,15 @@
 -- `changes::insert` moves the later records up and writes one. Assumes nothing.
-use Prim.Native.Nat.{ℕ, _+_, _*_}
+use Prim.Native.Nat.{ℕ, _+_}
+use mathlib.Core.List.{List}
+use mathlib.Core.Path.{ap, _∙_}
+use native.Mathlib.Omega.{arith}
+use lib.ListN.{length-set, set}
+use borrow.Author.Needs.{needs}
+use Rattle.records.specs.Wire.{route}
+use Rattle.live.specs.Inner.{written}
 use Rattle.live.proofs.Moving.{insert-is}
 use Rattle.live.proofs.changes.insert.Statement.{statement}
 use Rattle.live.proofs.changes.insert.Tie as tie
-use Rattle.live.specs.Inner.{written}
-use Rattle.records.specs.Wire.{route}
-use borrow.Author.Needs.{needs}
-use lib.ListN.{length, length-set, set}
-use mathlib.Core.List.{List}
-use mathlib.Core.Path.{_≡_, ap, _∙_}
-use native.Mathlib.Omega.{arith}
 
 mul-move-up : tie.Need-mul-move-up
 mul-move-up c = search needs

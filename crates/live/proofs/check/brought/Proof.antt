@@ -1,12 +1,12 @@
 -- `check::brought` is the table's count for two routes. Assumes nothing.
 use Prim.Native.Nat.{_/_}
-use Rattle.live.proofs.check.brought.Statement.{statement}
-use Rattle.live.proofs.check.brought.Tie as tie
-use Rattle.nodecount.proofs.NodePass.{fresh-small}
-use Rattle.nodecount.specs.Nodes.{bare}
-use borrow.Author.Needs.{needs}
 use mathlib.Core.List.{[], _∷_}
 use native.Mathlib.Omega.{arith}
+use borrow.Author.Needs.{needs}
+use Rattle.nodecount.proofs.NodePass.{fresh-small}
+use Rattle.nodecount.specs.Nodes.{bare}
+use Rattle.live.proofs.check.brought.Statement.{statement}
+use Rattle.live.proofs.check.brought.Tie as tie
 
 cast-new-nodes : tie.Need-cast-new-nodes
 cast-new-nodes c = search needs

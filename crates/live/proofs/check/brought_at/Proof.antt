@@ -1,13 +1,13 @@
 -- `check::brought_at` compares a route with the record before a place. Assumes nothing.
 use Prim.Native.Nat.{ℕ}
+use mathlib.Core.Path.{ap, ap₂, _∙_}
+use native.Mathlib.Omega.{arith}
+use borrow.Author.Needs.{needs}
+use Rattle.theory.specs.Routes.{Route}
+use Rattle.nodecount.specs.Nodes.{newNodes, bare}
 use Rattle.live.proofs.Passing.{prior-is}
 use Rattle.live.proofs.check.brought_at.Statement.{statement}
 use Rattle.live.proofs.check.brought_at.Tie as tie
-use Rattle.nodecount.specs.Nodes.{newNodes, bare}
-use Rattle.theory.specs.Routes.{Route}
-use borrow.Author.Needs.{needs}
-use mathlib.Core.Path.{_≡_, ap, ap₂, _∙_}
-use native.Mathlib.Omega.{arith}
 
 brought-requires : tie.Need-brought-requires
 brought-requires c κs = search needs

@@ -1,12 +1,11 @@
 -- `check::follows` tries the order, then the route. Assumes nothing.
-use Rattle.live.proofs.check.follows.Statement.{statement}
-use Rattle.live.proofs.check.follows.Tie as tie
-use Rattle.nodecount.specs.Nodes.{bare}
-use Rattle.records.specs.Wire.{route}
-use Rattle.table.specs.TableRules.{before}
-use borrow.Author.Needs.{needs}
 use mathlib.Core.Bool.{true, false}
 use mathlib.Core.Path.{_≡_, sym, _∙_}
+use borrow.Author.Needs.{needs}
+use Rattle.table.specs.TableRules.{before}
+use Rattle.nodecount.specs.Nodes.{bare}
+use Rattle.live.proofs.check.follows.Statement.{statement}
+use Rattle.live.proofs.check.follows.Tie as tie
 
 comes-before-requires : tie.Need-comes-before-requires
 comes-before-requires c κs = search needs

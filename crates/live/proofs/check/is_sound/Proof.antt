@@ -1,11 +1,11 @@
 -- `check::is_sound` tries rules 5, 6 and 7. Assumes nothing.
-use Rattle.live.proofs.check.is_sound.Statement.{statement}
-use Rattle.live.proofs.check.is_sound.Tie as tie
-use Rattle.words.specs.Prefix.{hostClear}
-use borrow.Author.Needs.{needs}
-use borrow.Author.Tests.{le-leb, lt-leb}
 use mathlib.Core.Bool.{true, false}
 use mathlib.Core.Path.{_≡_, sym, _∙_}
+use borrow.Author.Needs.{needs}
+use borrow.Author.Tests.{le-leb, lt-leb}
+use Rattle.words.specs.Prefix.{hostClear}
+use Rattle.live.proofs.check.is_sound.Statement.{statement}
+use Rattle.live.proofs.check.is_sound.Tie as tie
 
 returns : tie.Need-returns
 returns c = rw (lt-leb (c .before .args .len) 32 (c .if1 .taken))

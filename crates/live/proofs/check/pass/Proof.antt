@@ -1,21 +1,21 @@
 -- `check::pass` goes through the records once. Assumes nothing.
 use Prim.Native.Nat.{ℕ, _+_, _-_, _*_, _≤_, _<_}
+use mathlib.Core.Bool.{true, _&&_}
+use mathlib.Core.List.{List}
+use mathlib.Core.Path.{_≡_, refl, sym, ap, _∙_}
+use native.Mathlib.Omega.{arith}
+use borrow.Author.Tests.{not-true, not-false}
+use borrow.Author.Needs.{needs}
+use Rattle.theory.specs.Routes.{Route}
+use Rattle.records.specs.Wire.{route}
+use Rattle.table.specs.TableRules.{before}
+use Rattle.nodecount.proofs.NodeCount.{root, passed}
+use Rattle.nodecount.specs.Nodes.{bare}
+use Rattle.live.specs.Rooms.{shownFrom, sound, after, lawful}
 use Rattle.live.proofs.Passing.{follows-short, done-order, done-count, sound-short, no-records, passed-false, passed-true, next-good, next-bad, next-count, first-good, first-bad}
 use Rattle.live.proofs.Reading.{restIn, rest-all}
 use Rattle.live.proofs.check.pass.Statement.{statement}
 use Rattle.live.proofs.check.pass.Tie as tie
-use Rattle.live.specs.Rooms.{shownFrom, sound, after, lawful}
-use Rattle.records.specs.Wire.{route}
-use Rattle.table.specs.TableRules.{before}
-use Rattle.theory.specs.Routes.{Route}
-use borrow.Author.Tests.{not-true, not-false}
-use mathlib.Core.Bool.{true, _&&_}
-use mathlib.Core.List.{List}
-use Rattle.nodecount.proofs.NodeCount.{root, passed}
-use Rattle.nodecount.specs.Nodes.{bare}
-use borrow.Author.Needs.{needs}
-use mathlib.Core.Path.{_≡_, refl, sym, ap, _∙_}
-use native.Mathlib.Omega.{arith}
 
 abbrev Inv-loop : tie.InvT-loop
 Inv-loop room n last-addr₀ last-len₀ count₀ i₀ last-addr last-len count i =

@@ -1,7 +1,7 @@
 -- `fields::comes_before` compares addresses, then lengths. Assumes nothing.
+use borrow.Author.Tests.{lt-ltb, le-ltb, eq-eqb, ne-eqb}
 use Rattle.live.proofs.fields.comes_before.Statement.{statement}
 use Rattle.live.proofs.fields.comes_before.Tie as tie
-use borrow.Author.Tests.{lt-ltb, le-ltb, eq-eqb, ne-eqb}
 
 returns : tie.Need-returns
 returns c = simp (lt-ltb _ _ (c .if1 .taken))

@@ -1,5 +1,5 @@
 -- What the inner functions ask and say.
-use Prim.Native.Nat.{ℕ, zero, suc, _+_, _-_, _*_, _≤_, _<_}
+use Prim.Native.Nat.{ℕ, zero, suc, _+_, _-_, _*_, _/_, _^_, _≤_, _<_}
 use mathlib.Core.Path.{_≡_}
 use mathlib.Core.Bool.{Bool, true, false, cond, _&&_}
 use mathlib.Core.List.{List, _∷_, _++_}
@@ -32,6 +32,11 @@ pub record Placed (room : List ℕ) (n addr len at : ℕ) : Type 0 where
   pub low : at ≤ n
   pub over : (k : ℕ) → k < at → before (routeIn room k) (bare addr len) ≡ true
   pub stops : at < n → before (routeIn room at) (bare addr len) ≡ false
+
+-- Two addresses of 32 bits share no more than their first r bits: they are one, or differ in their first r + 1.
+pub record Shared (a b r : ℕ) : Type 0 where
+  pub most : r ≤ 32
+  pub apart : (a ≡ b → ⊥) → (r < 32) × (a / 2 ^ (32 - (r + 1)) ≡ b / 2 ^ (32 - (r + 1)) → ⊥)
 
 -- Has record at, of n, the prefix?
 abbrev pub isAt : List ℕ → ℕ → ℕ → ℕ → ℕ → Bool

@@ -29,7 +29,8 @@ use Rattle.live.specs.declared.answers.Kept.the-variants.{Done, Absent, 
 use Rattle.live.specs.Rooms.{shown, fit, live}
 use Rattle.live.specs.Tables.{masked, putting, prefixRules, putRules}
 use Rattle.live.specs.Calls.{keptSays, leftBy, liveRules, Makes, Puts, Takes, lookReply}
-use Rattle.live.specs.Conditions.{Words, Holding, MakeCondition, short-room, LookCondition, no-map, TakeCondition, of-room, too-long, host-bits, PutCondition, of-prefix, bad-hop, too-many, too-wide}
+use Rattle.live.specs.Conditions.{Words, Holding, MakeCondition, short-room, LookCondition, no-map}
+use Rattle.live.specs.Conditions.{TakeCondition, of-room, too-long, host-bits, PutCondition, of-prefix, bad-hop, too-many, too-wide}
 use Rattle.live.proofs.Maps.{live-holds, holds-live}
 
 -- Answers that say the same are the same.

@@ -145,7 +145,8 @@ pub make-good : {room after : List ℕ} → Words room → Makes room Done after
 unfolding judge nodes brought
 make-good {room} {after} w p = go (leb 160 (length room)) refl (p .reply) (p .left)
   where
-    go : (b : Bool) → leb 160 (length room) ≡ b → keptSays Done ≡ judge (rule 10 0 b ∷ []) true → after ≡ leftBy (judge (rule 10 0 b ∷ []) true) [] room → Good (fit room) [] after
+    go : (b : Bool) → leb 160 (length room) ≡ b → keptSays Done ≡ judge (rule 10 0 b ∷ []) true
+        → after ≡ leftBy (judge (rule 10 0 b ∷ []) true) [] room → Good (fit room) [] after
     go true e q s = rw s (good-stored room w refl empty-mapped (omega arith) (let z : 1 ≤ length room / 160 = omega (arith, leb-true 160 (length room) e) in z))
     go false e q s = gives-not (sym q)
 

@@ -95,11 +95,15 @@ unfolding pairs
 words-pairs u nil w = w
 words-pairs u (cons {r = r} {t = t} p ps) w =
     let h : r .len * 65536 + r .hop < 2 ^ 32 = omega (arith, p .valid .short, p .hop-kept) in
-    words-cons (r .addr) ((r .len * 65536 + r .hop) ∷ (pairs t ++ u)) (p .valid .small) (words-cons (r .len * 65536 + r .hop) (pairs t ++ u) h (words-pairs u ps w))
+    words-cons (r .addr) ((r .len * 65536 + r .hop) ∷ (pairs t ++ u)) (p .valid .small)
+    (words-cons (r .len * 65536 + r .hop) (pairs t ++ u) h (words-pairs u ps w))
 
 words-stored : {t : List Route} (room : List ℕ) → Mapped t → length t ≤ 1024 → Words room → Words (stored t room)
 words-stored {t} room m few w =
-    rw (stored-is t room) (words-cons mark (length t ∷ (pairs t ++ drop (2 + 2 * length t) room)) (omega arith) (words-cons (length t) (pairs t ++ drop (2 + 2 * length t) room) (omega arith) (words-pairs (drop (2 + 2 * length t) room) (m .each) (words-drop (2 + 2 * length t) room w))))
+    let behind : List ℕ = drop (2 + 2 * length t) room in
+    let held = words-pairs behind (m .each) (words-drop (2 + 2 * length t) room w) in
+    rw (stored-is t room)
+    (words-cons mark (length t ∷ (pairs t ++ behind)) (omega arith) (words-cons (length t) (pairs t ++ behind) (omega arith) held))
 
 -- A good room shows the routes t, and so many nodes fit.
 pub record Good (most : ℕ) (t : List Route) (room : List ℕ) : Type 0 where
@@ -108,7 +112,8 @@ pub record Good (most : ℕ) (t : List Route) (room : List ℕ) : Type 0 where
   pub shows : shown room ≡ t
   pub size : fit room ≡ most
 
-pub good-stored : {most : ℕ} {t : List Route} (room : List ℕ) → Words room → fit room ≡ most → Mapped t → length t ≤ 1024 → nodes 32 t ≤ most → Good most t (stored t room)
+pub good-stored : {most : ℕ} {t : List Route} (room : List ℕ) → Words room → fit room ≡ most → Mapped t → length t ≤ 1024
+    → nodes 32 t ≤ most → Good most t (stored t room)
 good-stored {most} {t} room w e m few fits =
     let f : nodes 32 t ≤ fit room = omega arith in
     record {

@@ -31,7 +31,8 @@ no-records room n e = rw e
 pub passed-false : (room : List ℕ) (n : ℕ) → lawful (shownFrom room 0 n) ≡ false → 0 ≡ passedNodes room n
 passed-false room n e = rw e
 
-pub passed-true : (room : List ℕ) (n count : ℕ) → Words room → lawful (shownFrom room 0 n) ≡ true → count ≡ 1 + passed 32 root (shownFrom room 0 n) → count ≡ passedNodes room n
+pub passed-true : (room : List ℕ) (n count : ℕ) → Words room → lawful (shownFrom room 0 n) ≡ true
+    → count ≡ 1 + passed 32 root (shownFrom room 0 n) → count ≡ passedNodes room n
 passed-true room n count w e q =
     rw e (q ∙ sym (nodes-pass 32 (mapped-table (lawful-mapped (small-shown room 0 n w) e))))
 

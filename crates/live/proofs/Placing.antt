@@ -11,7 +11,7 @@ use lib.Dec.{ltb}
 use borrow.Author.Tests.{lt-ltb, ltb-true}
 use Rattle.theory.specs.Routes.{Route, Answer, none, via, All, nil, cons, Before, Ascending, first}
 use Rattle.theory.specs.Shapes.{routed}
-use Rattle.theory.proofs.Lists.{all-map, all-member}
+use Rattle.theory.proofs.Lists.{all-append, all-map, all-member}
 use Rattle.theory.proofs.Parts.{part-append, part-whole}
 use Rattle.theory.proofs.Order.{before-trans}
 use Rattle.records.specs.Wire.{route}
@@ -159,7 +159,8 @@ module _ (room : List ℕ) (n a l at h : ℕ) (p : Placed room n a l at) (o : As
         ∙ ap routed (entry-append (shownFrom room 0 at) (routeIn room at ∷ restIn room n (at + 1)) a l)
         ∙ any (entry (shownFrom room 0 at) a l)
       where
-        any : (v : Answer) → routed (orElse v (cond (same (routeIn room at .addr) (routeIn room at .len) a l) (via (routeIn room at .hop)) (entry (restIn room n (at + 1)) a l))) ≡ true
+        any : (v : Answer)
+            → routed (orElse v (cond (same (routeIn room at .addr) (routeIn room at .len) a l) (via (routeIn room at .hop)) (entry (restIn room n (at + 1)) a l))) ≡ true
         any none = rw here
         any (via i) = refl
 
@@ -208,12 +209,7 @@ module _ (room : List ℕ) (n a l at h : ℕ) (p : Placed room n a l at) (o : As
 
     all-other : All (λ u. same (u .addr) (u .len) a l ≡ false) (shownFrom room 0 n)
     unfolding r xs
-    all-other = rw whole (both (others fronts) (backs rests))
-      where
-        both : {s t : List Route} → All (λ u. same (u .addr) (u .len) a l ≡ false) s → All (λ u. same (u .addr) (u .len) a l ≡ false) t
-            → All (λ u. same (u .addr) (u .len) a l ≡ false) (s ++ t)
-        both nil q = q
-        both (cons k ks) q = cons k (both ks q)
+    all-other = rw whole (all-append (others fronts) (backs rests))
 
     pub absent-at : present (shownFrom room 0 n) a l ≡ false
     absent-at = ap routed (go all-other)

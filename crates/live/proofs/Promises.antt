@@ -79,7 +79,8 @@ module _ {room after : List ℕ} {form : Form} {a l h : ℕ} {k : Kept} (words :
   -- A put leaves the map of the routes that were shown with its route put,
   pub put-leaves : HoldsMap after (putting (shown room) a l h)
   put-leaves =
-      let e : tablePut (fit room) (shown room) form a l h ≡ gives true = sym (put-said (fit room) (shown room) room good form a l h small k after ok) ∙ ap keptSays done in
+      let e : tablePut (fit room) (shown room) form a l h ≡ gives true =
+      sym (put-said (fit room) (shown room) room good form a l h small k after ok) ∙ ap keptSays done in
       subst (HoldsMap after) (ap (λ (x : Reply Bool). keptBy x (putting (shown room) a l h) (shown room)) e)
       (good-holds (put-good (fit room) (shown room) room good form a l h small k after ok))
 
@@ -101,7 +102,8 @@ module _ {room after : List ℕ} {form : Form} {a l : ℕ} {k : Kept} (words : W
   -- It leaves the map of the routes without the prefix,
   pub take-leaves : HoldsMap after (taking (shown room) a l)
   take-leaves =
-      let e : tableTake (shown room) form a l ≡ gives c = sym (take-said (fit room) (shown room) room good-take form a l k after ok) ∙ given in
+      let e : tableTake (shown room) form a l ≡ gives c =
+      sym (take-said (fit room) (shown room) room good-take form a l k after ok) ∙ given in
       subst (HoldsMap after) (ap (λ (x : Reply Bool). keptBy x (taking (shown room) a l) (shown room)) e)
       (good-holds (take-good (fit room) (shown room) room good-take form a l k after ok))
 

@@ -46,23 +46,26 @@ add-from c = search needs
 loop-less : tie.Need-loop-less Inv-loop μ-loop
 loop-less c = search needs
 
+-- What the comparison says of the record in the middle.
+middle : (c : tie.After-comes-before Inv-loop μ-loop) → ℕ
+middle c = c .before .before .before .before .loop .from + (c .before .before .before .before .loop .to - c .before .before .before .before .loop .from) / 2
+
+asked : (c : tie.After-comes-before Inv-loop μ-loop)
+    → before (routeIn (c .before .before .before .before .before .before .args .room .now) (middle c)) (bare (c .before .before .before .before .before .before .args .addr) (c .before .before .before .before .before .before .args .len)) ≡ c .comes-before .result
+unfolding middle
+asked c =
+    let a = c .before .before .before .before .before .before .args in
+    ap₂ (λ (x y : ℕ). before (bare x y) (bare (a .addr) (a .len))) (sym (c .before .before .addr-in .ensures)) (sym (c .before .len-in .ensures)) ∙ sym (c .comes-before .ensures)
+
 loop-again : tie.Need-loop-again Inv-loop μ-loop
+unfolding middle
 loop-again c =
-    let start = c .before .before .before .before .before .before .before in
+    let s = c .before .before .before .before .before .before .before in
     let lp = c .before .before .before .before .before .loop in
-    let room = start .args .room .now in
-    let n = start .args .n in
-    let a = start .args .addr in
-    let l = start .args .len in
-    let order = start .pre .1 in
-    let k = lp .from + (lp .to - lp .from) / 2 in
-    let is : before (routeIn room k) (bare a l) ≡ true =
-    ap₂ (λ (x y : ℕ). before (bare x y) (bare a l)) (sym (c .before .before .before .addr-in .ensures)) (sym (c .before .before .len-in .ensures))
-    ∙ sym (c .before .comes-before .ensures)
-    ∙ c .if1 .taken in (
+    let is = asked (c .before) ∙ c .if1 .taken in (
       omega arith,
       omega arith,
-      λ i h. before-below room n k a l order (omega arith) is i (omega arith),
+      λ i h. before-below (s .args .room .now) (s .args .n) (middle (c .before)) (s .args .addr) (s .args .len) (s .pre .1) (omega arith) is i (omega arith),
       lp .inv .3,
     )
 
@@ -70,23 +73,15 @@ loop-less-2 : tie.Need-loop-less-2 Inv-loop μ-loop
 loop-less-2 c = search needs
 
 loop-again-2 : tie.Need-loop-again-2 Inv-loop μ-loop
+unfolding middle
 loop-again-2 c =
-    let start = c .before .before .before .before .before .before .before in
+    let s = c .before .before .before .before .before .before .before in
     let lp = c .before .before .before .before .before .loop in
-    let room = start .args .room .now in
-    let n = start .args .n in
-    let a = start .args .addr in
-    let l = start .args .len in
-    let order = start .pre .1 in
-    let k = lp .from + (lp .to - lp .from) / 2 in
-    let is : before (routeIn room k) (bare a l) ≡ false =
-    ap₂ (λ (x y : ℕ). before (bare x y) (bare a l)) (sym (c .before .before .before .addr-in .ensures)) (sym (c .before .before .len-in .ensures))
-    ∙ sym (c .before .comes-before .ensures)
-    ∙ c .if1 .left in (
+    let is = asked (c .before) ∙ c .if1 .left in (
       omega arith,
       omega arith,
       lp .inv .2,
-      λ i le h. before-above room n k a l order is i le h,
+      λ i le h. before-above (s .args .room .now) (s .args .n) (middle (c .before)) (s .args .addr) (s .args .len) (s .pre .1) is i le h,
     )
 
 returns : tie.Need-returns Inv-loop μ-loop

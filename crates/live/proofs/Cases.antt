@@ -7,7 +7,7 @@ use mathlib.Core.List.{List, [], _∷_}
 use native.Mathlib.Omega.{arith}
 use Rattle.theory.specs.Routes.{miss, hit}
 use Rattle.refusals.specs.Rules.{gives, refuses, judge}
-use Rattle.records.specs.declared.Form.{Form}
+use Rattle.records.specs.Forms.{byDefault, strictly}
 use Rattle.nodecount.specs.Nodes.{fresh, brought, nodes}
 use Rattle.live.specs.declared.answers.Kept.the-variants.{Done}
 use Rattle.live.specs.Rooms.{fit}
@@ -21,13 +21,6 @@ pub record Sequence : Type 0 where
   pub most : ℕ
   pub calls : List Call
   pub answers : List Said
-
--- Host bits are masked, or refused under the strict choice.
-abbrev pub byDefault : Form
-byDefault = record { strict = false }
-
-abbrev pub strictly : Form
-strictly = record { strict = true }
 
 -- The address of four octets.
 abbrev pub at : ℕ → ℕ → ℕ → ℕ → ℕ

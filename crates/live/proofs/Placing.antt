@@ -18,7 +18,7 @@ use Rattle.records.specs.Wire.{route}
 use Rattle.table.specs.TableRules.{before}
 use Rattle.nodecount.specs.Nodes.{bare}
 use Rattle.steps.specs.Steps.{same, entry, present, precedes, put, without}
-use Rattle.steps.specs.Views.{orElse}
+use Rattle.positions.specs.Runs.{orElse}
 use Rattle.steps.proofs.Entries.{same-true, true-same, same-false, same-sym, entry-append, order}
 use Rattle.live.specs.Rooms.{routeIn, shownFrom}
 use Rattle.live.specs.Inner.{Placed, isAt, withAt}

@@ -7,6 +7,7 @@ use native.Mathlib.Omega.{arith}
 use lib.ListN.{length}
 use Rattle.theory.specs.Routes.{Match, hit}
 use Rattle.refusals.specs.Rules.{gives, refuses}
+use Rattle.records.specs.Forms.{byDefault}
 use Rattle.nodecount.specs.Nodes.{fresh, brought, nodes}
 use Rattle.live.specs.declared.answers.Kept.{Kept}
 use Rattle.live.specs.declared.answers.Kept.the-variants.{Done}
@@ -16,7 +17,7 @@ use Rattle.live.specs.Calls.{Makes, Puts}
 use Rattle.live.specs.Sequences.{Said, changed, found, Runs}
 use Rattle.live.specs.Conditions.{Words, MakeCondition, short-room}
 use Rattle.live.proofs.Calls.{make-done}
-use Rattle.live.proofs.Cases.{byDefault, emptied, replaced, worked}
+use Rattle.live.proofs.Cases.{emptied, replaced, worked}
 use Rattle.live.proofs.Maps.{holds-shown}
 use Rattle.live.proofs.Promises.{make-leaves, put-done-exactly}
 

@@ -29,7 +29,9 @@ same-length-2 : tie.Need-same-length-2
 same-length-2 c = search needs
 
 -- Past the first test the room holds a live map.
-went : (c : tie.Else1) → (live (c .before .before .before .before .args .room .now) ≡ true) × (c .before .nodes-held .result ≡ nodes 32 (shown (c .before .before .before .before .args .room .now)))
+went : (c : tie.Else1)
+    → (live (c .before .before .before .before .args .room .now) ≡ true)
+    × (c .before .nodes-held .result ≡ nodes 32 (shown (c .before .before .before .before .args .room .now)))
 went c = held-live (c .before .before .before .before .args .room .now) _ (c .before .nodes-held .ensures) (c .if1 .left)
 
 returns-2 : tie.Need-returns-2
@@ -68,7 +70,8 @@ same-length-4 c = search needs
 returns-4 : tie.Need-returns-4
 returns-4 c =
     let a = c .before .before .before .before .before .before .before .before .before .before .before .before .args in
-    puts-past (a .room .now) (a .form) (a .address) (a .len) (a .hop) (went (c .before .before .before .before .before .before .before .before) .0) _ (c .before .before .before .before .before .before .before .prefix-fault .ensures) (c .before .before .before .before .before .before .if2 .left) (c .before .before .before .before .before .if3 .left) _ _
+    puts-past (a .room .now) (a .form) (a .address) (a .len) (a .hop) (went (c .before .before .before .before .before .before .before .before) .0) _
+    (c .before .before .before .before .before .before .before .prefix-fault .ensures) (c .before .before .before .before .before .before .if2 .left) (c .before .before .before .before .before .if3 .left) _ _
     (rw (c .before .before .before .masked .ensures) at (c .before .before .put-kept .ensures))
 
 pub put-spec : {M : Type 1} → statement M

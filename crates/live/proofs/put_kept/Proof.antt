@@ -1,6 +1,8 @@
 -- `put_kept` finds the prefix's place, and writes the record there or makes one. Assumes nothing.
-use mathlib.Core.Bool.{true, false}
+use Prim.Native.Nat.{ℕ}
+use mathlib.Core.Bool.{Bool, true, false}
 use mathlib.Core.Path.{_≡_, sym, _∙_}
+use mathlib.Core.List.{List}
 use native.Mathlib.Omega.{arith}
 use borrow.Author.Needs.{needs}
 use Rattle.records.specs.Wire.{route}
@@ -40,19 +42,32 @@ place-requires c κs =
 is-at-requires : tie.Need-is-at-requires
 is-at-requires c κs = alive (c .before .before .before .before .before) .holds
 
--- The prefix is at its place, or it is not.
-old : (c : tie.Then1) → isAt (c .before .before .before .before .before .before .before .args .room .now) (countIn (c .before .before .before .before .before .before .before .args .room .now)) (c .before .before .before .place .result) (c .before .before .before .before .before .before .before .args .addr) (c .before .before .before .before .before .before .before .args .len) ≡ true
+-- ---- Where the place of the prefix is known.
+
+abbrev start : tie.After-place → tie.Start
+start p = p .before .before .before .before
+
+abbrev room : tie.After-place → List ℕ
+room p = start p .args .room .now
+
+abbrev is-there : tie.After-place → Bool
+is-there p = isAt (room p) (countIn (room p)) (p .place .result) (start p .args .addr) (start p .args .len)
+
+old : (c : tie.Then1) → is-there (c .before .before .before) ≡ true
 old c = sym (c .before .is-at .ensures) ∙ c .if1 .taken
 
-new : (c : tie.Else1) → isAt (c .before .before .before .before .before .before .before .args .room .now) (countIn (c .before .before .before .before .before .before .before .args .room .now)) (c .before .before .before .place .result) (c .before .before .before .before .before .before .before .args .addr) (c .before .before .before .before .before .before .before .args .len) ≡ false
+new : (c : tie.Else1) → is-there (c .before .before .before) ≡ false
 new c = sym (c .before .is-at .ensures) ∙ c .if1 .left
+
+-- ---- The prefix is present: its record is written anew.
 
 set-record-requires : tie.Need-set-record-requires
 set-record-requires c κs =
-    let a = c .before .before .before .before .before .before .before .before .args in
-    let l = alive (c .before .before .before .before .before .before .before .before) in
-    let v = proper (c .before .before .before .before .before .before .before .before) in
-    let lt = small (a .room .now) (words (c .before .before .before .before .before .before .before)) (alive (c .before .before .before .before .before .before .before .before)) (a .addr) (a .len) _ (c .before .before .before .before .place .ensures) (old (c .before)) in
+    let p = c .before .before .before .before in
+    let a = start p .args in
+    let l = alive (start p) in
+    let v = proper (start p) in
+    let lt = small (room p) (words (p .before .before .before)) l (a .addr) (a .len) (p .place .result) (p .place .ensures) (old (c .before)) in
     (omega (arith, l .holds), (v .valid .short, v .hop-kept))
 
 same-length : tie.Need-same-length
@@ -60,26 +75,35 @@ same-length c = search needs
 
 returns : tie.Need-returns
 returns c =
-    let a = c .before .before .before .before .before .before .before .before .before .before .before .args in
-    let v = proper (c .before .before .before .before .before .before .before .before .before .before .before) in
-    rw (sym (c .before .before .set-record .ensures)) at (put-done-old (a .room .now) (words (c .before .before .before .before .before .before .before .before .before .before)) (alive (c .before .before .before .before .before .before .before .before .before .before .before)) (a .addr) (a .len) _ (c .before .before .before .before .before .before .before .place .ensures) (old (c .before .before .before .before)) (a .hop) v)
+    let p = c .before .before .before .before .before .before .before in
+    let a = start p .args in
+    rw (sym (c .before .before .set-record .ensures)) at (put-done-old (room p) (words (p .before .before .before)) (alive (start p)) (a .addr) (a .len) (p .place .result) (p .place .ensures)
+    (old (c .before .before .before .before)) (a .hop) (proper (start p)))
+
+-- ---- It is absent: the map is full, or its nodes are, or a record is made.
 
 same-length-2 : tie.Need-same-length-2
 same-length-2 c = search needs
 
 returns-2 : tie.Need-returns-2
 returns-2 c =
-    let a = c .before .before .before .before .before .before .before .before .args in
-    put-17 (a .room .now) (words (c .before .before .before .before .before .before .before)) (alive (c .before .before .before .before .before .before .before .before)) (a .addr) (a .len) _ (c .before .before .before .before .place .ensures) (new (c .before)) (a .hop) (proper (c .before .before .before .before .before .before .before .before)) (c .if2 .taken)
+    let p = c .before .before .before .before in
+    let a = start p .args in
+    put-17 (room p) (words (p .before .before .before)) (alive (start p)) (a .addr) (a .len) (p .place .result) (p .place .ensures) (new (c .before)) (a .hop)
+    (proper (start p)) (c .if2 .taken)
 
 held-with-requires : tie.Need-held-with-requires
 held-with-requires c κs =
-    let a = c .before .before .before .before .before .before .before .before .before .args in
-    let l = alive (c .before .before .before .before .before .before .before .before .before) in
-    let v = proper (c .before .before .before .before .before .before .before .before .before) in
-    let held = c .before .before .before .before .before .before .before .before .before .pre .1 .0 in (
-      (l .holds, (l .few, (c .before .before .before .before .before .place .ensures .low, v .valid .short))),
-      ((table-from (a .room .now) (words (c .before .before .before .before .before .before .before .before)) l, told (c .before .before .before .before .before .before .before .before .before)), with-table (a .room .now) (words (c .before .before .before .before .before .before .before .before)) (alive (c .before .before .before .before .before .before .before .before .before)) (a .addr) (a .len) _ (c .before .before .before .before .before .place .ensures) (new (c .before .before)) (a .hop) v),
+    let p = c .before .before .before .before .before in
+    let a = start p .args in
+    let l = alive (start p) in
+    let v = proper (start p) in
+    let w = words (p .before .before .before) in (
+      (l .holds, (l .few, (p .place .ensures .low, v .valid .short))),
+      (
+        (table-from (room p) w l, told (start p)),
+        with-table (room p) w l (a .addr) (a .len) (p .place .result) (p .place .ensures) (new (c .before .before)) (a .hop) v,
+      ),
     )
 
 same-length-3 : tie.Need-same-length-3
@@ -87,18 +111,22 @@ same-length-3 c = search needs
 
 returns-3 : tie.Need-returns-3
 returns-3 c =
-    let a = c .before .before .before .before .before .before .before .before .before .before .before .args in
-    put-10 (a .room .now) (words (c .before .before .before .before .before .before .before .before .before .before)) (alive (c .before .before .before .before .before .before .before .before .before .before .before)) (a .addr) (a .len) _ (c .before .before .before .before .before .before .before .place .ensures) (new (c .before .before .before .before)) (a .hop) (proper (c .before .before .before .before .before .before .before .before .before .before .before)) (c .before .before .before .if2 .left) _ (c .before .held-with .ensures) (c .if3 .taken)
+    let p = c .before .before .before .before .before .before .before in
+    let a = start p .args in
+    put-10 (room p) (words (p .before .before .before)) (alive (start p)) (a .addr) (a .len) (p .place .result) (p .place .ensures) (new (c .before .before .before .before)) (a .hop)
+    (proper (start p)) (c .before .before .before .if2 .left) _ (c .before .held-with .ensures) (c .if3 .taken)
 
 insert-requires : tie.Need-insert-requires
 insert-requires c κs =
-    let a = c .before .before .before .before .before .before .before .before .before .before .before .before .args in
-    let l = alive (c .before .before .before .before .before .before .before .before .before .before .before .before) in
-    let v = proper (c .before .before .before .before .before .before .before .before .before .before .before .before) in
+    let p = c .before .before .before .before .before .before .before .before in
+    let a = start p .args in
+    let l = alive (start p) in
+    let v = proper (start p) in
     let few = c .before .before .before .before .if2 .left in (
       (
-        more-holds (a .room .now) (words (c .before .before .before .before .before .before .before .before .before .before .before)) (alive (c .before .before .before .before .before .before .before .before .before .before .before .before)) (a .addr) (a .len) _ (c .before .before .before .before .before .before .before .before .place .ensures) (new (c .before .before .before .before .before)) (a .hop) v few _ (c .before .before .held-with .ensures) (c .before .if3 .left),
-        (c .before .before .before .before .before .before .before .before .place .ensures .low, omega (arith, l .few)),
+        more-holds (room p) (words (p .before .before .before)) l (a .addr) (a .len) (p .place .result) (p .place .ensures) (new (c .before .before .before .before .before)) (a .hop) v few _
+            (c .before .before .held-with .ensures) (c .before .if3 .left),
+        (p .place .ensures .low, omega (arith, l .few)),
       ),
       (v .valid .short, v .hop-kept),
     )
@@ -108,9 +136,10 @@ same-length-4 c = search needs
 
 returns-4 : tie.Need-returns-4
 returns-4 c =
-    let a = c .before .before .before .before .before .before .before .before .before .before .before .before .before .before .before .args in
-    let v = proper (c .before .before .before .before .before .before .before .before .before .before .before .before .before .before .before) in
-    rw (sym (c .before .before .insert .ensures)) at (put-done-new (a .room .now) (words (c .before .before .before .before .before .before .before .before .before .before .before .before .before .before)) (alive (c .before .before .before .before .before .before .before .before .before .before .before .before .before .before .before)) (a .addr) (a .len) _ (c .before .before .before .before .before .before .before .before .before .before .before .place .ensures) (new (c .before .before .before .before .before .before .before .before)) (a .hop) v (c .before .before .before .before .before .before .before .if2 .left) _ (c .before .before .before .before .before .held-with .ensures) (c .before .before .before .before .if3 .left))
+    let p = c .before .before .before .before .before .before .before .before .before .before .before in
+    let a = start p .args in
+    rw (sym (c .before .before .insert .ensures)) at (put-done-new (room p) (words (p .before .before .before)) (alive (start p)) (a .addr) (a .len) (p .place .result) (p .place .ensures)
+    (new (c .before .before .before .before .before .before .before .before)) (a .hop) (proper (start p)) (c .before .before .before .before .before .before .before .if2 .left) _ (c .before .before .before .before .before .held-with .ensures) (c .before .before .before .before .if3 .left))
 
 pub put-kept-spec : {M : Type 1} → statement M
 put-kept-spec =

@@ -28,7 +28,9 @@ same-length-2 : tie.Need-same-length-2
 same-length-2 c = search needs
 
 -- Past the first test the room holds a live map.
-went : (c : tie.Else1) → (live (c .before .before .before .before .args .room .now) ≡ true) × (c .before .nodes-held .result ≡ nodes 32 (shown (c .before .before .before .before .args .room .now)))
+went : (c : tie.Else1)
+    → (live (c .before .before .before .before .args .room .now) ≡ true)
+    × (c .before .nodes-held .result ≡ nodes 32 (shown (c .before .before .before .before .args .room .now)))
 went c = held-live (c .before .before .before .before .args .room .now) _ (c .before .nodes-held .ensures) (c .if1 .left)
 
 returns-2 : tie.Need-returns-2
@@ -54,7 +56,8 @@ same-length-3 c = search needs
 returns-3 : tie.Need-returns-3
 returns-3 c =
     let a = c .before .before .before .before .before .before .before .before .before .before .before .args in
-    takes-past (a .room .now) (a .form) (a .address) (a .len) (went (c .before .before .before .before .before .before .before) .0) _ (c .before .before .before .before .before .before .prefix-fault .ensures) (c .before .before .before .before .before .if2 .left) _ _
+    takes-past (a .room .now) (a .form) (a .address) (a .len) (went (c .before .before .before .before .before .before .before) .0) _
+    (c .before .before .before .before .before .before .prefix-fault .ensures) (c .before .before .before .before .before .if2 .left) _ _
     (rw (c .before .before .before .masked .ensures) at (c .before .before .take-kept .ensures))
 
 pub take-spec : {M : Type 1} → statement M

@@ -1,6 +1,8 @@
 -- `take_kept` finds the prefix's place, and takes the record there away. Assumes nothing.
-use mathlib.Core.Bool.{true, false}
+use Prim.Native.Nat.{ℕ}
+use mathlib.Core.Bool.{Bool, true, false}
 use mathlib.Core.Path.{_≡_, sym, _∙_}
+use mathlib.Core.List.{List}
 use native.Mathlib.Omega.{arith}
 use borrow.Author.Needs.{needs}
 use Rattle.live.specs.Conditions.{Words}
@@ -31,34 +33,49 @@ place-requires c κs =
 is-at-requires : tie.Need-is-at-requires
 is-at-requires c κs = alive (c .before .before .before .before .before) .holds
 
--- The prefix is at its place, or it is not.
-old : (c : tie.Then1) → isAt (c .before .before .before .before .before .before .before .args .room .now) (countIn (c .before .before .before .before .before .before .before .args .room .now)) (c .before .before .before .place .result) (c .before .before .before .before .before .before .before .args .addr) (c .before .before .before .before .before .before .before .args .len) ≡ true
+-- ---- Where the place of the prefix is known.
+
+abbrev start : tie.After-place → tie.Start
+start p = p .before .before .before .before
+
+abbrev room : tie.After-place → List ℕ
+room p = start p .args .room .now
+
+abbrev is-there : tie.After-place → Bool
+is-there p = isAt (room p) (countIn (room p)) (p .place .result) (start p .args .addr) (start p .args .len)
+
+old : (c : tie.Then1) → is-there (c .before .before .before) ≡ true
 old c = sym (c .before .is-at .ensures) ∙ c .if1 .taken
 
-new : (c : tie.Else1) → isAt (c .before .before .before .before .before .before .before .args .room .now) (countIn (c .before .before .before .before .before .before .before .args .room .now)) (c .before .before .before .place .result) (c .before .before .before .before .before .before .before .args .addr) (c .before .before .before .before .before .before .before .args .len) ≡ false
+new : (c : tie.Else1) → is-there (c .before .before .before) ≡ false
 new c = sym (c .before .is-at .ensures) ∙ c .if1 .left
 
 remove-requires : tie.Need-remove-requires
 remove-requires c κs =
-    let a = c .before .before .before .before .before .before .before .before .args in
-    let l = alive (c .before .before .before .before .before .before .before .before) in
-    (l .holds, (small (a .room .now) (words (c .before .before .before .before .before .before .before)) (alive (c .before .before .before .before .before .before .before .before)) (a .addr) (a .len) _ (c .before .before .before .before .place .ensures) (old (c .before)), l .few))
+    let p = c .before .before .before .before in
+    let a = start p .args in
+    let l = alive (start p) in
+    let lt = small (room p) (words (p .before .before .before)) l (a .addr) (a .len) (p .place .result) (p .place .ensures) (old (c .before)) in
+    (l .holds, (lt, l .few))
 
 same-length : tie.Need-same-length
 same-length c = search needs
 
 returns : tie.Need-returns
 returns c =
-    let a = c .before .before .before .before .before .before .before .before .before .before .before .args in
-    rw (sym (c .before .before .remove .ensures)) at (take-done (a .room .now) (words (c .before .before .before .before .before .before .before .before .before .before)) (alive (c .before .before .before .before .before .before .before .before .before .before .before)) (a .addr) (a .len) _ (c .before .before .before .before .before .before .before .place .ensures) (old (c .before .before .before .before)))
+    let p = c .before .before .before .before .before .before .before in
+    let a = start p .args in
+    rw (sym (c .before .before .remove .ensures)) at (take-done (room p) (words (p .before .before .before)) (alive (start p)) (a .addr) (a .len) (p .place .result) (p .place .ensures)
+    (old (c .before .before .before .before)))
 
 same-length-2 : tie.Need-same-length-2
 same-length-2 c = search needs
 
 returns-2 : tie.Need-returns-2
 returns-2 c =
-    let a = c .before .before .before .before .before .before .before .args in
-    take-absent (a .room .now) (words (c .before .before .before .before .before .before)) (alive (c .before .before .before .before .before .before .before)) (a .addr) (a .len) _ (c .before .before .before .place .ensures) (new c)
+    let p = c .before .before .before in
+    let a = start p .args in
+    take-absent (room p) (words (p .before .before .before)) (alive (start p)) (a .addr) (a .len) (p .place .result) (p .place .ensures) (new c)
 
 pub take-kept-spec : {M : Type 1} → statement M
 take-kept-spec =

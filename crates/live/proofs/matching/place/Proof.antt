@@ -55,7 +55,8 @@ asked : (c : tie.After-comes-before Inv-loop μ-loop)
 unfolding middle
 asked c =
     let a = c .before .before .before .before .before .before .args in
-    ap₂ (λ (x y : ℕ). before (bare x y) (bare (a .addr) (a .len))) (sym (c .before .before .addr-in .ensures)) (sym (c .before .len-in .ensures)) ∙ sym (c .comes-before .ensures)
+    ap₂ (λ (x y : ℕ). before (bare x y) (bare (a .addr) (a .len))) (sym (c .before .before .addr-in .ensures)) (sym (c .before .len-in .ensures))
+    ∙ sym (c .comes-before .ensures)
 
 loop-again : tie.Need-loop-again Inv-loop μ-loop
 unfolding middle

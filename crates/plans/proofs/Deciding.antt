@@ -29,7 +29,7 @@ use Rattle.table.specs.TableRules.{tableRules}
 use Rattle.table.proofs.Tables.{accepted-table, hops-below}
 use Rattle.table.proofs.Tested.{table-tests}
 use Rattle.runs.proofs.Halves.{whole-run, record-within}
-use Rattle.runs.proofs.Numbered.{all-numbered}
+use Rattle.theory.proofs.Numbered.{all-numbered}
 use Rattle.runs.proofs.Records.{run-whole, run-numbered}
 use Rattle.steps.specs.Steps.{Step as Move, putting, taking, same, entry, present, put, without, can, apply, after, OldOrNew, Hitless, Sound, Sounds}
 use Rattle.steps.specs.Views.{rung}

@@ -3,7 +3,7 @@
 use Prim.Native.Nat.{ℕ, _+_, _*_, _≤_, _<_}
 use mathlib.Core.Path.{_≡_, refl, sym, ap, _∙_}
 use mathlib.Core.Bool.{Bool, true, false}
-use mathlib.Core.List.{List, _++_}
+use mathlib.Core.List.{List, [], _++_}
 use mathlib.Core.Logic.{_⊎_, inl, inr}
 use native.Mathlib.Nat.{eq-or-lt-of-le}
 use native.Mathlib.Omega.{arith}
@@ -11,9 +11,11 @@ use lib.Dec.{eqb}
 use lib.ListN.{length, drop}
 use borrow.Author.Tests.{lt-ltb, eqb-true, eqb-false}
 use Rattle.theory.specs.Results.{ortc, result, smallest}
+use Rattle.theory.specs.Ranks.{lowest}
 use Rattle.theory.specs.Routes.{Route, held, Answer, none, via, answer, orDefault, filled, Valid, All, Table}
 use Rattle.theory.proofs.Agree.{ortc-agree}
 use Rattle.theory.proofs.Chosen.{smallest-chooses}
+use Rattle.theory.proofs.Ranks.{lowest-chooses, unranked-result}
 use Rattle.theory.proofs.Lengths.{most-of, result-length}
 use Rattle.records.specs.Wire.{records, routes, bytesOf}
 use Rattle.records.proofs.Reading.{length-routes}
@@ -37,22 +39,23 @@ use Rattle.aggregate.specs.Walks.{whole, wideResult}
 -- ---- From wide addresses to those of the wire.
 
 module _ (t : List ℕ) (mode fill : ℕ) (valid : All (Valid 32) (routes t)) where
-  -- What the mode makes of the table at wide addresses is, narrowed, its result.
-  pub wide-is : narrowed spare (wideResult t mode fill) ≡ resultOf t mode fill
+  -- What the mode makes of the table at wide addresses without ranks is, narrowed, its result.
+  pub wide-is : narrowed spare (wideResult (lowest []) t mode fill) ≡ resultOf t mode fill
   unfolding wideResult resultOf
   wide-is =
-      ap (λ (u : List Route). narrowed spare (result smallest wide (modeOf mode fill) u)) (root-run t)
-      ∙ result-narrow smallest smallest-chooses 32 spare (modeOf mode fill) valid
+      ap (λ (u : List Route). narrowed spare (result (lowest []) wide (modeOf mode fill) u)) (root-run t)
+      ∙ result-narrow (lowest []) (lowest-chooses []) 32 spare (modeOf mode fill) valid
+      ∙ unranked-result 32 (modeOf mode fill) (routes t)
 
   -- So it has as many routes,
-  pub wide-length : length (wideResult t mode fill) ≡ length (resultOf t mode fill)
-  wide-length = sym (length-narrow spare (wideResult t mode fill)) ∙ ap length wide-is
+  pub wide-length : length (wideResult (lowest []) t mode fill) ≡ length (resultOf t mode fill)
+  wide-length = sym (length-narrow spare (wideResult (lowest []) t mode fill)) ∙ ap length wide-is
 
   -- and the same bytes on the wire.
-  pub wide-bytes : wireOf (wideResult t mode fill) ≡ bytesOf (resultOf t mode fill)
+  pub wide-bytes : wireOf (wideResult (lowest []) t mode fill) ≡ bytesOf (resultOf t mode fill)
   wide-bytes = ap bytesOf wide-is
 
-  module _ {k : ℕ} {o o′ : List ℕ} (wrote : Wrote (wideResult t mode fill) 0 k o o′) where
+  module _ {k : ℕ} {o o′ : List ℕ} (wrote : Wrote (wideResult (lowest []) t mode fill) 0 k o o′) where
     -- A walk counts the records of the result, whatever room there is,
     pub written-count : k ≡ length (resultOf t mode fill)
     written-count = wrote-count wrote ∙ wide-length
@@ -64,7 +67,7 @@ module _ (t : List ℕ) (mode fill : ℕ) (valid : All (Valid 32) (routes t)) wh
         wrote-whole wrote (omega arith) .0 ∙ rw (wide-bytes, e)
 
 -- It counts at most one record more than the table has.
-pub written-most : (t : List ℕ) (mode fill : ℕ) → Table 32 (routes t) → {k : ℕ} {o o′ : List ℕ} → Wrote (wideResult t mode fill) 0 k o o′
+pub written-most : (t : List ℕ) (mode fill : ℕ) → Table 32 (routes t) → {k : ℕ} {o o′ : List ℕ} → Wrote (wideResult (lowest []) t mode fill) 0 k o o′
     → k ≤ records t + 1
 unfolding resultOf
 written-most t mode fill table wrote =
@@ -95,39 +98,39 @@ fill-le {mode} {fill} fills = go (eqb mode 5) refl
     go true e = omega (arith, fills .hop (eqb-true mode 5 e))
     go false e = omega (arith, fills .none (eqb-false mode 5 e))
 
-module _ (t : List ℕ) {mode : ℕ} (fill : ℕ) where
+module _ (choose : List ℕ → ℕ) (t : List ℕ) {mode : ℕ} (fill : ℕ) where
   -- Mode 1.
-  pub set-is : mode ≡ 1 → wideResult t mode fill ≡ walk (maximalOut wide (held wide (whole t))) (maximalNext (held wide (whole t))) wide 0 false
+  pub set-is : mode ≡ 1 → wideResult choose t mode fill ≡ walk (maximalOut wide (held wide (whole t))) (maximalNext (held wide (whole t))) wide 0 false
   unfolding wideResult
-  set-is e = rw e (set-walk smallest wide (whole t))
+  set-is e = rw e (set-walk choose wide (whole t))
 
   -- Mode 2.
   pub consistent-set-is : mode ≡ 2 → Table wide (whole t)
-      → wideResult t mode fill ≡ walk (consistentSetOut wide (whole t)) (consistentSetNext wide (whole t)) wide 0 false
+      → wideResult choose t mode fill ≡ walk (consistentSetOut wide (whole t)) (consistentSetNext wide (whole t)) wide 0 false
   unfolding wideResult
-  consistent-set-is e table = rw e (consistent-set-walk smallest wide (whole t) table)
+  consistent-set-is e table = rw e (consistent-set-walk choose wide (whole t) table)
 
   -- Mode 3.
   pub consistent-map-is : mode ≡ 3 → Table wide (whole t)
-      → wideResult t mode fill ≡ walk (consistentMapOut wide (whole t)) (consistentMapNext wide (whole t)) wide 0 none
+      → wideResult choose t mode fill ≡ walk (consistentMapOut wide (whole t)) (consistentMapNext wide (whole t)) wide 0 none
   unfolding wideResult
-  consistent-map-is e table = rw e (consistent-map-walk smallest wide (whole t) table)
+  consistent-map-is e table = rw e (consistent-map-walk choose wide (whole t) table)
 
   -- Modes 4 and 5: the rewrite of the answers, filled where the mode fills.
   pub ortc-is : 4 ≤ mode → mode ≤ 5 → Fills mode fill
-      → wideResult t mode fill ≡ ortc smallest wide (answerIn (whole t) none (hopOf fill)) wide 0 none
+      → wideResult choose t mode fill ≡ ortc choose wide (answerIn (whole t) none (hopOf fill)) wide 0 none
   unfolding wideResult result
   ortc-is low high fills = go (eq-or-lt-of-le high)
     where
-      go : (mode ≡ 5) ⊎ (mode < 5) → wideResult t mode fill ≡ ortc smallest wide (answerIn (whole t) none (hopOf fill)) wide 0 none
+      go : (mode ≡ 5) ⊎ (mode < 5) → wideResult choose t mode fill ≡ ortc choose wide (answerIn (whole t) none (hopOf fill)) wide 0 none
       go (inl e) =
           rw (e, lt-ltb fill noHop (fills .hop e))
-          (ortc-agree (filled fill (answer wide (whole t))) (answerIn (whole t) none (via fill)) smallest wide wide 0 none
+          (ortc-agree (filled fill (answer wide (whole t))) (answerIn (whole t) none (via fill)) choose wide wide 0 none
           (λ x i. sym (else-via fill (answer wide (whole t) x))))
       go (inr lt) =
           let four : mode ≡ 4 = omega arith in
           rw (four, fills .none (λ five. omega arith))
-          (ortc-agree (answer wide (whole t)) (answerIn (whole t) none none) smallest wide wide 0 none
+          (ortc-agree (answer wide (whole t)) (answerIn (whole t) none none) choose wide wide 0 none
           (λ x i. sym (else-none (answer wide (whole t) x))))
 
 -- ---- The room.

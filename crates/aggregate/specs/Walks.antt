@@ -4,7 +4,7 @@ use mathlib.Core.Path.{_≡_}
 use mathlib.Core.Bool.{true}
 use mathlib.Core.List.{List}
 use Rattle.theory.specs.Routes.{Route, All, none}
-use Rattle.theory.specs.Results.{result, smallest}
+use Rattle.theory.specs.Results.{result}
 use Rattle.records.specs.Wire.{records}
 use Rattle.positions.specs.Runs.{hopOf}
 use Rattle.nodes.specs.Node.{wide, run, Node}
@@ -29,6 +29,6 @@ pub record Prepared (t : List ℕ) (mode fill top : ℕ) (work : List ℕ) : Typ
   pub coverage : mode ≡ 1 → StoredBy uncovered coverageWord 7 0 (whole t) top work
   pub sets : 4 ≤ mode → Stored (setWords (answerIn (whole t) none (hopOf fill))) 7 0 (whole t) top work
 
--- What the mode makes of the table at wide addresses.
-unfoldable pub wideResult : List ℕ → ℕ → ℕ → List Route
-wideResult t mode fill = result smallest wide (modeOf mode fill) (whole t)
+-- What the mode makes of the table at wide addresses, by a choice among a set's hops.
+unfoldable pub wideResult : (List ℕ → ℕ) → List ℕ → ℕ → ℕ → List Route
+wideResult choose t mode fill = result choose wide (modeOf mode fill) (whole t)

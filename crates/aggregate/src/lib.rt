@@ -67,9 +67,10 @@ fn rewrite_checked(
     ensures { λ r. ⌜ Finished (now (table .entry)) mode fill (now (output .entry)) r (now (output .exit)) ⌝ }
 {
     let top = prepare(table, mode, fill, work);
+    let ranks = [0u16; 0];
     if output.len() / 8 < most_records(mode, before) {
         let mut nothing = [0u8; 0];
-        let count = write(table, mode, fill, work, top, &mut nothing);
+        let count = write(table, mode, fill, &ranks, work, top, &mut nothing);
         if output.len() / 8 < count {
             return Rewritten::Refused {
                 number: 11,
@@ -77,7 +78,7 @@ fn rewrite_checked(
             };
         }
     }
-    let written = write(table, mode, fill, work, top, output);
+    let written = write(table, mode, fill, &ranks, work, top, output);
     Rewritten::Records {
         count: written,
         change: (written as i64) - (before as i64),

@@ -8,6 +8,7 @@ use maximal::collect_coverage;
 use ortc::walks::collect_sets;
 ghost use Prim.Native.Nat.{_*_, _≤_};
 ghost use lib.ListN.{length};
+ghost use Rattle.theory.specs.Ranks.{lowest};
 ghost use Rattle.nodes.specs.Output.{Wrote};
 ghost use Rattle.nodes.specs.Room.{nodesBelow};
 ghost use Rattle.calls.specs.Ending.{Fills};
@@ -33,13 +34,21 @@ pub fn prepare(table: &[u8], mode: u32, fill: u8, work: &mut [u32]) -> usize
     size
 }
 
-// Writes the mode's result into the output, if it has room for it, and says how many records it has.
-pub fn write(table: &[u8], mode: u32, fill: u8, work: &[u32], top: usize, out: &mut [u8]) -> usize
+// Writes the mode's result, by ranks that are lent, into the output, if it has room for it, and says how many records it has.
+pub fn write(
+    table: &[u8],
+    mode: u32,
+    fill: u8,
+    ranks: &[u16],
+    work: &[u32],
+    top: usize,
+    out: &mut [u8],
+) -> usize
     requires { ⌜ (1 ≤ mode) × (mode ≤ 5) ⌝ }
     requires { ⌜ Ready (now table) mode ⌝ }
     requires { ⌜ Fills mode fill ⌝ }
     requires { ⌜ Prepared (now table) mode fill top (now work) ⌝ }
-    ensures { λ r. ⌜ Wrote (wideResult (now (table .entry)) mode fill) 0 r (now (out .entry)) (now (out .exit)) ⌝ }
+    ensures { λ r. ⌜ Wrote (wideResult (lowest (now (ranks .entry))) (now (table .entry)) mode fill) 0 r (now (out .entry)) (now (out .exit)) ⌝ }
 {
     let records = (table.len() / 8) as u16;
     if mode == 1 {
@@ -61,6 +70,7 @@ pub fn write(table: &[u8], mode: u32, fill: u8, work: &[u32], top: usize, out: &
         NO_HOP,
         fill,
         NO_HOP,
+        ranks,
         work,
         top,
         out,

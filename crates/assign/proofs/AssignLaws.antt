@@ -13,12 +13,12 @@ use lib.Seq.{getD-set-same, getD-set-other, set-getD}
 use lib.Pow.{pow-pos, pow-mono}
 use borrow.Author.Tests.{lt-ltb, le-ltb, eq-eqb, ne-eqb}
 use Rattle.theory.specs.Routes.{Answer, none, via}
-use Rattle.theory.specs.Results.{Cand, hole, of, sets, combine, leaf, assigned, smallest, allowed, here}
-use Rattle.theory.proofs.Chosen.{smallest-chooses}
+use Rattle.theory.specs.Results.{Cand, hole, of, sets, combine, leaf, assigned, allowed, Chooses, here}
+use Rattle.theory.proofs.Preserve.{leaf-assigned}
 use Rattle.words.specs.Positions.{position}
 use Rattle.words.specs.Bits.{bit}
 use Rattle.words.specs.Rules.{PushedSlots}
-use Rattle.words.proofs.BitLaws.{if-eq, bit-zero}
+use Rattle.words.proofs.BitLaws.{bit-zero}
 use Rattle.words.proofs.PositionLaws.{in-word, below-left, below-right, pushed-is}
 use Rattle.words.proofs.PositionLaws as places
 use Rattle.positions.specs.Runs.{noHop, hopOf, orElse, sizeAt, placeAt}
@@ -112,56 +112,56 @@ assigned-again choose (of s) g = go (allowed g s) refl
     go true e = rw e
     go false e = same (allowed (via (choose s)) s)
 
-module _ (f : ℕ → Answer) (m a : ℕ) (g : Answer) where
+module _ (choose : List ℕ → ℕ) (f : ℕ → Answer) (m a : ℕ) (g : Answer) where
   -- What is assigned above position j of level l, where g is assigned above the node.
   abbrev pub assignedOver : ℕ → ℕ → Answer
   assignedOver zero j = g
-  assignedOver (suc l) j = assignedAt f m a g l (j / 2)
+  assignedOver (suc l) j = assignedAt choose f m a g l (j / 2)
 
   -- A position is assigned by its candidates and what is assigned above it.
-  pub assigned-is : (l j : ℕ) → assignedAt f m a g l j ≡ assigned smallest (setAt f m a l j) (assignedOver l j)
+  pub assigned-is : (l j : ℕ) → assignedAt choose f m a g l j ≡ assigned choose (setAt f m a l j) (assignedOver l j)
   unfolding assignedAt
   assigned-is zero j = refl
   assigned-is (suc l) j = refl
 
   -- One with its parent's candidates is assigned what that is.
-  pub assigned-parent : (l j : ℕ) → setAt f m a (suc l) j ≡ setAt f m a l (j / 2) → assignedAt f m a g (suc l) j ≡ assignedAt f m a g l (j / 2)
+  pub assigned-parent : (l j : ℕ) → setAt f m a (suc l) j ≡ setAt f m a l (j / 2) → assignedAt choose f m a g (suc l) j ≡ assignedAt choose f m a g l (j / 2)
   assigned-parent l j e =
-      assigned-is (suc l) j ∙ rw (e, assigned-is l (j / 2)) (assigned-again smallest (setAt f m a l (j / 2)) (assignedOver l (j / 2)))
+      assigned-is (suc l) j ∙ rw (e, assigned-is l (j / 2)) (assigned-again choose (setAt f m a l (j / 2)) (assignedOver l (j / 2)))
 
   -- The walk of ORTC hands down what is assigned.
-  pub state-assigned : (l j : ℕ) → stateAt (ortcOut smallest wide f) (ortcNext smallest f) m a g l j ≡ assignedOver l j
+  pub state-assigned : (l j : ℕ) → stateAt (ortcOut choose wide f) (ortcNext choose f) m a g l j ≡ assignedOver l j
   unfolding stateOf
   state-assigned zero j = refl
-  state-assigned (suc l) j = ap (assigned smallest (setAt f m a l (j / 2))) (state-assigned l (j / 2)) ∙ sym (assigned-is l (j / 2))
+  state-assigned (suc l) j = ap (assigned choose (setAt f m a l (j / 2))) (state-assigned l (j / 2)) ∙ sym (assigned-is l (j / 2))
 
 -- A position that is not stored is assigned what stands above it.
-pub left-assigned : (f : ℕ → Answer) (m a : ℕ) (g : Answer) (xs : List ℕ) → ShowsNode f m a xs → (l j : ℕ) → l ≤ 5 → j < 2 ^ l
-    → stored xs (position l j) ≡ false → assignedOver f m a g l j ≡ assignedAt f m a g l j
-left-assigned f m a g xs n zero j le lt e = absurd (left-parent xs (position 0 j) e .0 (omega arith))
-left-assigned f m a g xs n (suc l) j le lt e =
+pub left-assigned : (choose : List ℕ → ℕ) (f : ℕ → Answer) (m a : ℕ) (g : Answer) (xs : List ℕ) → ShowsNode f m a xs → (l j : ℕ) → l ≤ 5 → j < 2 ^ l
+    → stored xs (position l j) ≡ false → assignedOver choose f m a g l j ≡ assignedAt choose f m a g l j
+left-assigned choose f m a g xs n zero j le lt e = absurd (left-parent xs (position 0 j) e .0 (omega arith))
+left-assigned choose f m a g xs n (suc l) j le lt e =
     let same : getD xs (position (suc l) j) 0 ≡ getD xs (position l (j / 2)) 0 =
     left-parent xs (position (suc l) j) e .1 ∙ ap (λ (k : ℕ). getD xs k 0) (places.above l j) in
-    sym (assigned-parent f m a g l j
+    sym (assigned-parent choose f m a g l j
     (same-word-same-set (getD xs (position (suc l) j) 0) (getD xs (position l (j / 2)) 0) (setAt f m a (suc l) j) (setAt f m a l (j / 2))
     (n .places (suc l) j le lt) (n .places l (j / 2) (omega arith) (omega (arith, pow-suc 2 l))) .0 same))
 
 -- ---- Assigning, from the first position to the last.
 
 -- The hops have at position j of level l what it is assigned, noHop for nothing.
-abbrev pub AssignedHop : (ℕ → Answer) → ℕ → ℕ → ℕ → List ℕ → ℕ → ℕ → Type 0
-AssignedHop f m a above hops l j =
-    (getD hops (position l j) 0 ≤ noHop) × (hopOf (getD hops (position l j) 0) ≡ assignedAt f m a (hopOf above) l j)
+abbrev pub AssignedHop : (List ℕ → ℕ) → (ℕ → Answer) → ℕ → ℕ → ℕ → List ℕ → ℕ → ℕ → Type 0
+AssignedHop choose f m a above hops l j =
+    (getD hops (position l j) 0 ≤ noHop) × (hopOf (getD hops (position l j) 0) ≡ assignedAt choose f m a (hopOf above) l j)
 
 -- Then they have above it what is assigned there.
-over-assigned : (f : ℕ → Answer) (m a above : ℕ) (hops : List ℕ) → above ≤ noHop → (l j : ℕ)
-    → ((k : ℕ) → suc k ≡ l → AssignedHop f m a above hops k (j / 2)) → j < 2 ^ l
-    → (overAt hops (position l j) above ≤ noHop) × (hopOf (overAt hops (position l j) above) ≡ assignedOver f m a (hopOf above) l j)
-over-assigned f m a above hops first zero j parent lt =
+over-assigned : (choose : List ℕ → ℕ) (f : ℕ → Answer) (m a above : ℕ) (hops : List ℕ) → above ≤ noHop → (l j : ℕ)
+    → ((k : ℕ) → suc k ≡ l → AssignedHop choose f m a above hops k (j / 2)) → j < 2 ^ l
+    → (overAt hops (position l j) above ≤ noHop) × (hopOf (overAt hops (position l j) above) ≡ assignedOver choose f m a (hopOf above) l j)
+over-assigned choose f m a above hops first zero j parent lt =
     let z : position 0 j ≡ 0 = omega arith in
     let q : overAt hops (position 0 j) above ≡ above = rw (eq-eqb (position 0 j) 0 z) in
     (omega arith, ap hopOf q)
-over-assigned f m a above hops first (suc l) j parent lt =
+over-assigned choose f m a above hops first (suc l) j parent lt =
     let z : eqb (position (suc l) j) 0 ≡ false = ne-eqb (position (suc l) j) 0 (λ e. omega (arith, pow-suc 2 l, pow-pos l)) in
     let q : overAt hops (position (suc l) j) above ≡ getD hops (position l (j / 2)) 0 = rw (z, places.above l j) in
     let p = parent l refl in
@@ -172,18 +172,18 @@ abbrev pub hasEntry : List ℕ → ℕ → ℕ → Bool
 hasEntry hops above b = isEntry (getD hops b 0) (overAt hops b above)
 
 -- The positions before b are assigned, and the reader stands before b.
-pub record Assigning (o : List ℕ) (top above : ℕ) (hops : List ℕ) (entries mask at b : ℕ) : Type 0 where
+pub record Assigning (choose : List ℕ → ℕ) (o : List ℕ) (top above : ℕ) (hops : List ℕ) (entries mask at b : ℕ) : Type 0 where
   pub sized : length hops ≡ 31
   pub reads : (xs : List ℕ) → Begins (packed xs) top o → Reading xs top o b mask at
   pub each : (f : ℕ → Answer) (m a : ℕ) (xs : List ℕ) → ShowsNode f m a xs → Begins (packed xs) top o → (l j : ℕ) → l ≤ 4 → j < 2 ^ l
-      → position l j < b → AssignedHop f m a above hops l j
+      → position l j < b → AssignedHop choose f m a above hops l j
   pub done : (i : ℕ) → i < b → bit entries i ≡ hasEntry hops above i
   pub clear : (i : ℕ) → b ≤ i → i < 31 → bit entries i ≡ false
 
 -- Before the first position nothing is assigned.
-pub assigning-start : (o : List ℕ) (top above : ℕ) (hops : List ℕ) (mask at : ℕ) → length hops ≡ 31 → mask ≡ getD o top 0 → at ≡ top + 1
-    → Assigning o top above hops 0 mask at 0
-assigning-start o top above hops mask at n e s = record {
+pub assigning-start : (choose : List ℕ → ℕ) (o : List ℕ) (top above : ℕ) (hops : List ℕ) (mask at : ℕ) → length hops ≡ 31 → mask ≡ getD o top 0 → at ≡ top + 1
+    → Assigning choose o top above hops 0 mask at 0
+assigning-start choose o top above hops mask at n e s = record {
   sized = n;
   reads = λ xs h. reading-start xs top o mask at h e s;
   each = λ f m a xs n h l j le lt q. absurd (omega arith);
@@ -197,7 +197,7 @@ over-kept hops b above v zero le = refl
 over-kept hops b above v (suc i) le =
     rw (ne-eqb (suc i) 0 (λ z. omega arith)) (getD-set-other hops b ((suc i - 1) / 2) v 0 (λ q. omega arith))
 
-module _ {o : List ℕ} {top above : ℕ} {hops : List ℕ} {entries mask at b : ℕ} (p : Assigning o top above hops entries mask at b) where
+module _ {choose : List ℕ → ℕ} {o : List ℕ} {top above : ℕ} {hops : List ℕ} {entries mask at b : ℕ} (p : Assigning choose o top above hops entries mask at b) where
   -- Where the position is stored there is room for its two words.
   pub assigning-room : (xs : List ℕ) → Begins (packed xs) top o → b < 31 → eqb (mask % 2) 1 ≡ true → at + 2 ≤ length o
   assigning-room xs h small e =
@@ -205,40 +205,40 @@ module _ {o : List ℕ} {top above : ℕ} {hops : List ℕ} {entries mask at b :
       reading-taken r small (sym (reading-stored r small) ∙ e) .room
 
   module _ {over hop mask′ at′ : ℕ} (small : b < 31) (first : above ≤ noHop) (is : over ≡ overAt hops b above)
-      (s : Stepped o mask at over hop mask′ at′) where
+      (s : Stepped choose o mask at over hop mask′ at′) where
     -- The position's hop is what it is assigned.
     hop-is : (f : ℕ → Answer) (m a : ℕ) (xs : List ℕ) → ShowsNode f m a xs → Begins (packed xs) top o → (l j : ℕ) → l ≤ 4 → j < 2 ^ l
-        → b ≡ position l j → (hop ≤ noHop) × (hopOf hop ≡ assignedAt f m a (hopOf above) l j)
+        → b ≡ position l j → (hop ≤ noHop) × (hopOf hop ≡ assignedAt choose f m a (hopOf above) l j)
     hop-is f m a xs n h l j le lt e = (s .low (rw (is, e) (parents .0)), go (stored xs b) refl)
       where
         r : Reading xs top o b mask at
         r = p .reads xs h
 
-        parent : (k : ℕ) → suc k ≡ l → AssignedHop f m a above hops k (j / 2)
+        parent : (k : ℕ) → suc k ≡ l → AssignedHop choose f m a above hops k (j / 2)
         parent k q =
             let half : j < 2 ^ suc k = rw q lt in
             let up : b ≡ position (suc k) j = rw q e in
             p .each f m a xs n h k (j / 2) (omega arith) (omega (arith, pow-suc 2 k)) (omega (arith, pow-suc 2 k, pow-pos k))
 
-        parents : (overAt hops (position l j) above ≤ noHop) × (hopOf (overAt hops (position l j) above) ≡ assignedOver f m a (hopOf above) l j)
-        parents = over-assigned f m a above hops first l j parent lt
+        parents : (overAt hops (position l j) above ≤ noHop) × (hopOf (overAt hops (position l j) above) ≡ assignedOver choose f m a (hopOf above) l j)
+        parents = over-assigned choose f m a above hops first l j parent lt
 
-        over-is : hopOf (overAt hops b above) ≡ assignedOver f m a (hopOf above) l j
+        over-is : hopOf (overAt hops b above) ≡ assignedOver choose f m a (hopOf above) l j
         over-is = rw e (parents .1)
 
-        go : (t : Bool) → stored xs b ≡ t → hopOf hop ≡ assignedAt f m a (hopOf above) l j
+        go : (t : Bool) → stored xs b ≡ t → hopOf hop ≡ assignedAt choose f m a (hopOf above) l j
         go true t =
             let shown : ShowsSet (getD xs b 0) (setAt f m a l j) = rw e (n .places l j (omega arith) lt) in
             s .taken (reading-stored r small ∙ t) (setAt f m a l j) (rw (reading-taken r small t .word) shown)
-            ∙ ap (assigned smallest (setAt f m a l j)) (ap hopOf is ∙ over-is) ∙ sym (assigned-is f m a (hopOf above) l j)
+            ∙ ap (assigned choose (setAt f m a l j)) (ap hopOf is ∙ over-is) ∙ sym (assigned-is choose f m a (hopOf above) l j)
         go false t =
             ap hopOf (s .kept (reading-stored r small ∙ t) ∙ is) ∙ over-is
-            ∙ left-assigned f m a (hopOf above) xs n l j (omega arith) lt (rw e at t)
+            ∙ left-assigned choose f m a (hopOf above) xs n l j (omega arith) lt (rw e at t)
 
     -- One position more.
     pub assigning-next : (entries′ : ℕ)
         → ((i : ℕ) → i < 31 → bit entries′ i ≡ ((eqb i b && isEntry hop over) || bit entries i))
-        → Assigning o top above (set hops b hop) entries′ mask′ at′ (b + 1)
+        → Assigning choose o top above (set hops b hop) entries′ mask′ at′ (b + 1)
     assigning-next entries′ w = record {
       sized = length-set hops b hop ∙ p .sized;
       reads = λ xs h. reading-next (p .reads xs h) small mask′ at′ (s .masks) (s .tops);
@@ -254,7 +254,7 @@ module _ {o : List ℕ} {top above : ℕ} {hops : List ℕ} {entries mask at b :
         before-is k less = getD-set-other hops b k hop 0 (λ e. omega arith)
 
         hops-are : (f : ℕ → Answer) (m a : ℕ) (xs : List ℕ) → ShowsNode f m a xs → Begins (packed xs) top o → (l j : ℕ) → l ≤ 4 → j < 2 ^ l
-            → (suc (position l j) ≡ b + 1) ⊎ (suc (position l j) < b + 1) → AssignedHop f m a above (set hops b hop) l j
+            → (suc (position l j) ≡ b + 1) ⊎ (suc (position l j) < b + 1) → AssignedHop choose f m a above (set hops b hop) l j
         hops-are f m a xs n h l j le lt (inl e) =
             let q : b ≡ position l j = omega arith in
             rw (← q, here-is) (hop-is f m a xs n h l j le lt q)
@@ -271,22 +271,22 @@ module _ {o : List ℕ} {top above : ℕ} {hops : List ℕ} {entries mask at b :
             ∙ rw (ne-eqb i b (λ z. omega arith), before-is i (omega arith), over-kept hops b above hop i (omega arith)) (p .done i (omega arith))
 
 -- The first position, where all are given its hop at once.
-pub assigning-first : (o : List ℕ) (top above : ℕ) {hop mask at mask′ at′ : ℕ} → mask ≡ getD o top 0 → at ≡ top + 1 → above ≤ noHop
-    → Stepped o mask at above hop mask′ at′ → (entries : ℕ)
+pub assigning-first : (choose : List ℕ → ℕ) (o : List ℕ) (top above : ℕ) {hop mask at mask′ at′ : ℕ} → mask ≡ getD o top 0 → at ≡ top + 1 → above ≤ noHop
+    → Stepped choose o mask at above hop mask′ at′ → (entries : ℕ)
     → ((i : ℕ) → i < 31 → bit entries i ≡ ((eqb i 0 && isEntry hop above) || bit 0 i))
-    → Assigning o top above (replicate 31 hop) entries mask′ at′ 1
-assigning-first o top above {hop} {mask} {at} e s first p =
-    assigning-next (assigning-start o top above (replicate 31 hop) mask at refl e s) (omega arith) first refl p
+    → Assigning choose o top above (replicate 31 hop) entries mask′ at′ 1
+assigning-first choose o top above {hop} {mask} {at} e s first p =
+    assigning-next (assigning-start choose o top above (replicate 31 hop) mask at refl e s) (omega arith) first refl p
 
-module _ {o : List ℕ} {top above entries at : ℕ} (first : above ≤ noHop) where
+module _ {choose : List ℕ → ℕ} {o : List ℕ} {top above entries at : ℕ} (first : above ≤ noHop) where
   -- A position with the hop above it is assigned where none to come is stored.
-  assigning-left : {hops : List ℕ} {b : ℕ} → Assigning o top above hops entries 0 at b → b < 31 → getD hops b 0 ≡ overAt hops b above
-      → Assigning o top above hops entries 0 at (b + 1)
+  assigning-left : {hops : List ℕ} {b : ℕ} → Assigning choose o top above hops entries 0 at b → b < 31 → getD hops b 0 ≡ overAt hops b above
+      → Assigning choose o top above hops entries 0 at (b + 1)
   assigning-left {hops} {b} p small e =
-      subst (λ (hs : List ℕ). Assigning o top above hs entries 0 at (b + 1)) (set-getD hops b 0)
+      subst (λ (hs : List ℕ). Assigning choose o top above hs entries 0 at (b + 1)) (set-getD hops b 0)
       (assigning-next p small first refl left entries (λ i lt. rw (eq-eqb (getD hops b 0) (overAt hops b above) e, and-false)))
     where
-      left : Stepped o 0 at (overAt hops b above) (getD hops b 0) 0 at
+      left : Stepped choose o 0 at (overAt hops b above) (getD hops b 0) 0 at
       left = record {
         masks = refl;
         tops = sym (add-zero at);
@@ -296,9 +296,9 @@ module _ {o : List ℕ} {top above entries at : ℕ} (first : above ≤ noHop) w
       }
 
   -- So where all have one hop, and none but the first is stored, all are.
-  pub assigning-rest : {hop : ℕ} (n b : ℕ) → b + n ≡ 31 → 0 < b → Assigning o top above (replicate 31 hop) entries 0 at b
-      → Assigning o top above (replicate 31 hop) entries 0 at 31
-  assigning-rest {hop} zero b e low p = subst (Assigning o top above (replicate 31 hop) entries 0 at) (omega arith) p
+  pub assigning-rest : {hop : ℕ} (n b : ℕ) → b + n ≡ 31 → 0 < b → Assigning choose o top above (replicate 31 hop) entries 0 at b
+      → Assigning choose o top above (replicate 31 hop) entries 0 at 31
+  assigning-rest {hop} zero b e low p = subst (Assigning choose o top above (replicate 31 hop) entries 0 at) (omega arith) p
   assigning-rest {hop} (suc n) b e low p = assigning-rest n (b + 1) (omega arith) (omega arith) (assigning-left p (omega arith) same)
     where
       same : getD (replicate 31 hop) b 0 ≡ overAt (replicate 31 hop) b above
@@ -307,10 +307,10 @@ module _ {o : List ℕ} {top above entries at : ℕ} (first : above ≤ noHop) w
           ∙ rw (ne-eqb b 0 (λ z. omega arith)) (sym (getD-replicate 31 ((b - 1) / 2) hop 0 (omega arith)))
 
 -- After the last position all are assigned, and the reader stands past the node's own words.
-pub assigning-end : {o : List ℕ} {top above : ℕ} {hops : List ℕ} {entries mask at b : ℕ} → Assigning o top above hops entries mask at b → b ≡ 31
+pub assigning-end : {choose : List ℕ → ℕ} {o : List ℕ} {top above : ℕ} {hops : List ℕ} {entries mask at b : ℕ} → Assigning choose o top above hops entries mask at b → b ≡ 31
     → ((xs : List ℕ) → Begins (packed xs) top o → at ≡ top + length (packed xs))
     × (((f : ℕ → Answer) (m a : ℕ) (xs : List ℕ) → ShowsNode f m a xs → Begins (packed xs) top o → (l j : ℕ) → l ≤ 4 → j < 2 ^ l
-    → AssignedHop f m a above hops l j)
+    → AssignedHop choose f m a above hops l j)
     × ((i : ℕ) → i < 31 → bit entries i ≡ hasEntry hops above i))
 assigning-end p z = (
   λ xs e. reading-end (p .reads xs e) z,
@@ -323,50 +323,45 @@ assigning-end p z = (
 -- ---- The entries.
 
 -- A position has an entry exactly where its hop is one and not the one above: it is ORTC's.
-pub entry-is : (x : ℕ) (S : Cand) → ShowsSet x S → (n a len hop over : ℕ) → len ≡ wide - n → hop ≤ noHop → over ≤ noHop
-    → hopOf hop ≡ assigned smallest S (hopOf over) → entryOver a len hop over ≡ here smallest wide S n a (hopOf over)
-entry-is x hole shown n a len hop over k p q = λ e. rw (le-ltb hop noHop (hop-none hop e), and-false)
-entry-is x (of []) shown n a len hop over k p q = λ e. absurd (shown .1)
-entry-is x (of (c ∷ s)) shown n a len hop over k p q = go (allowed (hopOf over) (c ∷ s)) refl
+pub entry-is : (choose : List ℕ → ℕ) → Chooses choose → (x : ℕ) (S : Cand) → ShowsSet x S → (n a len hop over : ℕ) → len ≡ wide - n → hop ≤ noHop → over ≤ noHop
+    → hopOf hop ≡ assigned choose S (hopOf over) → entryOver a len hop over ≡ here choose wide S n a (hopOf over)
+entry-is choose law x hole shown n a len hop over k p q = λ e. rw (le-ltb hop noHop (hop-none hop e), and-false)
+entry-is choose law x (of []) shown n a len hop over k p q = λ e. absurd (shown .1)
+entry-is choose law x (of (c ∷ s)) shown n a len hop over k p q = go (allowed (hopOf over) (c ∷ s)) refl
   where
-    go : (t : Bool) → allowed (hopOf over) (c ∷ s) ≡ t → hopOf hop ≡ cond t (hopOf over) (via c)
-        → entryOver a len hop over ≡ cond t [] (record { addr = a; len = wide - n; hop = c } ∷ [])
+    go : (t : Bool) → allowed (hopOf over) (c ∷ s) ≡ t → hopOf hop ≡ cond t (hopOf over) (via (choose (c ∷ s)))
+        → entryOver a len hop over ≡ cond t [] (record { addr = a; len = wide - n; hop = choose (c ∷ s) } ∷ [])
     go true t e = rw (eq-eqb hop over (hop-unique hop over p q e))
     go false t e =
-        let v = hop-via hop c e in
-        rw (ne-eqb hop over (λ z. true≢false (sym (smallest-chooses c s) ∙ ap (λ (g : Answer). allowed g (c ∷ s)) (sym e ∙ ap hopOf z) ∙ t)), lt-ltb hop noHop (v .1), v .0, k)
+        let v = hop-via hop (choose (c ∷ s)) e in
+        rw (ne-eqb hop over (λ z. true≢false (sym (law c s) ∙ ap (λ (g : Answer). allowed g (c ∷ s)) (sym e ∙ ap hopOf z) ∙ t)), lt-ltb hop noHop (v .1), v .0, k)
 
--- A region where all addresses have one answer is assigned that answer, and has an entry unless it is the one above.
-pub assigned-leaf : (v g : Answer) → assigned smallest (leaf v) g ≡ v
-assigned-leaf none g = refl
-assigned-leaf (via h) none = refl
-assigned-leaf (via h) (via i) = if-eq (λ t. cond (t || false) (via i) (via h) ≡ via h) i h (λ e. ap via e) (λ e. refl)
-
-pub leaf-entry : (n a len hop over : ℕ) → len ≡ wide - n → hop ≤ noHop → over ≤ noHop
-    → entryOver a len hop over ≡ here smallest wide (leaf (hopOf hop)) n a (hopOf over)
-leaf-entry n a len hop over k p q =
+-- A region where all addresses have one answer has an entry unless it is the one above.
+pub leaf-entry : (choose : List ℕ → ℕ) → Chooses choose → (n a len hop over : ℕ) → len ≡ wide - n → hop ≤ noHop → over ≤ noHop
+    → entryOver a len hop over ≡ here choose wide (leaf (hopOf hop)) n a (hopOf over)
+leaf-entry choose law n a len hop over k p q =
     let shown = hop-shown hop in
-    entry-is (shown .0) (leaf (hopOf hop)) (shown .1) n a len hop over k p q (sym (assigned-leaf (hopOf hop) (hopOf over)))
+    entry-is choose law (shown .0) (leaf (hopOf hop)) (shown .1) n a len hop over k p q (sym (leaf-assigned choose wide law (hopOf hop) (hopOf over)))
 
 -- The entries that the bits and the hops of a node say are those of ORTC's walk.
-module _ (f : ℕ → Answer) (depth key above entries : ℕ) (hops xs : List ℕ) (deep : depth ≤ 30) (first : above ≤ noHop)
+module _ (choose : List ℕ → ℕ) (law : Chooses choose) (f : ℕ → Answer) (depth key above entries : ℕ) (hops xs : List ℕ) (deep : depth ≤ 30) (first : above ≤ noHop)
     (shown : ShowsNode f (slotSize depth) key xs)
-    (assigns : (l j : ℕ) → l ≤ 4 → j < 2 ^ l → AssignedHop f (slotSize depth) key above hops l j)
+    (assigns : (l j : ℕ) → l ≤ 4 → j < 2 ^ l → AssignedHop choose f (slotSize depth) key above hops l j)
     (bits : (b : ℕ) → b < 31 → bit entries b ≡ hasEntry hops above b) where
   pub entries-are : (l j : ℕ) → l ≤ 4 → j < 2 ^ l → entryAt entries hops depth key l j
-      ≡ ortcOut smallest wide f (sizeAt (slotSize depth) l) (placeAt (slotSize depth) key l j)
-      (stateAt (ortcOut smallest wide f) (ortcNext smallest f) (slotSize depth) key (hopOf above) l j)
+      ≡ ortcOut choose wide f (sizeAt (slotSize depth) l) (placeAt (slotSize depth) key l j)
+      (stateAt (ortcOut choose wide f) (ortcNext choose f) (slotSize depth) key (hopOf above) l j)
   entries-are l j le lt =
-      rw (bits (position l j) (in-word l j le lt), state-assigned f (slotSize depth) key (hopOf above) l j, ← over .1)
-      (entry-is (getD xs (position l j) 0) (setAt f (slotSize depth) key l j) (shown .places l j (omega arith) lt)
+      rw (bits (position l j) (in-word l j le lt), state-assigned choose f (slotSize depth) key (hopOf above) l j, ← over .1)
+      (entry-is choose law (getD xs (position l j) 0) (setAt f (slotSize depth) key l j) (shown .places l j (omega arith) lt)
       (sizeAt (slotSize depth) l) (placeAt (slotSize depth) key l j) (depth + l) (getD hops (position l j) 0) (overAt hops (position l j) above)
       (omega arith) (assigns l j le lt .0) (over .0)
-      (assigns l j le lt .1 ∙ assigned-is f (slotSize depth) key (hopOf above) l j
-      ∙ ap (assigned smallest (setAt f (slotSize depth) key l j)) (sym (over .1))))
+      (assigns l j le lt .1 ∙ assigned-is choose f (slotSize depth) key (hopOf above) l j
+      ∙ ap (assigned choose (setAt f (slotSize depth) key l j)) (sym (over .1))))
     where
       over : (overAt hops (position l j) above ≤ noHop)
-          × (hopOf (overAt hops (position l j) above) ≡ assignedOver f (slotSize depth) key (hopOf above) l j)
-      over = over-assigned f (slotSize depth) key above hops first l j
+          × (hopOf (overAt hops (position l j) above) ≡ assignedOver choose f (slotSize depth) key (hopOf above) l j)
+      over = over-assigned choose f (slotSize depth) key above hops first l j
           (λ k q. assigns k (j / 2) (omega arith) (let half : j < 2 ^ suc k = rw q lt in omega (arith, pow-suc 2 k))) lt
 
 -- ---- The slots that have an entry with no record in them.

@@ -6,7 +6,7 @@ use mathlib.Core.List.{List, [], _∷_}
 use lib.Dec.{eqb, ltb}
 use lib.ListN.{length, getD}
 use Rattle.theory.specs.Routes.{Route, Answer, lookup, under}
-use Rattle.theory.specs.Results.{Cand, sets, assigned, smallest}
+use Rattle.theory.specs.Results.{Cand, sets, assigned}
 use Rattle.words.specs.Bits.{bit}
 use Rattle.words.specs.Positions.{position}
 use Rattle.positions.specs.Runs.{noHop, hopOf, orElse, sizeAt, placeAt}
@@ -27,10 +27,10 @@ pub record ShowsNode (f : ℕ → Answer) (m a : ℕ) (xs : List ℕ) : Type 0 w
 abbrev pub setWords : (ℕ → Answer) → ℕ → ℕ → List Route → List ℕ → Type 0
 setWords f m a t ws = (xs : List ℕ) × ShowsNode f m a xs × (ws ≡ packed xs)
 
--- What position j of level l is assigned, where g is assigned above the node.
-unfoldable pub assignedAt : (ℕ → Answer) → ℕ → ℕ → Answer → ℕ → ℕ → Answer
-assignedAt f m a g zero j = assigned smallest (sets f (sizeAt m zero) (placeAt m a zero j)) g
-assignedAt f m a g (suc l) j = assigned smallest (sets f (sizeAt m (suc l)) (placeAt m a (suc l) j)) (assignedAt f m a g l (j / 2))
+-- What position j of level l is assigned by a choice among a set's hops, where g is assigned above the node.
+unfoldable pub assignedAt : (List ℕ → ℕ) → (ℕ → Answer) → ℕ → ℕ → Answer → ℕ → ℕ → Answer
+assignedAt choose f m a g zero j = assigned choose (sets f (sizeAt m zero) (placeAt m a zero j)) g
+assignedAt choose f m a g (suc l) j = assigned choose (sets f (sizeAt m (suc l)) (placeAt m a (suc l) j)) (assignedAt choose f m a g l (j / 2))
 
 -- Is it an entry under the hop above: is it a hop, and not that one?
 abbrev pub isEntry : ℕ → ℕ → Bool
@@ -48,10 +48,10 @@ LeafSlots covering hops fill marked =
     → bit marked c ≡ isEntry v (getD hops (15 + c / 2) 0)
 
 -- A position was assigned `hop` under `over`, by the words of the room from top on, the lowest bit of the mask saying whether its set is there.
-pub record Stepped (o : List ℕ) (mask top over hop mask′ top′ : ℕ) : Type 0 where
+pub record Stepped (choose : List ℕ → ℕ) (o : List ℕ) (mask top over hop mask′ top′ : ℕ) : Type 0 where
   pub masks : mask′ ≡ mask / 2
   pub tops : top′ ≡ top + cond (eqb (mask % 2) 1) 2 0
   pub kept : eqb (mask % 2) 1 ≡ false → hop ≡ over
   pub taken : eqb (mask % 2) 1 ≡ true → (S : Cand) → ShowsSet (getD o top 0 + getD o (top + 1) 0 * 4294967296) S
-      → hopOf hop ≡ assigned smallest S (hopOf over)
+      → hopOf hop ≡ assigned choose S (hopOf over)
   pub low : over ≤ noHop → hop ≤ noHop

@@ -22,6 +22,7 @@ ghost use lib.Dec.{eqb};
 ghost use lib.ListN.{length, getD};
 ghost use Rattle.theory.specs.Routes.{Answer};
 ghost use Rattle.theory.specs.Results.{leaf, sets};
+ghost use Rattle.theory.specs.Ranks.{lowest};
 ghost use Rattle.words.specs.Bits.{bit};
 ghost use Rattle.words.specs.Positions.{position};
 ghost use Rattle.positions.specs.Runs.{noHop, hopOf, orElse, placeAt};
@@ -84,15 +85,22 @@ pub struct Step {
 }
 
 // The next position, b: assigned by its set, or, where none is stored, the hop above it, and then it has no entry.
-pub fn step_at(work: &[u32], reader: NodeReader, over: u8, entries: u32, b: u32) -> Step
+pub fn step_at(
+    work: &[u32],
+    reader: NodeReader,
+    over: u8,
+    entries: u32,
+    b: u32,
+    ranks: &[u16],
+) -> Step
     requires { ⌜ (eqb (reader .mask % 2) 1 ≡ true → reader .top + 2 ≤ length (now work)) ⌝ }
     requires { ⌜ b < 31 ⌝ }
-    ensures { λ r. ⌜ Stepped (now (work .entry)) (reader .mask) (reader .top) over (r .hop) (r .reader .mask) (r .reader .top) ⌝ }
+    ensures { λ r. ⌜ Stepped (lowest (now (ranks .entry))) (now (work .entry)) (reader .mask) (reader .top) over (r .hop) (r .reader .mask) (r .reader .top) ⌝ }
     ensures { λ r. ⌜ ((i : ℕ) → i < 32 → bit (r .entries) i ≡ ((eqb i b && isEntry (r .hop) over) || bit entries i)) ⌝ }
 {
     if reader.stored() {
         let p = reader.pop(work);
-        let hop = assign(p.set, over);
+        let hop = assign(p.set, over, ranks);
         let next = p.reader;
         return Step {
             hop,
@@ -114,15 +122,16 @@ pub struct Assigned {
     pub top: usize,
 }
 
-// Assigns hops to a node's positions from the first to the last, reading its own words from `top` on; `above` is assigned above the node.
-pub fn assign_nodes(work: &[u32], top: usize, above: u8) -> Assigned
+// Assigns hops to a node's positions by ranks that are lent, from the first to the last, reading its own words from `top` on; `above` is
+// assigned above the node.
+pub fn assign_nodes(work: &[u32], top: usize, above: u8, ranks: &[u16]) -> Assigned
     requires { ⌜ ((xs : List ℕ) × Begins (packed xs) top (now work)) ⌝ }
     requires { ⌜ above ≤ noHop ⌝ }
     ensures { λ r. ⌜ ((xs : List ℕ) → Begins (packed xs) top (now (work .entry)) → r .top ≡ top + length (packed xs)) ⌝ }
-    ensures { λ r. ⌜ ((f : ℕ → Answer) (m a : ℕ) (xs : List ℕ) → ShowsNode f m a xs → Begins (packed xs) top (now (work .entry)) → (l j : ℕ) → l ≤ 4 → j < 2 ^ l → (getD (r .hops) (position l j) 0 ≤ noHop) × (hopOf (getD (r .hops) (position l j) 0) ≡ assignedAt f m a (hopOf above) l j)) ⌝ }
+    ensures { λ r. ⌜ ((f : ℕ → Answer) (m a : ℕ) (xs : List ℕ) → ShowsNode f m a xs → Begins (packed xs) top (now (work .entry)) → (l j : ℕ) → l ≤ 4 → j < 2 ^ l → (getD (r .hops) (position l j) 0 ≤ noHop) × (hopOf (getD (r .hops) (position l j) 0) ≡ assignedAt (lowest (now (ranks .entry))) f m a (hopOf above) l j)) ⌝ }
     ensures { λ r. ⌜ ((b : ℕ) → b < 31 → bit (r .entries) b ≡ isEntry (getD (r .hops) b 0) (overAt (r .hops) b above)) ⌝ }
 {
-    let first = step_at(work, NodeReader::new(work, top), above, 0, 0);
+    let first = step_at(work, NodeReader::new(work, top), above, 0, 0, ranks);
     let mut hops = [first.hop; 31];
     let mut entries = first.entries;
     let mut reader = first.reader;
@@ -134,11 +143,11 @@ pub fn assign_nodes(work: &[u32], top: usize, above: u8) -> Assigned
             top: reader.top,
         };
     }
-    let mut b: usize = 1;
+    let mut b: u32 = 1;
     while b < 31 {
-        let over = over_at(&hops, b, above);
-        let s = step_at(work, reader, over, entries, b as u32);
-        hops[b] = s.hop;
+        let over = over_at(&hops, b as usize, above);
+        let s = step_at(work, reader, over, entries, b, ranks);
+        hops[b as usize] = s.hop;
         entries = s.entries;
         let next = s.reader;
         reader = next;

@@ -1,2 +1,3 @@
 -- The laws of sets as words.
 pub mod SetLaws
+pub mod RankLaws

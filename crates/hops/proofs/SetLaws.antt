@@ -10,10 +10,10 @@ use lib.Bits.{bitAnd, bitOr, and-self, and-lt, or-lt}
 use lib.Count.{trailingZeros}
 use lib.Dec.{eqb}
 use lib.Pow.{pow-pos}
-use borrow.Author.Tests.{ne-eqb}
+use borrow.Author.Tests.{ne-eqb, lt-ltb}
 use Rattle.theory.specs.Shapes.{Some}
 use Rattle.theory.specs.Routes.{Answer, none, via}
-use Rattle.theory.specs.Results.{In, has, union, common, Cand, hole, of, leaf, combine, sets, smallest}
+use Rattle.theory.specs.Results.{In, has, union, common, Cand, hole, of, leaf, combine, sets, smallest, allowed, assigned}
 use Rattle.theory.proofs.Blocks.{in-left, in-right}
 use Rattle.theory.proofs.Hops.{has-union, has-common, some-union, or-cases, and-left}
 use Rattle.theory.proofs.Chosen.{sorted-union, sorted-common, sorted-unique, smallest-chooses, smallest-least}
@@ -195,3 +195,16 @@ sets-shown f (suc n) a low =
     let left = sets-shown f n a (λ x i. low x (in-left n a x i)) in
     let right = sets-shown f n (a + 2 ^ n) (λ x i. low x (in-right n a x i)) in
     (combineWords (left .0) (right .0), shows-combine (left .0) (right .0) (sets f n a) (sets f n (a + 2 ^ n)) (left .1) (right .1))
+
+-- ---- What a position is assigned.
+module _ (choose : List ℕ → ℕ) (x : ℕ) (v : Answer) where
+  -- Where the set has the hop above, that stays.
+  pub kept : (S : Cand) → ShowsSet x S → (x ≡ 0 → ⊥) → ((s : List ℕ) → ShowsHops x s → true ≡ allowed v s) → v ≡ assigned choose S v
+  kept hole p n e = absurd (n p)
+  kept (of s) p n e = rw (← e s (p .0))
+
+  -- Where it has not, one is chosen.
+  pub chosen : (r : ℕ) → r < noHop → (S : Cand) → ShowsSet x S → (x ≡ 0 → ⊥) → ((s : List ℕ) → ShowsHops x s → false ≡ allowed v s)
+      → ((s : List ℕ) → ShowsHops x s → r ≡ choose s) → hopOf r ≡ assigned choose S v
+  chosen r lt hole p n e m = absurd (n p)
+  chosen r lt (of s) p n e m = rw (lt-ltb r noHop lt, ← e s (p .0)) (ap via (m s (p .0)))

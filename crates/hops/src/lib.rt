@@ -1,9 +1,13 @@
 // Hops, and candidate sets of them as 64-bit words: hop h is bit h; the word 0 is a hole.
 
+pub mod ranking;
+
+use ranking::lowest;
 ghost use mathlib.Core.Path.{_≡_};
 ghost use mathlib.Core.List.{List};
 ghost use Prim.Native.Nat.{ℕ, _≤_, _<_};
 ghost use Rattle.theory.specs.Results.{Cand, leaf};
+ghost use Rattle.theory.specs.Ranks;
 ghost use Rattle.positions.specs.Runs.{noHop, hopOf, orElse};
 ghost use Rattle.hops.specs.Sets.{ShowsHops, ShowsSet};
 
@@ -76,9 +80,9 @@ pub fn smallest(set: u64) -> u8
     (u64::trailing_zeros(set) % 64) as u8
 }
 
-// What a position with this set is assigned, where `above` is assigned above it; NO_HOP for nothing.
-pub fn assign(set: u64, above: u8) -> u8
-    ensures { λ r. ⌜ ((S : Cand) → ShowsSet set S → hopOf r ≡ Rattle.theory.specs.Results.assigned Rattle.theory.specs.Results.smallest S (hopOf above)) ⌝ }
+// What a position with this set is assigned by ranks that are lent, where `above` is assigned above it; NO_HOP for nothing.
+pub fn assign(set: u64, above: u8, ranks: &[u16]) -> u8
+    ensures { λ r. ⌜ ((S : Cand) → ShowsSet set S → hopOf r ≡ Rattle.theory.specs.Results.assigned (Rattle.theory.specs.Ranks.lowest (now (ranks .entry))) S (hopOf above)) ⌝ }
     ensures { λ r. ⌜ (above ≤ noHop → r ≤ noHop) ⌝ }
 {
     if set == 0 {
@@ -87,6 +91,21 @@ pub fn assign(set: u64, above: u8) -> u8
     if has(set, above) {
         above
     } else {
-        smallest(set)
+        lowest(set, ranks)
+    }
+}
+
+// The same without ranks, where the smallest hop is chosen.
+pub fn assign_smallest(word: u64, above: u8) -> u8
+    ensures { λ r. ⌜ ((S : Cand) → ShowsSet word S → hopOf r ≡ Rattle.theory.specs.Results.assigned Rattle.theory.specs.Results.smallest S (hopOf above)) ⌝ }
+    ensures { λ r. ⌜ (above ≤ noHop → r ≤ noHop) ⌝ }
+{
+    if word == 0 {
+        return NO_HOP;
+    }
+    if has(word, above) {
+        above
+    } else {
+        smallest(word)
     }
 }

@@ -40,7 +40,7 @@ unfolding fresh
 fresh-bare w p x zero = refl
 fresh-bare w p x (suc m) = ap (λ (n : ℕ). n + cond (seen w (suc m) x (p ∷ [])) 0 1) (fresh-bare w p x m)
 
-passed-bare : (w : ℕ) (p : Route) (t : List Route) → passed w p t ≡ passed w (bare (p .addr) (p .len)) t
+pub passed-bare : (w : ℕ) (p : Route) (t : List Route) → passed w p t ≡ passed w (bare (p .addr) (p .len)) t
 unfolding passed
 passed-bare w p [] = refl
 passed-bare w p (r ∷ t) = ap (λ (n : ℕ). n + passed w r t) (fresh-bare w p (r .addr) (levels r))

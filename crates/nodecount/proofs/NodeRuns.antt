@@ -5,17 +5,18 @@ use mathlib.Core.Path.{_≡_, refl, sym, ap, ap₂, subst, _∙_}
 use mathlib.Core.Bool.{Bool, true, false, true≢false, cond, _||_, or-true}
 use mathlib.Core.List.{List, [], _∷_}
 use mathlib.Core.Logic.{_↔_, _⊎_, inl, inr}
-use native.Mathlib.Nat.{sub-zero, eq-or-lt-of-le, add-mul, add-mul-div-right, div-lt-iff-lt-mul}
+use native.Mathlib.Nat.{sub-zero, le-antisymm, eq-or-lt-of-le, add-mul, add-mul-div-right, div-lt-iff-lt-mul}
 use native.Mathlib.Decide.{decLt}
 use native.Mathlib.Omega.{arith}
-use lib.Dec.{ltb, eqb}
+use lib.Dec.{leb, ltb, eqb}
+use lib.ListN.{length}
 use lib.Pow.{pow-add, shl-shr, shr-mono}
-use borrow.Author.Tests.{lt-leb, lt-ltb, le-ltb, ltb-true, eq-eqb, ne-eqb, eqb-true, eqb-false}
+use borrow.Author.Tests.{le-leb, lt-leb, lt-ltb, le-ltb, ltb-true, eq-eqb, ne-eqb, eqb-true, eqb-false}
 use Rattle.theory.specs.Results.{In, part}
-use Rattle.theory.specs.Routes.{Route, Aligned, Valid, All, nil, cons, Member, head, later}
+use Rattle.theory.specs.Routes.{Route, Aligned, Valid, All, nil, cons, Member, head}
 use Rattle.theory.proofs.Blocks.{pow-pos, aligned-zero, block→in, in→block, aligned-down, fewer-bits}
 use Rattle.theory.proofs.Lists.{all-map}
-use Rattle.theory.proofs.Parts.{all-part}
+use Rattle.theory.proofs.Parts.{all-part, member-part}
 use Rattle.positions.specs.Runs.{isIn, inside, placeAt}
 use Rattle.positions.proofs.Runs.{is-in}
 use Rattle.positions.proofs.RunsNode.{size-slot, place-aligned}
@@ -180,7 +181,7 @@ abbrev pub slotRun : ℕ → ℕ → ℕ → ℕ → List Route → List Route
 slotRun w d key c rs = inside w (w - (d + 5)) (slotKey w d key c) rs
 
 module _ (w d key : ℕ) (fits : d + 5 ≤ w) (lined : Aligned (w - d) key) where
-  slot-lined : (c : ℕ) → Aligned (w - (d + 5)) (slotKey w d key c)
+  pub slot-lined : (c : ℕ) → Aligned (w - (d + 5)) (slotKey w d key c)
   slot-lined c =
       let up : w - d ≡ (w - (d + 5)) + 5 = omega arith in
       subst (λ (k : ℕ). Aligned k (slotKey w d key c)) (size-slot (w - (d + 5))) (place-aligned (w - (d + 5)) key 5 c (rw up at lined))
@@ -230,6 +231,31 @@ module _ (w d key : ℕ) (fits : d + 5 ≤ w) (lined : Aligned (w - d) key) wher
       all-part (isIn w (w - (d + 5)) (slotKey w d key c))
       (λ r i e. record { short = i .short; inside = is-in w (w - (d + 5)) (slotKey w d key c) r .0 e .1 })
       all
+
+  -- The slots' runs are as long together as the records that are long enough.
+  pub slots-length : {t : List Route} → All (Inside w d key) t
+      → sumTo (λ c. length (slotRun w d key c t)) 32 ≡ length (part (λ r. leb (d + 5) (r .len)) t)
+  slots-length nil = sum-none _ 32 (λ c. refl)
+  slots-length (cons {r = r} {t = t} i is) =
+      sum-same _ (λ c. cond (isIn w (w - (d + 5)) (slotKey w d key c) r) 1 0 + length (slotRun w d key c t)) 32
+      (λ c. longer (isIn w (w - (d + 5)) (slotKey w d key c) r) (slotRun w d key c t))
+      ∙ sum-add (λ c. cond (isIn w (w - (d + 5)) (slotKey w d key c) r) 1 0) (λ c. length (slotRun w d key c t)) 32
+      ∙ ap₂ _+_ (one (decLt (r .len) (d + 5))) (slots-length is)
+      ∙ sym (longer (leb (d + 5) (r .len)) (part (λ r. leb (d + 5) (r .len)) t))
+    where
+      longer : (b : Bool) (u : List Route) → length (cond b (r ∷ u) u) ≡ cond b 1 0 + length u
+      longer true u = omega arith
+      longer false u = omega arith
+
+      one : Dec (r .len < d + 5) → sumTo (λ c. cond (isIn w (w - (d + 5)) (slotKey w d key c) r) 1 0) 32 ≡ cond (leb (d + 5) (r .len)) 1 0
+      one (yes lt) =
+          sum-none _ 32 (λ c. ap (λ (b : Bool). cond b 1 0) (slot-none r lt c))
+          ∙ ap (λ (b : Bool). cond b 1 0) (sym (lt-leb (d + 5) (r .len) lt))
+      one (no ge) =
+          let le : d + 5 ≤ r .len = omega arith in
+          sum-same _ (λ c. cond (eqb c (slotOf (r .addr))) 1 0) 32 (λ c. ap (λ (b : Bool). cond b 1 0) (slot-is r i le c))
+          ∙ sum-one (slotOf (r .addr)) 1 32
+          ∙ ap (λ (b : Bool). cond b 1 0) (lt-ltb (slotOf (r .addr)) 32 (slot-small (r .addr) (i .inside)) ∙ sym (le-leb (d + 5) (r .len) le))
 
 -- What the slots' runs bring is what the run brings deeper than the node.
 module _ (w e d key : ℕ) (level : d ≡ 5 * e) (fits : d + 5 ≤ w) (lined : Aligned (w - d) key) where
@@ -321,64 +347,59 @@ nodes-runs w k {rs} all fits few =
     (all-map (λ r v. record { short = v .short; inside = (omega arith, rw (sub-zero w) (omega (arith, v .small))) }) all))
     ∙ ap (λ (n : ℕ). 1 + n) (brought-root w [] rs)
 
--- ---- The order of the records and their repetition are of no account.
+-- ---- The prefixes of a table decide its nodes: hops, the order of the records and their repetition are of no account.
 
--- Each record of s is one of t.
-abbrev pub Among : List Route → List Route → Type 0
-Among s t = (r : Route) → Member r s → Member r t
+-- A route of the list with the prefix of r.
+pub record Has (r : Route) (t : List Route) : Type 0 where
+  pub route : Route
+  pub member : Member route t
+  pub addr : route .addr ≡ r .addr
+  pub len : route .len ≡ r .len
+
+-- The prefixes of s are among those of t.
+abbrev pub Prefixes : List Route → List Route → Type 0
+Prefixes s t = (r : Route) → Member r s → Has r t
+
+sum-le : (f g : ℕ → ℕ) (n : ℕ) → ((c : ℕ) → f c ≤ g c) → sumTo f n ≤ sumTo g n
+unfolding sumTo
+sum-le f g zero h = omega arith
+sum-le f g (suc n) h = omega (arith, sum-le f g n h, h n)
+
+part-prefixes : (w n a : ℕ) (s t : List Route) → Prefixes s t → Prefixes (inside w n a s) (inside w n a t)
+part-prefixes w n a s t h r m =
+    let b = member-part (isIn w n a) s .0 m in
+    let u = h r (b .0) in
+    let e : isIn w n a (u .route) ≡ true = rw (u .addr, u .len) (b .1) in
+    record { route = u .route; member = member-part (isIn w n a) t .1 (u .member, e); addr = u .addr; len = u .len }
 
 member-none : {A : Type 0} {r : Route} → Member r [] → A
 member-none m = elim m [ ]
 
-member-cases : {r s : Route} {t : List Route} → Member r (s ∷ t) → (r ≡ s) ⊎ Member r t
-member-cases head = inl refl
-member-cases (later m) = inr m
+none-le : (s t : List Route) (m n : ℕ) → Prefixes s t → m ≤ n → orNone s m ≤ orNone t n
+none-le [] t m n h le = omega arith
+none-le (r ∷ s) [] m n h le = member-none (h r head .member)
+none-le (r ∷ s) (u ∷ t) m n h le = le
 
-member-part : (p : Route → Bool) (r : Route) {t : List Route} → Member r t → p r ≡ true → Member r (part p t)
-member-part p r head e = rw e head
-member-part p r (later {s = s} {t = t} m) e = go (p s) (member-part p r m e)
-  where
-    go : (b : Bool) → Member r (part p t) → Member r (cond b (s ∷ part p t) (part p t))
-    go true i = later i
-    go false i = i
-
-part-member : (p : Route → Bool) (r : Route) (t : List Route) → Member r (part p t) → Member r t × (p r ≡ true)
-part-member p r [] m = member-none m
-part-member p r (s ∷ t) m = go (p s) refl m (part-member p r t)
-  where
-    go : (b : Bool) → p s ≡ b → Member r (cond b (s ∷ part p t) (part p t)) → (Member r (part p t) → Member r t × (p r ≡ true))
-        → Member r (s ∷ t) × (p r ≡ true)
-    go true e n ih = both (member-cases n)
-      where
-        both : (r ≡ s) ⊎ Member r (part p t) → Member r (s ∷ t) × (p r ≡ true)
-        both (inl q) = (rw q head, ap p q ∙ e)
-        both (inr i) = (later (ih i .0), ih i .1)
-    go false e n ih = (later (ih n .0), ih n .1)
-
-part-among : (p : Route → Bool) (s t : List Route) → Among s t → Among (part p s) (part p t)
-part-among p s t k r m = let b = part-member p r s m in member-part p r (k r (b .0)) (b .1)
-
-none-among : (s t : List Route) (m n : ℕ) → Among s t → Among t s → m ≡ n → orNone s m ≡ orNone t n
-none-among [] [] m n k l e = refl
-none-among [] (r ∷ t) m n k l e = member-none (l r head)
-none-among (r ∷ s) [] m n k l e = member-none (k r head)
-none-among (r ∷ s) (u ∷ t) m n k l e = e
-
-in-among : (w k n a : ℕ) (s t : List Route) → Among s t → Among t s → nodesIn w k n a s ≡ nodesIn w k n a t
+in-prefixes : (w k n a : ℕ) (s t : List Route) → Prefixes s t → nodesIn w k n a s ≤ nodesIn w k n a t
 unfolding nodesIn
-in-among w zero n a s t i j = refl
-in-among w (suc k) n a s t i j =
-    ap (λ (m : ℕ). 1 + m)
-    (sum-same _ _ 32
+in-prefixes w zero n a s t h = omega arith
+in-prefixes w (suc k) n a s t h =
+    let le =
+    sum-le _ _ 32
     (λ c.
-    let p = isIn w (n - 5) (placeAt (n - 5) a 5 c) in
-    let u = part-among p s t i in
-    let v = part-among p t s j in
-    none-among (part p s) (part p t) _ _ u v (in-among w k (n - 5) (placeAt (n - 5) a 5 c) (part p s) (part p t) u v)))
+    let u = part-prefixes w (n - 5) (placeAt (n - 5) a 5 c) s t h in
+    none-le (inside w (n - 5) (placeAt (n - 5) a 5 c) s) (inside w (n - 5) (placeAt (n - 5) a 5 c) t) _ _ u
+    (in-prefixes w k (n - 5) (placeAt (n - 5) a 5 c) (inside w (n - 5) (placeAt (n - 5) a 5 c) s) (inside w (n - 5) (placeAt (n - 5) a 5 c) t) u)) in
+    omega arith
 
--- Lists of the same records have as many nodes.
-pub nodes-among : (w : ℕ) {s t : List Route} → All (Valid w) s → All (Valid w) t → Among s t → Among t s → nodes w s ≡ nodes w t
-nodes-among w {s} {t} u v i j = sym (walked u) ∙ in-among w (suc (w / 5)) w 0 s t i j ∙ walked v
-  where
-    walked : {rs : List Route} → All (Valid w) rs → nodesIn w (suc (w / 5)) w 0 rs ≡ nodes w rs
-    walked all = nodes-runs w (w / 5) all (omega arith) (all-map (λ r h. (let j : levels r ≤ w / 5 = omega (arith, h .short) in j)) all)
+-- The walk that is deep enough for the width.
+pub nodes-walked : (w : ℕ) {t : List Route} → All (Valid w) t → nodesIn w (suc (w / 5)) w 0 t ≡ nodes w t
+nodes-walked w all = nodes-runs w (w / 5) all (omega arith) (all-map (λ r h. (let j : levels r ≤ w / 5 = omega (arith, h .short) in j)) all)
+
+-- A table whose prefixes are among another's has no more nodes.
+pub nodes-prefixes : (w : ℕ) {s t : List Route} → All (Valid w) s → All (Valid w) t → Prefixes s t → nodes w s ≤ nodes w t
+nodes-prefixes w {s} {t} u v h = omega (arith, nodes-walked w u, nodes-walked w v, in-prefixes w (suc (w / 5)) w 0 s t h)
+
+-- Tables of the same prefixes have as many nodes.
+pub nodes-among : (w : ℕ) {s t : List Route} → All (Valid w) s → All (Valid w) t → Prefixes s t → Prefixes t s → nodes w s ≡ nodes w t
+nodes-among w u v h k = le-antisymm (nodes-prefixes w u v h) (nodes-prefixes w v u k)

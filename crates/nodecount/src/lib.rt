@@ -22,7 +22,7 @@ fn is_shared(addr: u32, last_addr: u32, last_len: u8, m: u8) -> bool
 }
 
 // The nodes that a record brings beside those of the record before it: those below the deepest that both have.
-fn new_nodes(addr: u32, len: u8, last_addr: u32, last_len: u8) -> usize
+pub fn new_nodes(addr: u32, len: u8, last_addr: u32, last_len: u8) -> usize
     requires { ⌜ len ≤ 32 ⌝ }
     ensures { λ r. ⌜ r ≡ newNodes 32 (bare «last_addr» «last_len») (bare addr len) ⌝ }
 {

@@ -9,9 +9,8 @@ use lib.Bits.{bitOr}
 use lib.ListN.{length, getD}
 use borrow.Author.Tests.{lt-ltb, le-ltb}
 use Rattle.theory.specs.Routes.{Route, Answer}
-use Rattle.theory.specs.Results.{smallest, ortc}
+use Rattle.theory.specs.Results.{Chooses, ortc}
 use Rattle.theory.proofs.Agree.{ortc-agree}
-use Rattle.theory.proofs.Chosen.{smallest-chooses}
 use Rattle.theory.proofs.Quick.{ortc-uniform}
 use Rattle.words.specs.Bits.{bit, NextBit}
 use Rattle.words.specs.Positions.{position}
@@ -40,37 +39,37 @@ use Rattle.ortc.proofs.SlotLaws.{slot-alike, slot-block}
 -- ---- A node's rewrite, by its slots.
 
 -- What the rewrite of the node (m + 5, a) puts out at position j of level l, where g is assigned above the node.
-abbrev pub ownEntry : (ℕ → Answer) → ℕ → ℕ → Answer → ℕ → ℕ → List Route
-ownEntry f m a g l j =
-    ortcOut smallest wide f (sizeAt m l) (placeAt m a l j) (stateAt (ortcOut smallest wide f) (ortcNext smallest f) m a g l j)
+abbrev pub ownEntry : (List ℕ → ℕ) → (ℕ → Answer) → ℕ → ℕ → Answer → ℕ → ℕ → List Route
+ownEntry choose f m a g l j =
+    ortcOut choose wide f (sizeAt m l) (placeAt m a l j) (stateAt (ortcOut choose wide f) (ortcNext choose f) m a g l j)
 
-module _ (f : ℕ → Answer) (m a : ℕ) (g : Answer) where
+module _ (choose : List ℕ → ℕ) (f : ℕ → Answer) (m a : ℕ) (g : Answer) where
   -- Its own entries, and at each slot the rewrite of the slot under what the position above it is assigned.
   pub rewrite-slots :
-      ortc smallest wide f (m + 5) a g
-      ≡ slots (ownEntry f m a g) (λ c. ortc smallest wide f m (placeAt m a 5 c) (assignedAt f m a g 4 (c / 2))) 32
+      ortc choose wide f (m + 5) a g
+      ≡ slots (ownEntry choose f m a g) (λ c. ortc choose wide f m (placeAt m a 5 c) (assignedAt choose f m a g 4 (c / 2))) 32
   rewrite-slots =
-      ortc-walk smallest wide f (m + 5) a g
-      ∙ walk-slots (ortcOut smallest wide f) (ortcNext smallest f) m a g
-      ∙ slots-agree 5 (ownEntry f m a g) (ownEntry f m a g) (λ l j lt small. refl)
-      (λ c. walk (ortcOut smallest wide f) (ortcNext smallest f) m (placeAt m a 5 c) (stateAt (ortcOut smallest wide f) (ortcNext smallest f) m a g 5 c))
-      (λ c. ortc smallest wide f m (placeAt m a 5 c) (assignedAt f m a g 4 (c / 2)))
+      ortc-walk choose wide f (m + 5) a g
+      ∙ walk-slots (ortcOut choose wide f) (ortcNext choose f) m a g
+      ∙ slots-agree 5 (ownEntry choose f m a g) (ownEntry choose f m a g) (λ l j lt small. refl)
+      (λ c. walk (ortcOut choose wide f) (ortcNext choose f) m (placeAt m a 5 c) (stateAt (ortcOut choose wide f) (ortcNext choose f) m a g 5 c))
+      (λ c. ortc choose wide f m (placeAt m a 5 c) (assignedAt choose f m a g 4 (c / 2)))
       (λ c lt.
-      rw (state-assigned f m a g 5 c)
-      (sym (ortc-walk smallest wide f m (placeAt m a 5 c) (assignedAt f m a g 4 (c / 2)))))
+      rw (state-assigned choose f m a g 5 c)
+      (sym (ortc-walk choose wide f m (placeAt m a 5 c) (assignedAt choose f m a g 4 (c / 2)))))
       32 (omega arith)
 
 -- ---- A region without routes.
 
 -- Its rewrite is one entry at most, by the hop that covers it or else fills.
-pub leaf-rewrite : (t : List ℕ) (lo hi depth key covering fill hop above : ℕ) → hi ≤ lo → depth ≤ 35 → hop ≤ noHop → above ≤ noHop
+pub leaf-rewrite : (choose : List ℕ → ℕ) → Chooses choose → (t : List ℕ) (lo hi depth key covering fill hop above : ℕ) → hi ≤ lo → depth ≤ 35 → hop ≤ noHop → above ≤ noHop
     → hopOf hop ≡ orElse (hopOf covering) (hopOf fill)
-    → ortc smallest wide (answerIn (run t lo hi) (hopOf covering) (hopOf fill)) (wide - depth) key (hopOf above) ≡ entryOver key depth hop above
-leaf-rewrite t lo hi depth key covering fill hop above none deep hop-low above-low e =
+    → ortc choose wide (answerIn (run t lo hi) (hopOf covering) (hopOf fill)) (wide - depth) key (hopOf above) ≡ entryOver key depth hop above
+leaf-rewrite choose law t lo hi depth key covering fill hop above none deep hop-low above-low e =
     rw (run-none t lo hi none)
-    (ortc-uniform smallest wide smallest-chooses (answerIn [] (hopOf covering) (hopOf fill)) (orElse (hopOf covering) (hopOf fill)) (wide - depth) key
+    (ortc-uniform choose wide law (answerIn [] (hopOf covering) (hopOf fill)) (orElse (hopOf covering) (hopOf fill)) (wide - depth) key
     (hopOf above) (λ x i. refl)
-    ∙ rw (← e) (sym (leaf-entry (wide - depth) key depth hop above (omega arith) hop-low above-low)))
+    ∙ rw (← e) (sym (leaf-entry choose law (wide - depth) key depth hop above (omega arith) hop-low above-low)))
 
 -- Some hop says which that is.
 leaf-hop : (covering fill : ℕ) → covering ≤ noHop → fill ≤ noHop → (v : ℕ) × (v ≤ noHop) × (hopOf v ≡ orElse (hopOf covering) (hopOf fill))
@@ -91,25 +90,25 @@ sets-stored n s = let a = own-stored n s in (a .1 .0, a .1 .1, rw (a .1 .2) at (
 -- ---- The slots of a node.
 
 -- The rewrite of slot c, by its records, what covers it and what the position above it is assigned.
-abbrev pub slotRewrite : List ℕ → List ℕ → List ℕ → List ℕ → List ℕ → ℕ → ℕ → ℕ → ℕ → List Route
-slotRewrite t first end covering hops depth key fill c =
-    ortc smallest wide (answerIn (runAt t first end (31 + c)) (hopOf (getD covering (15 + c / 2) 0)) (hopOf fill))
+abbrev pub slotRewrite : (List ℕ → ℕ) → List ℕ → List ℕ → List ℕ → List ℕ → List ℕ → ℕ → ℕ → ℕ → ℕ → List Route
+slotRewrite choose t first end covering hops depth key fill c =
+    ortc choose wide (answerIn (runAt t first end (31 + c)) (hopOf (getD covering (15 + c / 2) 0)) (hopOf fill))
     (wide - (depth + 5)) (placeAt (slotSize depth) key 5 c) (hopOf (getD hops (15 + c / 2) 0))
 
 -- One without records lists nothing where no entry of its own is marked.
-leaf-none : (t first end covering hops : List ℕ) (depth key fill leaves : ℕ) → LeafSlots covering hops fill leaves → depth ≤ 30 → fill ≤ noHop
+leaf-none : (choose : List ℕ → ℕ) → Chooses choose → (t first end covering hops : List ℕ) (depth key fill leaves : ℕ) → LeafSlots covering hops fill leaves → depth ≤ 30 → fill ≤ noHop
     → (c : ℕ) → c < 32 → getD end (31 + c) 0 ≤ getD first (31 + c) 0 → getD covering (15 + c / 2) 0 ≤ noHop → getD hops (15 + c / 2) 0 ≤ noHop
-    → bit leaves c ≡ false → slotRewrite t first end covering hops depth key fill c ≡ []
-leaf-none t first end covering hops depth key fill leaves marks deep fill-low c lt none covers-low hops-low clear =
+    → bit leaves c ≡ false → slotRewrite choose t first end covering hops depth key fill c ≡ []
+leaf-none choose law t first end covering hops depth key fill leaves marks deep fill-low c lt none covers-low hops-low clear =
     let v = leaf-hop (getD covering (15 + c / 2) 0) fill covers-low fill-low in
-    leaf-rewrite t (getD first (31 + c) 0) (getD end (31 + c) 0) (depth + 5) (placeAt (slotSize depth) key 5 c) (getD covering (15 + c / 2) 0) fill (v .0)
+    leaf-rewrite choose law t (getD first (31 + c) 0) (getD end (31 + c) 0) (depth + 5) (placeAt (slotSize depth) key 5 c) (getD covering (15 + c / 2) 0) fill (v .0)
     (getD hops (15 + c / 2) 0) none (omega arith) (v .1) hops-low (v .2)
     ∙ ap (λ (b : Bool). cond b (record { addr = placeAt (slotSize depth) key 5 c; len = depth + 5; hop = v .0 } ∷ []) [])
     (sym (marks c (v .0) lt (v .2)) ∙ clear)
 
 -- What is found of a node before its slots are walked: the records of its places, what covers them and what they are assigned, its rewrite by its
 -- slots, and the slots that are busy.
-pub record Opened (t : List ℕ) (lo hi depth key inherited fill above : ℕ) (work : List ℕ) (top : ℕ) (first end covering hops : List ℕ)
+pub record Opened (choose : List ℕ → ℕ) (t : List ℕ) (lo hi depth key inherited fill above : ℕ) (work : List ℕ) (top : ℕ) (first end covering hops : List ℕ)
     (entries busy : ℕ) : Type 0 where
   pub node : Node t lo hi depth key
   pub present : ℕ
@@ -117,10 +116,10 @@ pub record Opened (t : List ℕ) (lo hi depth key inherited fill above : ℕ) (w
   pub covers : (c : ℕ) → c < 32 → getD covering (15 + c / 2) 0 ≡ coveringAt t first end inherited 4 (c / 2)
   pub covers-low : (c : ℕ) → c < 32 → getD covering (15 + c / 2) 0 ≤ noHop
   pub hops-low : (c : ℕ) → c < 32 → getD hops (15 + c / 2) 0 ≤ noHop
-  pub rewritten : ortc smallest wide (answerIn (run t lo hi) (hopOf inherited) (hopOf fill)) (wide - depth) key (hopOf above)
-      ≡ slots (entryAt entries hops depth key) (slotRewrite t first end covering hops depth key fill) 32
+  pub rewritten : ortc choose wide (answerIn (run t lo hi) (hopOf inherited) (hopOf fill)) (wide - depth) key (hopOf above)
+      ≡ slots (entryAt entries hops depth key) (slotRewrite choose t first end covering hops depth key fill) 32
   pub stored : Stored (setWords (answerIn (run t lo hi) (hopOf inherited) (hopOf fill))) (nodesDeep depth) key (run t lo hi) top work
-  pub quiet : Busy entries hops depth key (slotRewrite t first end covering hops depth key fill) (run t lo hi) busy
+  pub quiet : Busy entries hops depth key (slotRewrite choose t first end covering hops depth key fill) (run t lo hi) busy
 
 -- The blocks of its slots from c on stand in the room from `at` on.
 abbrev AheadIn : List ℕ → ℕ → ℕ → ℕ → ℕ → ℕ → ℕ → ℕ → List ℕ → ℕ → ℕ → Type 0
@@ -128,22 +127,22 @@ AheadIn t lo hi depth key inherited fill top o c at =
     Ahead everywhere (setWords (answerIn (run t lo hi) (hopOf inherited) (hopOf fill))) (run t lo hi) depth key top o c at
 
 -- What the walk over its slots has done before slot c: it has written those before it, and read their blocks.
-pub record Walking (t : List ℕ) (lo hi depth key inherited fill above : ℕ) (work : List ℕ) (top : ℕ) (first end covering hops : List ℕ) (entries : ℕ)
+pub record Walking (choose : List ℕ → ℕ) (t : List ℕ) (lo hi depth key inherited fill above : ℕ) (work : List ℕ) (top : ℕ) (first end covering hops : List ℕ) (entries : ℕ)
     (c at n : ℕ) (out₀ out : List ℕ) : Type 0 where
-  pub walked : Walked entries hops depth key (slotRewrite t first end covering hops depth key fill) c n out₀ out
+  pub walked : Walked entries hops depth key (slotRewrite choose t first end covering hops depth key fill) c n out₀ out
   pub ahead : AheadIn t lo hi depth key inherited fill top work c at
 
-module _ {t : List ℕ} {lo hi depth key : ℕ} {first end : List ℕ} {present : ℕ} (n : Node t lo hi depth key)
+module _ (choose : List ℕ → ℕ) (law : Chooses choose) {t : List ℕ} {lo hi depth key : ℕ} {first end : List ℕ} {present : ℕ} (n : Node t lo hi depth key)
     (g : Gathered t lo hi depth key first end present) (inherited fill above : ℕ) (inherited-low : inherited ≤ noHop) (fill-low : fill ≤ noHop)
     (above-low : above ≤ noHop) where
   -- By what the passes over the node find.
   pub opened : {work : List ℕ} {top : ℕ} {covering hops : List ℕ} {entries : ℕ} (occupied marked leaves : ℕ)
       → Stored (setWords (answerIn (run t lo hi) (hopOf inherited) (hopOf fill))) (nodesDeep depth) key (run t lo hi) top work
       → ((l j : ℕ) → l ≤ 4 → j < 2 ^ l → getD covering (position l j) 0 ≡ coveringAt t first end inherited l j)
-      → ((l j : ℕ) → l ≤ 4 → j < 2 ^ l → AssignedHop (answerIn (run t lo hi) (hopOf inherited) (hopOf fill)) (slotSize depth) key above hops l j)
+      → ((l j : ℕ) → l ≤ 4 → j < 2 ^ l → AssignedHop choose (answerIn (run t lo hi) (hopOf inherited) (hopOf fill)) (slotSize depth) key above hops l j)
       → ((b : ℕ) → b < 31 → bit entries b ≡ hasEntry hops above b)
       → Occupied t lo hi depth key occupied → HeadSlots entries marked → LeafSlots covering hops fill leaves
-      → Opened t lo hi depth key inherited fill above work top first end covering hops entries (bitOr (bitOr occupied marked) leaves)
+      → Opened choose t lo hi depth key inherited fill above work top first end covering hops entries (bitOr (bitOr occupied marked) leaves)
   opened {work} {top} {covering} {hops} {entries} occupied marked leaves s cover assigned bits taken begins own =
       record {
         node = n;
@@ -153,11 +152,11 @@ module _ {t : List ℕ} {lo hi depth key : ℕ} {first end : List ℕ} {present 
         covers-low = covers-low;
         hops-low = hops-low;
         rewritten =
-            rw size (rewrite-slots f (slotSize depth) key (hopOf above))
-            ∙ slots-agree 5 (ownEntry f (slotSize depth) key (hopOf above)) (entryAt entries hops depth key)
-            (λ l j lt small. sym (entries-are f depth key above entries hops (shown .0) (n .deep) above-low (shown .1) assigned bits l j (omega arith) small))
-            (λ c. ortc smallest wide f (slotSize depth) (placeAt (slotSize depth) key 5 c) (assignedAt f (slotSize depth) key (hopOf above) 4 (c / 2)))
-            (slotRewrite t first end covering hops depth key fill) slot 32 (omega arith);
+            rw size (rewrite-slots choose f (slotSize depth) key (hopOf above))
+            ∙ slots-agree 5 (ownEntry choose f (slotSize depth) key (hopOf above)) (entryAt entries hops depth key)
+            (λ l j lt small. sym (entries-are choose law f depth key above entries hops (shown .0) (n .deep) above-low (shown .1) assigned bits l j (omega arith) small))
+            (λ c. ortc choose wide f (slotSize depth) (placeAt (slotSize depth) key 5 c) (assignedAt choose f (slotSize depth) key (hopOf above) 4 (c / 2)))
+            (slotRewrite choose t first end covering hops depth key fill) slot 32 (omega arith);
         stored = s;
         quiet = record {
           rest = λ c lt clear.
@@ -165,7 +164,7 @@ module _ {t : List ℕ} {lo hi depth key : ℕ} {first end : List ℕ} {present 
               let q = neither occupied marked c (p .0) in
               let none = slot-vacant g occupied taken c lt (q .0) in (
                 no-heads entries marked begins hops depth key c lt (q .1),
-                leaf-none t first end covering hops depth key fill leaves own (n .deep) fill-low c lt none (covers-low c lt) (hops-low c lt) (p .1),
+                leaf-none choose law t first end covering hops depth key fill leaves own (n .deep) fill-low c lt none (covers-low c lt) (hops-low c lt) (p .1),
                 no-child g c lt none,
               );
         };
@@ -190,22 +189,22 @@ module _ {t : List ℕ} {lo hi depth key : ℕ} {first end : List ℕ} {present 
       hops-low c lt = assigned 4 (c / 2) (omega arith) (omega arith) .0
 
       slot : (c : ℕ) → c < 32
-          → ortc smallest wide f (slotSize depth) (placeAt (slotSize depth) key 5 c) (assignedAt f (slotSize depth) key (hopOf above) 4 (c / 2))
-          ≡ slotRewrite t first end covering hops depth key fill c
+          → ortc choose wide f (slotSize depth) (placeAt (slotSize depth) key 5 c) (assignedAt choose f (slotSize depth) key (hopOf above) 4 (c / 2))
+          ≡ slotRewrite choose t first end covering hops depth key fill c
       slot c lt =
           let e : wide - (depth + 5) ≡ slotSize depth = omega (arith, n .deep) in
           rw (assigned 4 (c / 2) (omega arith) (omega arith) .1, e)
-          (ortc-agree f (answerIn (runAt t first end (31 + c)) (hopOf (getD covering (15 + c / 2) 0)) (hopOf fill)) smallest wide
-          (slotSize depth) (placeAt (slotSize depth) key 5 c) (assignedAt f (slotSize depth) key (hopOf above) 4 (c / 2))
+          (ortc-agree f (answerIn (runAt t first end (31 + c)) (hopOf (getD covering (15 + c / 2) 0)) (hopOf fill)) choose wide
+          (slotSize depth) (placeAt (slotSize depth) key 5 c) (assignedAt choose f (slotSize depth) key (hopOf above) 4 (c / 2))
           (slot-alike n g inherited fill c lt (covers c lt)))
 
 -- ---- The loop over the slots.
 
-module _ {t : List ℕ} {lo hi depth key inherited fill above : ℕ} {work : List ℕ} {top : ℕ} {first end covering hops : List ℕ} {entries busy : ℕ}
-    (q : Opened t lo hi depth key inherited fill above work top first end covering hops entries busy) where
+module _ {choose : List ℕ → ℕ} {t : List ℕ} {lo hi depth key inherited fill above : ℕ} {work : List ℕ} {top : ℕ} {first end covering hops : List ℕ} {entries busy : ℕ}
+    (q : Opened choose t lo hi depth key inherited fill above work top first end covering hops entries busy) where
   -- The room is read up to the blocks of the slots.
   pub walking-start : (at : ℕ) (out : List ℕ) → ((xs : List ℕ) → Begins (packed xs) top work → at ≡ top + length (packed xs))
-      → Walking t lo hi depth key inherited fill above work top first end covering hops entries 0 at 0 out out
+      → Walking choose t lo hi depth key inherited fill above work top first end covering hops entries 0 at 0 out out
   walking-start at out tops =
       record {
         walked = walked-none out;
@@ -242,26 +241,26 @@ module _ {t : List ℕ} {lo hi depth key inherited fill above : ℕ} {work : Lis
 
   -- The walk goes on at the next slot that is busy.
   pub walking-on : {k r at n : ℕ} {out₀ out : List ℕ} → NextBit busy k r
-      → Walking t lo hi depth key inherited fill above work top first end covering hops entries k at n out₀ out
-      → Walking t lo hi depth key inherited fill above work top first end covering hops entries r at n out₀ out
+      → Walking choose t lo hi depth key inherited fill above work top first end covering hops entries k at n out₀ out
+      → Walking choose t lo hi depth key inherited fill above work top first end covering hops entries r at n out₀ out
   walking-on b h = record { walked = walked-next (q .quiet) b (h .walked); ahead = ahead-past (q .quiet) b (h .ahead) }
 
   -- The node's rewrite has at most one entry more than the node has records.
-  pub opened-most : length (slots (entryAt entries hops depth key) (slotRewrite t first end covering hops depth key fill) 32) ≤ (hi - lo) + 1
-  opened-most =
+  pub opened-most : Chooses choose → length (slots (entryAt entries hops depth key) (slotRewrite choose t first end covering hops depth key fill) 32) ≤ (hi - lo) + 1
+  opened-most law =
       let size : wide - depth ≡ slotSize depth + 5 = omega (arith, q .node .deep) in
       omega (
         arith,
         rw size at (ap length (q .rewritten)),
-        ortc-few smallest smallest-chooses (node-run (q .node)) (hopOf inherited) (hopOf fill) (hopOf above),
+        ortc-few choose law (node-run (q .node)) (hopOf inherited) (hopOf fill) (hopOf above),
         run-length t lo hi,
       )
 
   -- After the last slot it is written, and the node's block is read.
   pub walking-end : {c at n : ℕ} {out₀ out : List ℕ}
-      → Walking t lo hi depth key inherited fill above work top first end covering hops entries c at n out₀ out → 32 ≤ c
+      → Walking choose t lo hi depth key inherited fill above work top first end covering hops entries c at n out₀ out → 32 ≤ c
       → ((ws : List ℕ) → Block (setWords (answerIn (run t lo hi) (hopOf inherited) (hopOf fill))) (nodesDeep depth) key (run t lo hi) ws → Begins ws top work → at ≡ top + length ws)
-      × Wrote (ortc smallest wide (answerIn (run t lo hi) (hopOf inherited) (hopOf fill)) (wide - depth) key (hopOf above)) 0 n out₀ out
+      × Wrote (ortc choose wide (answerIn (run t lo hi) (hopOf inherited) (hopOf fill)) (wide - depth) key (hopOf above)) 0 n out₀ out
   walking-end {c} h all =
       let z : c ≡ 32 = omega (arith, h .walked .within) in
       (ahead-end (h .ahead) z, rw (q .rewritten) (walked-all (h .walked) all))

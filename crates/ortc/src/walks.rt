@@ -20,6 +20,7 @@ ghost use mathlib.Core.List.{List};
 ghost use Prim.Native.Nat.{ℕ, _+_, _-_, _*_, _^_, _≤_, _<_};
 ghost use lib.ListN.{length};
 ghost use Rattle.theory.specs.Results.{sets, ortc};
+ghost use Rattle.theory.specs.Ranks.{lowest};
 ghost use Rattle.positions.specs.Runs.{noHop, hopOf};
 ghost use Rattle.hops.specs.Sets.{ShowsSet};
 ghost use Rattle.nodes.specs.Node.{wide, run, Node};
@@ -93,8 +94,8 @@ pub struct Walked {
     pub top: usize,
 }
 
-// The second walk: writes the entries of a node and of all below it, where `above` is assigned above the node. It goes through the slots that
-// have a record, at which an entry begins or that have one of their own.
+// The second walk: assigns hops by ranks that are lent, and writes the entries of a node and of all below it, where `above` is assigned above
+// the node. It goes through the slots that have a record, at which an entry begins or that have one of their own.
 pub fn rewrite(
     table: &[u8],
     lo: u16,
@@ -104,6 +105,7 @@ pub fn rewrite(
     inherited: u8,
     fill: u8,
     above: u8,
+    ranks: &[u16],
     work: &[u32],
     top: usize,
     out: &mut [u8],
@@ -112,13 +114,13 @@ pub fn rewrite(
     requires { ⌜ (inherited ≤ noHop) × ((fill ≤ noHop) × (above ≤ noHop)) ⌝ }
     requires { ⌜ Stored (setWords (answerIn (run (now table) lo hi) (hopOf inherited) (hopOf fill))) (nodesDeep depth) key (run (now table) lo hi) top (now work) ⌝ }
     ensures { λ r. ⌜ ((ws : List ℕ) → Block (setWords (answerIn (run (now (table .entry)) lo hi) (hopOf inherited) (hopOf fill))) (nodesDeep depth) key (run (now (table .entry)) lo hi) ws → Begins ws top (now (work .entry)) → r .top ≡ top + length ws) ⌝ }
-    ensures { λ r. ⌜ Wrote (ortc Rattle.theory.specs.Results.smallest wide (answerIn (run (now (table .entry)) lo hi) (hopOf inherited) (hopOf fill)) (wide - depth) key (hopOf above)) 0 (r .count) (now (out .entry)) (now (out .exit)) ⌝ }
+    ensures { λ r. ⌜ Wrote (ortc (lowest (now (ranks .entry))) wide (answerIn (run (now (table .entry)) lo hi) (hopOf inherited) (hopOf fill)) (wide - depth) key (hopOf above)) 0 (r .count) (now (out .entry)) (now (out .exit)) ⌝ }
 {
     let mut first = [0u16; 63];
     let mut end = [0u16; 63];
     let g = gather_run(table, lo, hi, depth, key, &mut first, &mut end);
     let covering = covering_hops(table, g.present, &first, &end, inherited);
-    let node = assign_nodes(work, top, above);
+    let node = assign_nodes(work, top, above, ranks);
     let hops = node.hops;
     let entries = node.entries;
     let busy = g.occupied | head_slots(entries) | leaf_slots(&covering, &hops, fill);
@@ -139,6 +141,7 @@ pub fn rewrite(
             covering[15 + c / 2],
             fill,
             hops[15 + c / 2],
+            ranks,
             work,
             at,
             &mut out[here..],
@@ -160,6 +163,7 @@ fn rewrite_child(
     covering: u8,
     fill: u8,
     above: u8,
+    ranks: &[u16],
     work: &[u32],
     top: usize,
     out: &mut [u8],
@@ -170,7 +174,7 @@ fn rewrite_child(
     requires { ⌜ (lo < hi → Stored (setWords (answerIn (run (now table) lo hi) (hopOf covering) (hopOf fill))) (nodesDeep depth) key (run (now table) lo hi) top (now work)) ⌝ }
     ensures { λ r. ⌜ (hi ≤ lo → r .top ≡ top) ⌝ }
     ensures { λ r. ⌜ (lo < hi → (ws : List ℕ) → Block (setWords (answerIn (run (now (table .entry)) lo hi) (hopOf covering) (hopOf fill))) (nodesDeep depth) key (run (now (table .entry)) lo hi) ws → Begins ws top (now (work .entry)) → r .top ≡ top + length ws) ⌝ }
-    ensures { λ r. ⌜ Wrote (ortc Rattle.theory.specs.Results.smallest wide (answerIn (run (now (table .entry)) lo hi) (hopOf covering) (hopOf fill)) (wide - depth) key (hopOf above)) 0 (r .count) (now (out .entry)) (now (out .exit)) ⌝ }
+    ensures { λ r. ⌜ Wrote (ortc (lowest (now (ranks .entry))) wide (answerIn (run (now (table .entry)) lo hi) (hopOf covering) (hopOf fill)) (wide - depth) key (hopOf above)) 0 (r .count) (now (out .entry)) (now (out .exit)) ⌝ }
 {
     if lo < hi {
         return rewrite(
@@ -182,6 +186,7 @@ fn rewrite_child(
             covering,
             fill,
             above,
+            ranks,
             work,
             top,
             out,

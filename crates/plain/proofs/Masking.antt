@@ -48,7 +48,7 @@ pub plain-masked : (form : Form) (s : Bool) (t : List ℕ) → Bytes t → Accep
 unfolding replyBy plainRules resultOf
 plain-masked form s t bytes ok other mode default o r o′ a =
     let same : replyBy (plainRules other (maskedBytes t) mode default (length o)) (maskedBytes t) mode default
-        ≡ replyBy (plainRules byDefault t mode default (length o)) t mode default =
+    ≡ replyBy (plainRules byDefault t mode default (length o)) t mode default =
     rw (masked-rules form s t bytes ok other (takesSet mode), masked-routes form s t bytes ok) in
     record {
       answer = a .answer ∙ ap₂ writtenOf (ap (λ (n : ℕ). n / 8) (masked-length form s t bytes ok)) same;

@@ -10,7 +10,7 @@ use calls::engine::most_records;
 use calls::engine::no_hop;
 use hops::NO_HOP;
 use hops::alone;
-use hops::assign;
+use hops::assign_smallest;
 use hops::combine;
 use hops::has;
 use hops::smallest;
@@ -144,7 +144,7 @@ fn write(
             mid,
             right,
         } => {
-            let taken = assign(set, above);
+            let taken = assign_smallest(set, above);
             let at = past(own, out.len());
             let left = write(table, first, mid, addr, len + 1, hop, taken, &mut out[at..]);
             let done = own + left;
@@ -195,13 +195,7 @@ fn rewrite_checked(table: &[u8], mode: u32, fill: u8, before: usize, output: &mu
 
 // Rewrites a table in mode 1, 4 or 5 into the output: the number of records written from its start, and how many more they are than the table's; or a
 // refusal. Mode 5 gives the default to what has no route. Mode 1 is mode 4 on the members of a set, whose hops are 0.
-pub fn rewrite(
-    table: &[u8],
-    form: Form,
-    mode: u32,
-    default: u32,
-    output: &mut [u8],
-) -> Rewritten
+pub fn rewrite(table: &[u8], form: Form, mode: u32, default: u32, output: &mut [u8]) -> Rewritten
     ensures { λ r. ⌜ RewritesBy (plainRules form (now (table .entry)) mode default (length (now (output .entry)))) (now (table .entry)) mode default (now (output .entry)) r (now (output .exit)) ⌝ }
 {
     if no_mode(mode) {

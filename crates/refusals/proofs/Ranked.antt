@@ -1,12 +1,12 @@
 -- How a call's rules are shown to stand in the order of the checks, and to test their conditions: list by list, whatever their lengths. Assumes nothing.
 use mathlib.Core.Path.{_≡_, refl, subst}
-use mathlib.Core.Bool.{Bool, true, false, _&&_, and-eq-true-iff}
+use mathlib.Core.Bool.{Bool, true, false, _||_, _&&_, and-eq-true-iff}
 use mathlib.Core.List.{List, [], _∷_, _++_}
 use mathlib.Core.Logic.{_⊎_, inl, inr, ⊎-elim}
 use Prim.Native.Nat.{ℕ, suc, _≤_, _<_}
 use native.Mathlib.Omega.{arith}
-use lib.Dec.{leb}
-use borrow.Author.Tests.{leb-true}
+use lib.Dec.{leb, ltb, eqb}
+use borrow.Author.Tests.{leb-true, ltb-true, eqb-true}
 use Rattle.refusals.specs.Rules.{Rule}
 use Rattle.refusals.specs.Order.{rank, Earlier}
 use Rattle.refusals.proofs.Judged.{Broken, InOrder}
@@ -98,3 +98,39 @@ singles p q (r ∷ rs) e =
         below = λ n i b. ⊎-elim (λ h. at (λ m j. rank m < q) (h .1) (h .2) (omega arith)) (more .1 .below n i) b;
       },
     )
+
+-- Is a rule checked before each of a list: by its rank or, in one rank and at one index, by its number?
+abbrev pub ahead : Rule → List Rule → Bool
+ahead r [] = true
+ahead r (s ∷ rs) =
+    (ltb (rank (r .number)) (rank (s .number))
+    || (eqb (rank (r .number)) (rank (s .number)) && (eqb (r .index) (s .index) && ltb (r .number) (s .number))))
+    && ahead r rs
+
+abbrev pub allAhead : List Rule → Bool
+allAhead [] = true
+allAhead (r ∷ rs) = ahead r rs && allAhead rs
+
+ahead-earlier : (r : Rule) (rs : List Rule) → ahead r rs ≡ true → (n i : ℕ) → Broken rs n i → Earlier (r .number) (r .index) n i
+ahead-earlier r [] e n i b = absurd b
+ahead-earlier r (s ∷ rs) e n i b =
+    let m = rank (r .number) in
+    let k = rank (s .number) in
+    let both = and-eq-true-iff (ltb m k || (eqb m k && (eqb (r .index) (s .index) && ltb (r .number) (s .number)))) (ahead r rs) .0 e in
+    ⊎-elim (λ h. at (Earlier (r .number) (r .index)) (h .1) (h .2) (go (ltb m k) refl (both .0))) (ahead-earlier r rs (both .1) n i) b
+  where
+    go : (c : Bool) → ltb (rank (r .number)) (rank (s .number)) ≡ c
+        → (c || (eqb (rank (r .number)) (rank (s .number)) && (eqb (r .index) (s .index) && ltb (r .number) (s .number)))) ≡ true
+        → Earlier (r .number) (r .index) (s .number) (s .index)
+    go true p q = inl (ltb-true (rank (r .number)) (rank (s .number)) p)
+    go false p q =
+        let u = and-eq-true-iff (eqb (rank (r .number)) (rank (s .number))) (eqb (r .index) (s .index) && ltb (r .number) (s .number)) .0 q in
+        let v = and-eq-true-iff (eqb (r .index) (s .index)) (ltb (r .number) (s .number)) .0 (u .1) in
+        inr (eqb-true (rank (r .number)) (rank (s .number)) (u .0), inr (eqb-true (r .index) (s .index) (v .0), ltb-true (r .number) (s .number) (v .1)))
+
+-- Such rules stand in order.
+pub ahead-in-order : (rs : List Rule) → allAhead rs ≡ true → InOrder rs
+ahead-in-order [] e = tt
+ahead-in-order (r ∷ rs) e =
+    let both = and-eq-true-iff (ahead r rs) (allAhead rs) .0 e in
+    (λ kept. ahead-earlier r rs (both .0), ahead-in-order rs (both .1))

@@ -71,9 +71,7 @@ fn keep_image(answer: Loaded, image: &[u8], at: usize, kept: &mut [u8]) -> usize
     ensures { λ r. ⌜ (isAsSaid answer (now (image .entry)) ≡ true → (r ≡ at) × (now (kept .exit) ≡ now (kept .entry))) ⌝ }
 {
     match answer {
-        Loaded::Slots(used) => {
-            keep_unless(image, 8 * used, 255, b"slots not clear\n", at, kept)
-        }
+        Loaded::Slots(used) => { keep_unless(image, 8 * used, 255, b"slots not clear\n", at, kept) }
         Loaded::Refused { .. } => {
             keep_unless(image, 0, FILLED_BYTE, b"image touched\n", at, kept)
         }

@@ -1,4 +1,4 @@
-// The special-use ranges of RFC 5735, as a constant table in the wire's form, byte 5 zero, typed from section 4 of the document.
+// The special-use ranges of RFC 5735, as a constant table in the wire's form, byte 5 zero, as section 4 of the document lists them.
 
 ghost use mathlib.Core.Path.{_≡_};
 ghost use Rattle.records.specs.Wire.{bytesOf};

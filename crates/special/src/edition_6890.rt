@@ -1,4 +1,4 @@
-// The special-use ranges of RFC 6890, as a constant table in the wire's form, byte 5 zero, typed from section 2.2.2 of the document. It lists
+// The special-use ranges of RFC 6890, as a constant table in the wire's form, byte 5 zero, as section 2.2.2 of the document lists them. It lists
 // no multicast range, and adds to RFC 5735's the shared and the DS-Lite ranges.
 
 ghost use mathlib.Core.Path.{_≡_};

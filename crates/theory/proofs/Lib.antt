@@ -25,6 +25,7 @@ pub mod Computed
 pub mod Shortest
 pub mod OnlyShortest
 pub mod Lengths
+pub mod Ranks
 pub mod Modes
 pub mod HowMany
 pub mod Reach

@@ -266,6 +266,39 @@ trailing-lowest (suc w) x p h = go (x % 2) refl (λ (q : 0 < x / 2). trailing-lo
         let one : x % 2 ≡ 1 = omega arith in
         record { inside = omega arith; isSet = low 1 one; clear = λ i l. absurd (omega arith) }
 
+-- Of the bits that x has set, `x - 1` has all but the lowest,
+bit-less : (w x k : ℕ) → 0 < x → x < 2 ^ w → bit x k ≡ true → bit (x - 1) k ≡ not (eqb k (trailingZeros w x))
+unfolding trailingZeros bit
+bit-less zero x k p h e = absurd (omega arith)
+bit-less (suc w) x k p h e = go (x % 2) refl k e (λ (q : 0 < x / 2) (j : ℕ). bit-less w (x / 2) j q (omega (arith, pow-suc 2 w)))
+  where
+    t₀ : ℕ
+    t₀ = trailingZeros w (x / 2)
+
+    go : (r : ℕ) → x % 2 ≡ r → (k : ℕ) → bit x k ≡ true
+        → (0 < x / 2 → (j : ℕ) → bit (x / 2) j ≡ true → bit (x / 2 - 1) j ≡ not (eqb j (trailingZeros w (x / 2))))
+        → bit (x - 1) k ≡ not (eqb k (under r (trailingZeros w (x / 2))))
+    go zero e zero b rest =
+        let z : x / 1 % 2 ≡ 0 = omega arith in
+        absurd (true≢false (sym b ∙ ap (λ (n : ℕ). eqb n 1) z))
+    go zero e (suc k) b rest =
+        let half : (x - 1) / 2 ≡ x / 2 - 1 = omega arith in
+        bit-half (x - 1) k ∙ ap (λ (n : ℕ). bit n k) half ∙ rest (omega arith) k (sym (bit-half x k) ∙ b)
+        ∙ ap not (if-eq (λ t. t ≡ eqb (suc k) (suc t₀)) k t₀ (λ q. sym (eq-eqb (suc k) (suc t₀) (ap suc q))) (λ q. sym (ne-eqb (suc k) (suc t₀) (λ z. q (omega arith)))))
+    go (suc r) e zero b rest = let z : (x - 1) / 1 % 2 ≡ 0 = omega arith in ap (λ (n : ℕ). eqb n 1) z
+    go (suc r) e (suc k) b rest =
+        let half : (x - 1) / 2 ≡ x / 2 = omega arith in
+        bit-half (x - 1) k ∙ ap (λ (n : ℕ). bit n k) half ∙ sym (bit-half x k) ∙ b
+        ∙ sym (ap not (ne-eqb (suc k) 0 (λ z. omega arith)))
+
+-- so `x & (x - 1)` is x without it.
+pub bit-dropped : (w x k : ℕ) → 0 < x → x < 2 ^ w → bit (bitAnd x (x - 1)) k ≡ (bit x k && not (eqb k (trailingZeros w x)))
+bit-dropped w x k p h = bit-and x (x - 1) k ∙ go (bit x k) refl
+  where
+    go : (b : Bool) → bit x k ≡ b → (b && bit (x - 1) k) ≡ (b && not (eqb k (trailingZeros w x)))
+    go true e = bit-less w x k p h e
+    go false e = refl
+
 -- ---- the next set bit, and the last
 
 -- The bits of x from k on are those of `x >> k`.

@@ -5,6 +5,7 @@ use mathlib.Core.Path.{refl}
 use native.Mathlib.Omega.{arith}
 use lib.ListN.{replicate}
 use borrow.Author.Needs.{needs}
+use Rattle.theory.specs.Ranks.{lowest}
 use Rattle.nodes.proofs.RoomLaws.{Read, begins-word}
 use Rattle.assign.specs.Packed.{maskOf, wordsOf}
 use Rattle.assign.proofs.AssignLaws.{Assigning, assigning-start, assigning-first, assigning-room, assigning-next, assigning-rest, assigning-end}
@@ -12,55 +13,58 @@ use Rattle.assign.proofs.assign_nodes.Statement.{statement}
 use Rattle.assign.proofs.assign_nodes.Tie as tie
 
 abbrev Inv-loop : tie.InvT-loop
-Inv-loop work top above hops₀ entries₀ reader₀ b₀ hops entries reader b =
-    (b ≤ 31) × Assigning work top above hops entries (reader .mask) (reader .top) b
+Inv-loop work top above ranks hops₀ entries₀ reader₀ b₀ hops entries reader b =
+    (b ≤ 31) × Assigning (lowest ranks) work top above hops entries (reader .mask) (reader .top) b
 
 abbrev μ-loop : tie.MeasureT-loop
-μ-loop work top above hops₀ entries₀ reader₀ b₀ hops entries reader b = 31 - b
+μ-loop work top above ranks hops₀ entries₀ reader₀ b₀ hops entries reader b = 31 - b
 
 new-requires : tie.Need-new-requires Inv-loop μ-loop
 new-requires c κs =
-    let a = c .before .args in
-    let h = c .before .pre .0 in
+    let a = c .before .before .args in
+    let h = c .before .before .pre .0 in
     let r : Read (maskOf (h .0) 31) (wordsOf (h .0) 31) (a .top) (a .work .now) = begins-word (h .1) in
     r .within
 
 step-at-requires : tie.Need-step-at-requires Inv-loop μ-loop
 step-at-requires c κs =
-    let a = c .before .before .args in
-    let h = c .before .before .pre .0 in
+    let a = c .before .before .before .args in
+    let h = c .before .before .before .pre .0 in
     let n = c .new .ensures in
-    let p = assigning-start (a .work .now) (a .top) (a .above) (replicate 31 0) _ _ refl (n .0) (n .1) in
+    let p = assigning-start (lowest (a .ranks .now)) (a .work .now) (a .top) (a .above) (replicate 31 0) _ _ refl (n .0) (n .1) in
     (assigning-room p (h .0) (h .1) (omega arith), omega arith)
 
 returns : tie.Need-returns Inv-loop μ-loop
 returns c =
-    let a = c .before .before .before .before .before .before in
+    let a = c .before .before .before .before .before .before .before in
     let n = c .before .before .before .before .new .ensures in
     let s = c .before .before .before .step-at in
-    let p = assigning-first (a .args .work .now) (a .args .top) (a .args .above) (n .0) (n .1) (a .pre .1) (s .ensures .0) (s .result .entries)
+    let p = assigning-first (lowest (a .args .ranks .now)) (a .args .work .now) (a .args .top) (a .args .above) (n .0) (n .1) (a .pre .1) (s .ensures .0) (s .result .entries)
     (λ i lt. s .ensures .1 i (omega arith)) in
     assigning-end (assigning-rest (a .pre .1) 30 1 refl (omega arith) (rw (c .if1 .taken) at p)) refl
 
 loop-holds : tie.Need-loop-holds Inv-loop μ-loop
 loop-holds c =
-    let a = c .before .before .before .before .before .before in
+    let a = c .before .before .before .before .before .before .before in
     let n = c .before .before .before .before .new .ensures in
     let s = c .before .before .before .step-at in
-    let p = assigning-first (a .args .work .now) (a .args .top) (a .args .above) (n .0) (n .1) (a .pre .1) (s .ensures .0) (s .result .entries)
+    let p = assigning-first (lowest (a .args .ranks .now)) (a .args .work .now) (a .args .top) (a .args .above) (n .0) (n .1) (a .pre .1) (s .ensures .0) (s .result .entries)
     (λ i lt. s .ensures .1 i (omega arith)) in
     (omega arith, p)
+
+cast-over-at : tie.Need-cast-over-at Inv-loop μ-loop
+cast-over-at c = search needs
 
 over-at-requires : tie.Need-over-at-requires Inv-loop μ-loop
 over-at-requires c κs = search needs
 
-cast-step-at : tie.Need-cast-step-at Inv-loop μ-loop
-cast-step-at c = search needs
-
 step-at-requires-2 : tie.Need-step-at-requires-2 Inv-loop μ-loop
 step-at-requires-2 c κs =
-    let h = c .before .before .before .before .before .before .before .before .before .before .pre .0 in
+    let h = c .before .before .before .before .before .before .before .before .before .before .before .pre .0 in
     (assigning-room (c .before .before .before .loop .inv .1) (h .0) (h .1) (omega arith), omega arith)
+
+cast-hops : tie.Need-cast-hops Inv-loop μ-loop
+cast-hops c = search needs
 
 array-write-hops : tie.Need-array-write-hops Inv-loop μ-loop
 array-write-hops c = search needs
@@ -73,7 +77,7 @@ loop-less c = search needs
 
 loop-again : tie.Need-loop-again Inv-loop μ-loop
 loop-again c =
-    let a = c .before .before .before .before .before .before .before .before .before .before .before .before in
+    let a = c .before .before .before .before .before .before .before .before .before .before .before .before .before in
     let l = c .before .before .before .before .before .loop in
     let s = c .before .step-at2 in (
       omega arith,
@@ -94,9 +98,10 @@ assign-nodes-spec =
     step-at-requires
     returns
     loop-holds
+    cast-over-at
     over-at-requires
-    cast-step-at
     step-at-requires-2
+    cast-hops
     array-write-hops
     add-b
     loop-less

@@ -13,7 +13,7 @@ stored-requires : tie.Need-stored-requires
 stored-requires c κs = search needs
 
 pop-requires : tie.Need-pop-requires
-pop-requires c κs = c .before .before .before .pre .0 (sym (c .before .stored .ensures) ∙ c .if1 .taken)
+pop-requires c κs = c .before .before .before .before .pre .0 (sym (c .before .stored .ensures) ∙ c .if1 .taken)
 
 assign-requires : tie.Need-assign-requires
 assign-requires c κs = search needs
@@ -42,7 +42,7 @@ skip-requires c κs = search needs
 returns-2 : tie.Need-returns-2
 returns-2 c =
     let e = sym (c .before .before .stored .ensures) ∙ c .before .if1 .left in
-    let over = c .before .before .before .before .args .over in (
+    let over = c .before .before .before .before .before .args .over in (
       record {
         masks = c .skip .ensures .0;
         tops = rw e (c .skip .ensures .1 ∙ sym (add-zero _));

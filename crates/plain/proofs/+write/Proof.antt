@@ -16,7 +16,7 @@ use Rattle.plain.proofs.Walk.{entries-uniform, entries-halves, entries-
 use Rattle.plain.proofs.write.Reads as write
 use Rattle.plain.proofs.write.Kinds as write-kinds
 use Rattle.plain.proofs.+write.Lts-write as lts
-use Rattle.hops.proofs.assign.Reads as assign-reads
+use Rattle.hops.proofs.assign_smallest.Reads as assign-smallest-reads
 use Rattle.plain.proofs.part_of.Reads as part-of-reads
 use Rattle.plain.proofs.set_of.Reads as set-of-reads
 use Rattle.plain.proofs.write_entry.Reads as write-entry-reads
@@ -41,8 +41,8 @@ claims t = (
   write-entry-reads.Learnt,
   part-of-reads.Asked,
   part-of-reads.Learnt,
-  assign-reads.Asked,
-  assign-reads.Learnt,
+  assign-smallest-reads.Asked,
+  assign-smallest-reads.Learnt,
   past-reads.Asked,
   past-reads.Learnt,
   deeper t,
@@ -63,18 +63,18 @@ halves t c =
     subst (PartOf (a .table .now) (a .lo) (a .hi) (a .len) (a .addr) (a .cover)) (c .before .hop .given .1) (c .before .before .before .part-of .ensures)
 
 -- Its entries are its own, then those of its halves, under the hop that it was assigned.
-entries : (t : ℕ) (c : lts.After-assign (claims t) (entered t) write.Post)
+entries : (t : ℕ) (c : lts.After-assign-smallest (claims t) (entered t) write.Post)
     → let a = c .before .before .before .before .before .before .before .before .before .before .before .before .args in
     let k = c .before .before .hop .given .0 in
     entriesAt 32 (a .table .now) (a .lo) (a .hi) (a .cover) (32 - a .len) (a .addr) (a .above)
     ≡ (entryAt 32 (candidates t (c .before)) (32 - a .len) (a .addr) (a .above)
-    ++ entriesAt 32 (a .table .now) (k .1 .0) (k .1 .1 .0) (k .0) (32 - (a .len + 1)) (a .addr) (c .assign .result))
-    ++ entriesAt 32 (a .table .now) (k .1 .1 .0) (a .hi) (k .0) (32 - (a .len + 1)) (k .1 .1 .1 .0) (c .assign .result)
+    ++ entriesAt 32 (a .table .now) (k .1 .0) (k .1 .1 .0) (k .0) (32 - (a .len + 1)) (a .addr) (c .assign-smallest .result))
+    ++ entriesAt 32 (a .table .now) (k .1 .1 .0) (a .hi) (k .0) (32 - (a .len + 1)) (k .1 .1 .1 .0) (c .assign-smallest .result)
 entries t c =
     let a = c .before .before .before .before .before .before .before .before .before .before .before .before .args in
     let h = halves t (c .before) in
     let bits : 32 - a .len ≡ suc (32 - (a .len + 1)) = omega (arith, h .0) in
-    entries-halves (h .1) bits (a .above) (c .assign .result) (c .assign .ensures .0 (candidates t (c .before)) (c .before .before .before .before .before .before .before .before .before .set-of .ensures))
+    entries-halves (h .1) bits (a .above) (c .assign-smallest .result) (c .assign-smallest .ensures .0 (candidates t (c .before)) (c .before .before .before .before .before .before .before .before .before .set-of .ensures))
 
 -- Its own entry was put.
 own : (t : ℕ) (c : lts.After-known-told (claims t) (entered t) write.Post)
@@ -87,7 +87,7 @@ few : (t : ℕ) (c : lts.After-write (claims t) (entered t) write.Post)
     → let a = c .before .before .before .before .before .before .before .before .before .before .before .before .before .before .before .args in
     let k = c .before .before .before .before .before .hop .given .0 in
     c .before .before .before .before .before .before .before .before .before .before .write-entry .result + c .write .result
-    + length (entriesAt 32 (a .table .now) (k .1 .1 .0) (a .hi) (k .0) (32 - (a .len + 1)) (k .1 .1 .1 .0) (c .before .before .before .assign .result)) < 2 ^ 33
+    + length (entriesAt 32 (a .table .now) (k .1 .1 .0) (a .hi) (k .0) (32 - (a .len + 1)) (k .1 .1 .1 .0) (c .before .before .before .assign-smallest .result)) < 2 ^ 33
 few t c =
     let a = c .before .before .before .before .before .before .before .before .before .before .before .before .before .before .before .args in
     let h = halves t (c .before .before .before .before) in
@@ -95,8 +95,8 @@ few t c =
     omega (
       arith,
       entries-few (a .table .now) (a .lo) (a .hi) (a .cover) (a .len) (a .addr) (a .above),
-      entries-count (h .1) bits (a .above) (c .before .before .before .assign .result)
-          (c .before .before .before .assign .ensures .0 (candidates t (c .before .before .before .before)) (c .before .before .before .before .before .before .before .before .before .before .before .before .set-of .ensures)),
+      entries-count (h .1) bits (a .above) (c .before .before .before .assign-smallest .result)
+          (c .before .before .before .assign-smallest .ensures .0 (candidates t (c .before .before .before .before)) (c .before .before .before .before .before .before .before .before .before .before .before .before .set-of .ensures)),
       own t (c .before .before .before .before) .counted,
       c .write .ensures .counted,
     )
@@ -116,8 +116,8 @@ enum-told t c = search needs
 enum-known-hop : (t : ℕ) → lts.Need-enum-known-hop (claims t) (entered t) write.Post
 enum-known-hop t c = search needs
 
-assign-requires : (t : ℕ) → lts.Need-assign-requires (claims t) (entered t) write.Post
-assign-requires t c κs = search needs
+assign-smallest-requires : (t : ℕ) → lts.Need-assign-smallest-requires (claims t) (entered t) write.Post
+assign-smallest-requires t c κs = search needs
 
 past-requires : (t : ℕ) → lts.Need-past-requires (claims t) (entered t) write.Post
 past-requires t c κs = search needs
@@ -198,7 +198,7 @@ pub +write-spec : {M : Type 1} → statement M
     (part-of-requires t)
     (enum-told t)
     (enum-known-hop t)
-    (assign-requires t)
+    (assign-smallest-requires t)
     (past-requires t)
     (add-write t)
     (sub-write t)

@@ -8,6 +8,8 @@ use native.Mathlib.Omega.{arith}
 use borrow.Author.Needs.{needs}
 use borrow.Fn.Kinds.{In}
 use borrow.Fn.PlainCycle.{Measures, is, falls, and}
+use Rattle.theory.specs.Ranks.{lowest}
+use Rattle.theory.proofs.Ranks.{lowest-chooses}
 use Rattle.nodes.specs.Node.{wide}
 use Rattle.gather.proofs.GatherLaws.{ends-in, absent, child-node}
 use Rattle.nodes.proofs.OutputLaws.{slot-below, slot-within, wrote-count}
@@ -34,23 +36,23 @@ use Rattle.ortc.proofs.walks.+rewrite+rewrite_child.{statement}
 use Rattle.ortc.proofs.walks.+rewrite+rewrite_child.Tie.{close}
 
 -- Twice the bits below, and one more for a slot, so that the number falls from a node to its slots and from a slot to its node.
-abbrev μ-rewrite : Measures 3 rewrite-kinds.ps ℕ
+abbrev μ-rewrite : Measures 4 rewrite-kinds.ps ℕ
 μ-rewrite κs a = 2 * (35 - a .1 .1 .1 .0)
 
-abbrev μ-child : Measures 3 child-kinds.ps ℕ
+abbrev μ-child : Measures 4 child-kinds.ps ℕ
 μ-child κs a = 2 * (35 - a .1 .1 .1 .0) + 1
 
-abbrev rewrite-at : ℕ → In 3 rewrite-kinds.ps
-rewrite-at t = and 3 rewrite-kinds.ps (is 3 rewrite-kinds.ps μ-rewrite t) rewrite.Pre
+abbrev rewrite-at : ℕ → In 4 rewrite-kinds.ps
+rewrite-at t = and 4 rewrite-kinds.ps (is 4 rewrite-kinds.ps μ-rewrite t) rewrite.Pre
 
-abbrev rewrite-below : ℕ → In 3 rewrite-kinds.ps
-rewrite-below t = and 3 rewrite-kinds.ps (falls 3 rewrite-kinds.ps _<_ μ-rewrite t) rewrite.Pre
+abbrev rewrite-below : ℕ → In 4 rewrite-kinds.ps
+rewrite-below t = and 4 rewrite-kinds.ps (falls 4 rewrite-kinds.ps _<_ μ-rewrite t) rewrite.Pre
 
-abbrev child-at : ℕ → In 3 child-kinds.ps
-child-at t = and 3 child-kinds.ps (is 3 child-kinds.ps μ-child t) child.Pre
+abbrev child-at : ℕ → In 4 child-kinds.ps
+child-at t = and 4 child-kinds.ps (is 4 child-kinds.ps μ-child t) child.Pre
 
-abbrev child-below : ℕ → In 3 child-kinds.ps
-child-below t = and 3 child-kinds.ps (falls 3 child-kinds.ps _<_ μ-child t) child.Pre
+abbrev child-below : ℕ → In 4 child-kinds.ps
+child-below t = and 4 child-kinds.ps (falls 4 child-kinds.ps _<_ μ-child t) child.Pre
 
 abbrev rewrite-claims : ℕ → rewrite-lts.Claims
 rewrite-claims t = (
@@ -80,24 +82,24 @@ abbrev child-claims : ℕ → child-lts.Claims
 child-claims t = (rewrite-below t, rewrite.Post, leaf-value-reads.Asked, leaf-value-reads.Learnt, emit-reads.Asked, emit-reads.Learnt)
 
 abbrev Inv-loop : rewrite-lts.InvT-loop
-Inv-loop table lo hi depth key inherited fill above work top out₀ first end covering hops entries busy at₀ n₀ c₀ out at n c =
-    Opened table lo hi depth key inherited fill above work top first end covering hops entries busy
-    × Walking table lo hi depth key inherited fill above work top first end covering hops entries c at n out₀ out
+Inv-loop table lo hi depth key inherited fill above ranks work top out₀ first end covering hops entries busy at₀ n₀ c₀ out at n c =
+    Opened (lowest ranks) table lo hi depth key inherited fill above work top first end covering hops entries busy
+    × Walking (lowest ranks) table lo hi depth key inherited fill above work top first end covering hops entries c at n out₀ out
 
 abbrev μ-loop : rewrite-lts.MeasureT-loop
-μ-loop table lo hi depth key inherited fill above work top out₀ first end covering hops entries busy at₀ n₀ c₀ out at n c = 32 - c
+μ-loop table lo hi depth key inherited fill above ranks work top out₀ first end covering hops entries busy at₀ n₀ c₀ out at n c = 32 - c
 
 rewrite-gather-run-requires : (t : ℕ) → rewrite-lts.Need-gather-run-requires (rewrite-claims t) (rewrite-at t) rewrite.Post Inv-loop μ-loop
-rewrite-gather-run-requires t c κs = (c .before .before .before .before .before .pre .1 .0, ((refl, refl), λ b lt. (getD-replicate 63 b 0 0 lt, getD-replicate 63 b 0 0 lt)))
+rewrite-gather-run-requires t c κs = (c .before .before .before .before .before .before .pre .1 .0, ((refl, refl), λ b lt. (getD-replicate 63 b 0 0 lt, getD-replicate 63 b 0 0 lt)))
 
 rewrite-covering-hops-requires : (t : ℕ) → rewrite-lts.Need-covering-hops-requires (rewrite-claims t) (rewrite-at t) rewrite.Post Inv-loop μ-loop
 rewrite-covering-hops-requires t c κs =
     let found = c .before .before .gather-run .ensures .0 in
-    (ends-in (c .before .before .before .before .before .before .before .before .pre .1 .0) found, absent found)
+    (ends-in (c .before .before .before .before .before .before .before .before .before .pre .1 .0) found, absent found)
 
 rewrite-assign-nodes-requires : (t : ℕ) → rewrite-lts.Need-assign-nodes-requires (rewrite-claims t) (rewrite-at t) rewrite.Post Inv-loop μ-loop
 rewrite-assign-nodes-requires t c κs =
-    let pre = c .before .before .before .before .before .before .before .before .before .pre .1 in
+    let pre = c .before .before .before .before .before .before .before .before .before .before .pre .1 in
     let s = sets-stored (pre .0) (pre .1 .1) in
     ((s .0, s .2), pre .1 .0 .1 .1)
 
@@ -112,7 +114,7 @@ rewrite-next-bit-requires t c κs = search needs
 
 rewrite-loop-holds : (t : ℕ) → rewrite-lts.Need-loop-holds (rewrite-claims t) (rewrite-at t) rewrite.Post Inv-loop μ-loop
 rewrite-loop-holds t c =
-    let pre = c .before .before .before .before .before .before .before .before .before .before .before .before .before .before .before .before .before .pre .1 in
+    let pre = c .before .before .before .before .before .before .before .before .before .before .before .before .before .before .before .before .before .before .pre .1 in
     let low = pre .1 .0 in
     let s = sets-stored (pre .0) (pre .1 .1) in
     let found = c .before .before .before .before .before .before .before .before .before .before .before .gather-run in
@@ -120,7 +122,7 @@ rewrite-loop-holds t c =
     let begins = c .before .before .before .before .before .head-slots in
     let leaves = c .before .leaf-slots in
     let o =
-    opened (pre .0) (found .ensures .0) _ _ _ (low .0) (low .1 .0) (low .1 .1) (found .result .occupied) (begins .result) (leaves .result) (pre .1 .1) (c .before .before .before .before .before .before .before .before .covering-hops .ensures) (does .1 .0 _ _ _ (s .0) (s .1) (s .2)) (does .1 .1)
+    opened _ (lowest-chooses _) (pre .0) (found .ensures .0) _ _ _ (low .0) (low .1 .0) (low .1 .1) (found .result .occupied) (begins .result) (leaves .result) (pre .1 .1) (c .before .before .before .before .before .before .before .before .covering-hops .ensures) (does .1 .0 _ _ _ (s .0) (s .1) (s .2)) (does .1 .1)
     (found .ensures .1) (begins .ensures) (leaves .ensures) in
     (o, walking-on o (c .next-bit .ensures) (walking-start o _ _ (does .0)))
 
@@ -149,12 +151,12 @@ rewrite-emit-slot-requires t c κs =
 
 -- The entries that begin at a slot are written once they come back.
 started : (t : ℕ) (c : rewrite-lts.After-slice-known2 (rewrite-claims t) (rewrite-at t) rewrite.Post Inv-loop μ-loop)
-    → let a = c .before .before .before .before .before .before .before .before .before .before .before .before .before .before .before .before .before .before .before .before .before .before .before .before .before .before .args in
+    → let a = c .before .before .before .before .before .before .before .before .before .before .before .before .before .before .before .before .before .before .before .before .before .before .before .before .before .before .before .args in
     let found = c .before .before .before .before .before .before .before .before .before .before .before .before .before .before .before .before .before .before .before .before .gather-run .last .1 .1 .1 .1 .1 in
     let covering = c .before .before .before .before .before .before .before .before .before .before .before .before .before .before .before .before .before .covering-hops .result in
     let node = c .before .before .before .before .before .before .before .before .before .before .before .before .before .before .before .before .assign-nodes .result in
     let l = c .before .before .before .before .before .before .before .before .loop in
-    Begun (node .entries) (node .hops) (a .depth) (a .key) (slotRewrite (a .table .now) (found .0) (found .1 .0) covering (node .hops) (a .depth) (a .key) (a .fill)) (l .c)
+    Begun (node .entries) (node .hops) (a .depth) (a .key) (slotRewrite (lowest (a .ranks .now)) (a .table .now) (found .0) (found .1 .0) covering (node .hops) (a .depth) (a .key) (a .fill)) (l .c)
     (l .n + c .before .before .emit-slot .result) (a .out .now) (relaid (c .before .before .before .before .before .past .result) (c .before .before .emit-slot .last .1 .1 .1 .1 .1 .0) (l .out))
 started t c =
     begun (c .before .before .before .before .before .before .before .before .loop .inv .1 .walked) (c .before .before .before .before .before .before .before .loop-test .taken) (c .before .before .before .before .before .past .ensures) (c .before .before .before .before .before .before .slot-key .ensures)
@@ -163,8 +165,8 @@ started t c =
 rewrite-add-n : (t : ℕ) → rewrite-lts.Need-add-n (rewrite-claims t) (rewrite-at t) rewrite.Post Inv-loop μ-loop
 rewrite-add-n t c =
     let few = begun-few (started t c) in
-    let most = opened-most (c .before .before .before .before .before .before .before .before .loop .inv .0) in
-    omega (arith, c .before .before .before .before .before .before .before .before .before .before .before .before .before .before .before .before .before .before .before .before .before .before .before .before .before .before .good)
+    let most = opened-most (c .before .before .before .before .before .before .before .before .loop .inv .0) (lowest-chooses (c .before .before .before .before .before .before .before .before .before .before .before .before .before .before .before .before .before .before .before .before .before .before .before .before .before .before .before .args .ranks .now)) in
+    omega (arith, c .before .before .before .before .before .before .before .before .before .before .before .before .before .before .before .before .before .before .before .before .before .before .before .before .before .before .before .good)
 
 rewrite-past-requires-2 : (t : ℕ) → rewrite-lts.Need-past-requires-2 (rewrite-claims t) (rewrite-at t) rewrite.Post Inv-loop μ-loop
 rewrite-past-requires-2 t c κs = search needs
@@ -216,7 +218,7 @@ rewrite-rewrite-child-requires t c κs =
     let l = c .before .before .before .before .before .before .before .before .before .before .loop in
     let o = l .inv .0 in
     let lt = c .before .before .before .before .before .before .before .before .before .loop-test .taken in
-    let start = c .before .before .before .before .before .before .before .before .before .before .before .before .before .before .before .before .before .before .before .before .before .before .before .before .before .before .before .before in (
+    let start = c .before .before .before .before .before .before .before .before .before .before .before .before .before .before .before .before .before .before .before .before .before .before .before .before .before .before .before .before .before in (
       omega (arith, start .pre .0, o .node .deep),
       rw (c .before .before .before .before .before .before .before .before .slot-key .ensures) (
         λ has. child-node (o .node) (o .gathered) (l .c) lt has,
@@ -234,8 +236,8 @@ rewrite-add-n-2 : (t : ℕ) → rewrite-lts.Need-add-n-2 (rewrite-claims t) (rew
 rewrite-add-n-2 t c =
     let few = begun-few (started t (c .before .before .before .before .before .before)) in
     let own = wrote-count (rw (c .before .before .before .before .before .before .before .before .before .before .before .before .slot-key .ensures) at (c .before .before .before .rewrite-child .ensures .1 .1)) in
-    let most = opened-most (c .before .before .before .before .before .before .before .before .before .before .before .before .before .before .loop .inv .0) in
-    omega (arith, c .before .before .before .before .before .before .before .before .before .before .before .before .before .before .before .before .before .before .before .before .before .before .before .before .before .before .before .before .before .before .before .before .good)
+    let most = opened-most (c .before .before .before .before .before .before .before .before .before .before .before .before .before .before .loop .inv .0) (lowest-chooses (c .before .before .before .before .before .before .before .before .before .before .before .before .before .before .before .before .before .before .before .before .before .before .before .before .before .before .before .before .before .before .before .before .before .args .ranks .now)) in
+    omega (arith, c .before .before .before .before .before .before .before .before .before .before .before .before .before .before .before .before .before .before .before .before .before .before .before .before .before .before .before .before .before .before .before .before .before .good)
 
 rewrite-add-next-bit : (t : ℕ) → rewrite-lts.Need-add-next-bit (rewrite-claims t) (rewrite-at t) rewrite.Post Inv-loop μ-loop
 rewrite-add-next-bit t c = search needs
@@ -269,9 +271,9 @@ rewrite-returns t c = walking-end (c .before .loop .inv .0) (c .before .loop .in
 
 child-rewrite-requires : (t : ℕ) → child-lts.Need-rewrite-requires (child-claims t) (child-at t) child.Post
 child-rewrite-requires t c κs =
-    let pre = c .before .before .before .before .before .pre .1 in
+    let pre = c .before .before .before .before .before .before .pre .1 in
     let has = c .before .if1 .taken in
-    (omega (arith, c .before .before .before .before .before .pre .0), (pre .0 has, (pre .1 .1 .0, pre .1 .1 .1 has)))
+    (omega (arith, c .before .before .before .before .before .before .pre .0), (pre .0 has, (pre .1 .1 .0, pre .1 .1 .1 has)))
 
 child-same-length : (t : ℕ) → child-lts.Need-same-length (child-claims t) (child-at t) child.Post
 child-same-length t c = search needs
@@ -286,20 +288,20 @@ child-leaf-value-requires t c κs = search needs
 
 child-emit-requires : (t : ℕ) → child-lts.Need-emit-requires (child-claims t) (child-at t) child.Post
 child-emit-requires t c κs =
-    let pre = c .before .before .before .before .before .before .pre .1 .1 .0 in
-    (omega (arith, pre, pow-pos (wide - c .before .before .before .before .before .before .args .depth)), omega (arith, pre))
+    let pre = c .before .before .before .before .before .before .before .pre .1 .1 .0 in
+    (omega (arith, pre, pow-pos (wide - c .before .before .before .before .before .before .before .args .depth)), omega (arith, pre))
 
 child-same-length-2 : (t : ℕ) → child-lts.Need-same-length-2 (child-claims t) (child-at t) child.Post
 child-same-length-2 t c = search needs
 
 child-returns-2 : (t : ℕ) → child-lts.Need-returns-2 (child-claims t) (child-at t) child.Post
 child-returns-2 t c =
-    let p = c .before .before .before .before .before .before .before .before .before .args in
-    let low = c .before .before .before .before .before .before .before .before .before .pre .1 .1 .1 .0 in
+    let p = c .before .before .before .before .before .before .before .before .before .before .args in
+    let low = c .before .before .before .before .before .before .before .before .before .before .pre .1 .1 .1 .0 in
     let v = c .before .before .before .leaf-value in
     let none : p .hi ≤ p .lo = omega arith in
     let e =
-    leaf-rewrite (p .table .now) (p .lo) (p .hi) (p .depth) (p .key) (p .covering) (p .fill) (v .result) (p .above) none (c .before .before .before .before .before .before .before .before .before .pre .1 .1 .0 .0)
+    leaf-rewrite (lowest (p .ranks .now)) (lowest-chooses (p .ranks .now)) (p .table .now) (p .lo) (p .hi) (p .depth) (p .key) (p .covering) (p .fill) (v .result) (p .above) none (c .before .before .before .before .before .before .before .before .before .before .pre .1 .1 .0 .0)
     (v .ensures .1 (low .0) (low .1 .0)) (low .1 .1) (v .ensures .0) in
     (λ le. refl, (λ has. absurd (omega arith), rw e (c .before .before .emit .ensures)))
 

@@ -1,0 +1,13 @@
+-- `plans::check::judging` meets its contract. Assumes nothing.
+use borrow.Author.Needs.{needs}
+use Rattle.plans.proofs.check.judging.Statement.{statement}
+use Rattle.plans.proofs.check.judging.Tie as tie
+
+empty-pass-requires : tie.Need-empty-pass-requires
+empty-pass-requires c κs = search needs
+
+returns : tie.Need-returns
+returns c = rw (c .empty-pass .ensures)
+
+pub judging-spec : {M : Type 1} → statement M
+judging-spec = tie.close (tie.spec empty-pass-requires returns)

@@ -1,0 +1,2 @@
+-- The rungs of an address.
+pub mod Rungs

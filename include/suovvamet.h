@@ -50,6 +50,7 @@ extern "C" {
 /* The refusals, in the order in which they are checked, but that 5 to 8 go record by record: the first bad record, its lowest number. */
 enum suovvamet_refusal {
     SUOVVAMET_ANSWERED = 0,       /* no refusal */
+    SUOVVAMET_EDITION = 14,       /* the edition is not 5735 or 6890 */
     SUOVVAMET_MODE = 1,           /* the mode is not 1 to 5; by the plain engine: not 1, 4 or 5 */
     SUOVVAMET_DEFAULT = 2,        /* the mode is 5 and the default is above 63 */
     SUOVVAMET_TABLE_LENGTH = 3,   /* the table's length is not a multiple of 8 */
@@ -61,8 +62,7 @@ enum suovvamet_refusal {
     SUOVVAMET_QUERY_LENGTH = 9,   /* the cover query's length is above 32 */
     SUOVVAMET_WORK_ROOM = 10,     /* the work room has fewer than 160 words for each node of the table */
     SUOVVAMET_OUTPUT = 11,        /* the output has fewer than 8 bytes for each record of the result or the list */
-    SUOVVAMET_IMAGE = 12,         /* the chip's image has not 8,192 bytes */
-    SUOVVAMET_EDITION = 14        /* the edition is not 5735 or 6890; checked before 3 */
+    SUOVVAMET_IMAGE = 12          /* the chip's image has not 8,192 bytes */
 };
 
 /* The modes of a rewrite. The first two take a set, the others a map. */

@@ -1,4 +1,4 @@
-// A step, and what the calls answer. A refusal has its number, and the index of the record or step at fault (0 where none is).
+// A step, and what the checker answers. A refusal has its number, and the index of the record or step at fault (0 where none is).
 
 // A step: put the route of this prefix and hop, or take the prefix away. A take's hop is not read.
 pub struct Step {
@@ -8,16 +8,9 @@ pub struct Step {
     pub put: bool,
 }
 
-// Of the checker: yes, no, or the refusal.
+// Yes, no, or the refusal.
 pub enum Judged {
     Yes,
     No,
-    Refused { number: u8, index: usize },
-}
-
-// Of the planner: the number of steps, that it gave up, or the refusal.
-pub enum Planned {
-    Steps(usize),
-    GaveUp,
     Refused { number: u8, index: usize },
 }

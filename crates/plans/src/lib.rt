@@ -1,4 +1,4 @@
-// Changing an installed table by single steps: a planner that proposes them, and a checker that alone is believed.
+// Changing an installed table by single steps: the checker of a plan, which alone is believed.
 
 pub mod answers;
 pub mod check;

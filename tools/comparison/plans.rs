@@ -327,7 +327,7 @@ pub fn whole(random: &mut Random, call: u8, shape: usize) -> Made {
     let rooms;
     let (mut bytes, mut room) = (Vec::new(), 0);
     if call == CHECK {
-        let how = if random.chance(25) { 0 } else { random.below(SPOILED.len()) };
+        let how = if random.chance(20) { 0 } else { random.below(SPOILED.len() + 3).min(SPOILED.len() - 1) };
         spoil(random, how, &old, &mut steps);
         rooms = SPOILED[how];
         bytes = written(random, &steps, strict);

@@ -1,27 +1,25 @@
 -- How many steps the plan has, and how many prefixes the two tables have together: what the planner answers where no rule is broken. Assumes nothing.
 use Prim.Native.Nat.{ℕ, _+_, _≤_, _<_}
-use mathlib.Core.Path.{_≡_, refl, sym, ap, ap₂, _∙_}
-use mathlib.Core.Bool.{Bool, true, false, cond, _||_, or-true}
-use mathlib.Core.List.{List, map}
+use mathlib.Core.Path.{_≡_, ap}
+use mathlib.Core.Bool.{Bool, false, not, or-true}
+use mathlib.Core.List.{List, [], map}
 use native.Mathlib.Omega.{arith}
 use lib.Dec.{ltb}
 use lib.ListN.{length, length-append, length-map}
 use borrow.Author.Tests.{lt-ltb, le-ltb}
-use Rattle.theory.specs.Routes.{Route, Table}
+use Rattle.theory.specs.Routes.{Route, Answer, via, Table}
 use Rattle.theory.specs.Shapes.{routed}
 use Rattle.theory.specs.Results.{part}
-use Rattle.theory.proofs.Parts.{length-parts, table-part}
+use Rattle.theory.proofs.Parts.{length-parts, table-part, part-none}
 use Rattle.records.specs.Wire.{records, routes}
 use Rattle.records.proofs.Reading.{length-routes}
 use Rattle.table.specs.Conditions.{Lawful}
-use Rattle.steps.specs.Steps.{putting}
+use Rattle.steps.specs.Steps.{putting, entry}
 use Rattle.steps.specs.Planned.{changes, gone, together, falling, rising, takingOf, plan}
-use Rattle.steps.proofs.Entries.{ascending-distinct}
+use Rattle.steps.proofs.Entries.{ascending-distinct, member-entry, true-answer}
 use Rattle.steps.proofs.Tables.{as-long}
 use Rattle.steps.proofs.Phase.{down, up, ordered-distinct}
 use Rattle.steps.proofs.Levels.{falling-ordered, rising-ordered, falling-entry, rising-entry}
-use Rattle.plans.specs.declared.answers.Step.{Step}
-use Rattle.planner.specs.declared.Planned.{Planned}
 use Rattle.planner.specs.declared.Planned.the-variants.{Steps, GaveUp}
 use Rattle.planner.specs.Planning.{structOf, planOf, chosen}
 
@@ -39,6 +37,14 @@ module _ {w : ℕ} {q : List Route} (table : Table w q) where
   length-rising =
       as-long (rising w q) q (ordered-distinct up (rising-ordered (table .order) w)) (ascending-distinct (table .order))
       (λ a l. ap routed (rising-entry table a l))
+
+-- Between a table and itself nothing changes, and nothing is gone.
+module _ {w : ℕ} {rs : List Route} (table : Table w rs) where
+  pub same-changes : changes rs rs ≡ []
+  same-changes = part-none _ rs (λ r m. ap not (true-answer (entry rs (r .addr) (r .len)) (via (r .hop)) (member-entry (ascending-distinct (table .order)) m)))
+
+  pub same-gone : gone rs rs ≡ []
+  same-gone = part-none _ rs (λ r m. ap (λ (v : Answer). not (routed v)) (member-entry (ascending-distinct (table .order)) m))
 
 module _ (t u : List ℕ) (from : Table 32 (routes t)) (to : Table 32 (routes u)) where
   abbrev changed : List Route

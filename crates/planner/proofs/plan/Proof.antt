@@ -369,9 +369,15 @@ module _ {M : Type 1} (𝓤 : URA M) (H : Heap 𝓤) (A : Atoms 𝓤) (W : Given
           step-is d is = LL.owed K.the-type K′.the-laws d _ is .1 .0
 
           onward : (d : Place) → Holds (ltb (i .0) k) → Next ts us (i .1) d → IsPlace d → Upto
-          onward d less found is =
-              (i .0 + 1, d, set (i .2) (i .0) (d .step), (let h : i .0 < k = lt less in omega arith), length-set (i .2) (i .0) (d .step) ∙ i .4,
-              reached-next ts us ys (write-fits ts us ys form r right (i .0) (lt less) .0) (in-room less) (i .5) found, is)
+          onward d less found is = (
+            i .0 + 1,
+            d,
+            set (i .2) (i .0) (d .step),
+            (let h : i .0 < k = lt less in omega arith),
+            length-set (i .2) (i .0) (d .step) ∙ i .4,
+            reached-next ts us ys (write-fits ts us ys form r right (i .0) (lt less) .0) (in-room less) (i .5) found,
+            is,
+          )
 
           nearer : (less : Holds (ltb (i .0) k)) → k - (i .0 + 1) < k - i .0
           nearer less = let h : i .0 < k = lt less in omega arith

@@ -26,7 +26,7 @@ use Rattle.steps.proofs.Plan.{planned-hitless}
 use Rattle.plans.specs.declared.answers.Step.{Step}
 use Rattle.plans.specs.declared.answers.Judged.{Judged}
 use Rattle.plans.specs.declared.answers.Judged.the-variants.{Yes}
-use Rattle.plans.specs.Passes.{stepAt}
+use Rattle.plans.specs.Following.{stepAt}
 use Rattle.plans.specs.Judging.{stepOf, Accepts, Judges}
 use Rattle.plans.proofs.Rules.{kept, all-kept}
 use Rattle.plans.proofs.Calls.{yes-exactly}

@@ -1,5 +1,5 @@
--- What the planner's statement settles: no second answer and no second room satisfy it; what it gives up on, exactly; that a refusal and giving up change no
--- step, and a plan none behind it; that the checker says yes to every plan that is given, and that one is given where the prefixes are few and the room
+-- What the planner's statement settles: no second answer and no second room satisfy it; what it refuses and where it gives up, exactly; that a refusal and
+-- giving up change no step, and a plan none behind it; that the checker says yes to every plan that is given, and that one is given where the prefixes are few and the room
 -- holds as many steps; and that a plan is empty exactly for tables with the same routes. The answer of a call is any r, and the room after it any room′, of
 -- which the call's `ensures` holds. Assumes nothing.
 use Prim.Native.Nat.{ℕ, _≤_, _<_}
@@ -13,8 +13,10 @@ use lib.ListN.{length, length-map, take, drop}
 use lib.Seq.{take-append-seam, drop-append-seam}
 use borrow.Author.Tests.{ltb-true, ltb-false, le-ltb}
 use Rattle.theory.specs.Routes.{Route}
-use Rattle.refusals.specs.Rules.{gives, refuses, judge}
-use Rattle.refusals.proofs.Judged.{refuses-any}
+use Rattle.refusals.specs.Rules.{gives, judge}
+use Rattle.refusals.specs.Order.{First, None}
+use Rattle.refusals.proofs.Judged.{gives-exactly}
+use Rattle.refusals.proofs.Answered.{refused-exactly}
 use Rattle.records.specs.Wire.{routes, Bytes}
 use Rattle.records.specs.declared.Form.{Form}
 use Rattle.table.specs.Conditions.{Lawful}
@@ -25,6 +27,9 @@ use Rattle.plans.specs.declared.answers.Step.{Step}
 use Rattle.plans.specs.declared.answers.Judged.{Judged}
 use Rattle.plans.specs.declared.answers.Judged.the-variants.{Yes}
 use Rattle.plans.specs.Judging.{tablesRules, Judges}
+use Rattle.plans.specs.Conditions.{TablesCondition}
+use Rattle.plans.proofs.Tested.{tables-ranked, tables-tests}
+use Rattle.plans.proofs.Refusals.{tables-numbers}
 use Rattle.planner.specs.declared.Planned.{Planned}
 use Rattle.planner.specs.declared.Planned.the-variants.{Steps, GaveUp, Refused}
 use Rattle.planner.specs.Planning.{structOf, planOf, chosen, plannedSays, writtenBy, over, Plans}
@@ -38,6 +43,9 @@ module _ (form : Form) (t u : List ℕ) (room : List Step) where
   plan-settled r q zs ws a b =
       let e : r ≡ q = planned-same r q (a .answer ∙ sym (b .answer)) in
       (e, a .steps ∙ ap (λ (p : Planned). over (writtenBy p (planOf t u)) room) e ∙ sym (b .steps))
+
+  none-kept : None (TablesCondition form t u) → judge (tablesRules form t u) true ≡ gives true
+  none-kept none = gives-exactly (tablesRules form t u) (tables-tests form t u) true .1 (none, refl)
 
   module _ (r : Planned) (room′ : List Step) (s : Plans form t u room r room′) where
     -- A refusal changes no step, and neither does giving up.
@@ -56,17 +64,20 @@ module _ (form : Form) (t u : List ℕ) (room : List Step) where
           ap₂ drop (g .long) is ∙ drop-append-seam (planOf t u) (drop (length (planOf t u)) room) ∙ ap (λ (m : ℕ). drop m room) (sym (g .long)),
         )
 
-    -- It refuses exactly by the first rule broken.
-    pub refused-exactly : (n i : ℕ) → r ≡ Refused n i ↔ judge (tablesRules form t u) true ≡ refuses n i
-    refused-exactly n i = (
-      λ e. refuses-any (tablesRules form t u) (chosen t u (length room)) true n i (sym (s .answer) ∙ ap plannedSays e),
-      λ k. planned-same r (Refused n i) (s .answer ∙ refuses-any (tablesRules form t u) true (chosen t u (length room)) n i k),
-    )
+    -- It refuses with a number and an index exactly when their condition holds and none before it in the documents' order does.
+    pub plan-refused : (number index : ℕ) → r ≡ Refused number index ↔ First (TablesCondition form t u) number index
+    plan-refused number index =
+        refused-exactly plannedSays planned-same (tablesRules form t u) (tables-tests form t u) (tables-ranked form t u .order) (chosen t u (length room))
+        r (s .answer) (Refused number index) number index refl
 
-    module _ (ok : judge (tablesRules form t u) true ≡ gives true) where
-      -- It gives up exactly where the prefixes together are more than 1,024 or the plan is longer than the room.
+    -- It gives the numbers 3 to 8 and 23 to 28 alone.
+    pub plan-numbers : (number index : ℕ) → r ≡ Refused number index → ((3 ≤ number) × (number ≤ 8)) ⊎ ((23 ≤ number) × (number ≤ 28))
+    plan-numbers number index e = tables-numbers form t u number index (plan-refused number index .0 e .0)
+
+    module _ (none : None (TablesCondition form t u)) where
+      -- Where no condition holds it gives up exactly where the prefixes together are more than 1,024 or the plan is longer than the room.
       pub gave-up-exactly : r ≡ GaveUp ↔ ((1024 < together (routes t) (routes u)) ⊎ (length room < length (planOf t u)))
-      gave-up-exactly = go (ltb 1024 (together (routes t) (routes u))) refl (ltb (length room) (length (planOf t u))) refl (is-chosen form t u (length room) r (s .answer) ok)
+      gave-up-exactly = go (ltb 1024 (together (routes t) (routes u))) refl (ltb (length room) (length (planOf t u))) refl (is-chosen form t u (length room) r (s .answer) (none-kept none))
         where
           go : (a : Bool) → ltb 1024 (together (routes t) (routes u)) ≡ a → (b : Bool) → ltb (length room) (length (planOf t u)) ≡ b → r ≡ chosen t u (length room)
               → r ≡ GaveUp ↔ ((1024 < together (routes t) (routes u)) ⊎ (length room < length (planOf t u)))
@@ -99,24 +110,24 @@ module _ (form : Form) (t u : List ℕ) (room : List Step) where
           let size : 0 ≡ length (plan 32 (routes t) (routes u)) = g .long ∙ length-map (plan 32 (routes t) (routes u)) structOf in
           ap (λ (k : ℕ). after k (plan 32 (routes t) (routes u)) (routes t)) size ∙ planned-hitless 32 (ok .0 .table) (ok .1 .table) 1024 (g .few) .arrives
 
-      module _ (ok : judge (tablesRules form t u) true ≡ gives true) where
+      module _ (none : None (TablesCondition form t u)) where
         lawful : Lawful false (routes t) × Lawful false (routes u)
-        lawful = let both = both-given form t u {a = true} ok in both-lawful form t u 0 (both .0 .1) (both .1 .1) bytes bytes′
+        lawful = let both = both-given form t u {a = true} (none-kept none) in both-lawful form t u 0 (both .0 .1) (both .1 .1) bytes bytes′
 
         -- The plan has no more steps than the tables have prefixes together.
         plan-short : length (planOf t u) ≤ together (routes t) (routes u)
         plan-short = omega (arith, length-map (plan 32 (routes t) (routes u)) structOf, planned-short 32 (lawful .0 .table) (lawful .1 .table))
 
-        -- Where the prefixes are together at most 1,024, and the room holds as many steps, a plan is given, and the checker says yes to it.
+        -- Where no condition holds, the prefixes are together at most 1,024, and the room holds as many steps, a plan is given, and the checker says yes to it.
         pub plan-given : together (routes t) (routes u) ≤ 1024 → together (routes t) (routes u) ≤ length room
             → (k : ℕ) × (r ≡ Steps k) × ((q : Judged) → Judges form t u (take k room′) q → q ≡ Yes)
         plan-given few fits =
             let c : chosen t u (length room) ≡ Steps (length (planOf t u)) =
             rw (le-ltb 1024 (together (routes t) (routes u)) few, le-ltb (length room) (length (planOf t u)) (omega (arith, plan-short))) in
-            let e : r ≡ Steps (length (planOf t u)) = is-chosen form t u (length room) r (s .answer) ok ∙ c in
+            let e : r ≡ Steps (length (planOf t u)) = is-chosen form t u (length room) r (s .answer) (none-kept none) ∙ c in
             (length (planOf t u), e, plan-yes (length (planOf t u)) e)
 
-        -- Between tables with the same routes there is a plan, of no step.
+        -- Where no condition holds, there is a plan between tables with the same routes, of no step.
         pub same-empty : routes t ≡ routes u → (r ≡ Steps 0) × (room′ ≡ room)
         same-empty same = (e, s .steps ∙ ap (λ (p : Planned). over (writtenBy p (planOf t u)) room) e ∙ ap (λ (ss : List Step). over ss room) (bare (planOf t u) size))
           where
@@ -141,4 +152,4 @@ module _ (form : Form) (t u : List ℕ) (room : List Step) where
             c = rw (le-ltb 1024 (together (routes t) (routes u)) (omega (arith, left, lawful .1 .few)), le-ltb (length room) (length (planOf t u)) (omega (arith, size)))
 
             e : r ≡ Steps 0
-            e = is-chosen form t u (length room) r (s .answer) ok ∙ c ∙ ap Steps size
+            e = is-chosen form t u (length room) r (s .answer) (none-kept none) ∙ c ∙ ap Steps size

@@ -1,6 +1,6 @@
 -- `planner::proposal::propose` meets its contract. Assumes nothing.
 use Rattle.planner.proofs.Answers.{propose-old, propose-new, both-lawful, propose-chosen}
-use Rattle.plans.proofs.Stepping.{number-small}
+use Rattle.checking.proofs.Stepping.{number-small}
 use Rattle.table.specs.Checking.{checkedSays}
 use native.Mathlib.Omega.{arith}
 use mathlib.Core.Path.{sym, ap, _∙_}

@@ -1,7 +1,7 @@
 // Changing an installed table by single steps: the planner. What it proposes is believed only once the checker says yes to it.
 
-pub mod due;
-pub mod proposal;
+mod due;
+mod proposal;
 
 use due::from_level;
 use due::next_step;

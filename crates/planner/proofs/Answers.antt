@@ -57,6 +57,12 @@ says-chosen t u n = go (givesUp t u n)
     go true = refl
     go false = refl
 
+-- Both tables are lawful where both checks give.
+pub both-lawful : (form : Form) (t u : List ℕ) → Bytes t → Bytes u → {m l : ℕ} → checkReply form false t ≡ gives m → checkReply form false u ≡ gives l
+    → Lawful false (routes t) × Lawful false (routes u)
+both-lawful form t u bytes bytes′ {m} {l} valid valid′ =
+    (accepted-table (records t) m form false t bytes valid .0, accepted-table (records u) l form false u bytes′ valid′ .0)
+
 module _ (form : Form) (t u : List ℕ) (n : ℕ) where
   pub propose-old : {k i : ℕ} → checkReply form false t ≡ refuses k i → Proposed form t u n (Refused k i)
   propose-old e = record { answer = sym (old-broken form t u (chosen t u n) e); lawful = λ lt. absurd (omega arith) }
@@ -66,20 +72,17 @@ module _ (form : Form) (t u : List ℕ) (n : ℕ) where
     propose-new e = record { answer = sym (new-broken form t u (chosen t u n) valid e); lawful = λ lt. absurd (omega arith) }
 
     module _ {l : ℕ} (valid′ : checkReply form false u ≡ gives l) (bytes : Bytes t) (bytes′ : Bytes u) where
-      pub both-lawful : Lawful false (routes t) × Lawful false (routes u)
-      both-lawful = (accepted-table (records t) m form false t bytes valid .0, accepted-table (records u) l form false u bytes′ valid′ .0)
-
       pub propose-chosen : (r : Planned) → r ≡ chosen t u n → Proposed form t u n r
       propose-chosen r e =
           record {
             answer = ap plannedSays e ∙ says-chosen t u n ∙ sym (none-broken form t u (chosen t u n) valid valid′);
-            lawful = λ lt. both-lawful;
+            lawful = λ lt. both-lawful form t u bytes bytes′ valid valid′;
           }
 
 -- ---- What an answer that satisfies the statement says.
 
 module _ (form : Form) (t u : List ℕ) where
-  -- No rule is broken exactly where both checks give.
+  -- Where no rule is broken both checks give.
   pub both-given : {a : Bool} → judge (tablesRules form t u) a ≡ gives a
       → ((m : ℕ) × (checkReply form false t ≡ gives m)) × ((l : ℕ) × (checkReply form false u ≡ gives l))
   both-given {a} k = go (checkReply form false t) refl (checkReply form false u) refl
@@ -90,6 +93,9 @@ module _ (form : Form) (t u : List ℕ) where
       go (gives m) e (refuses n i) f =
           let z : refuses (n + 20) i ≡ gives a = sym (new-broken form t u a e f) ∙ k in let o : _≡_ {A = ℕ} 0 1 = cc in absurd (omega arith)
       go (gives m) e (gives l) f = ((m, e), (l, f))
+
+  pub kept-lawful : Bytes t → Bytes u → judge (tablesRules form t u) true ≡ gives true → Lawful false (routes t) × Lawful false (routes u)
+  kept-lawful bytes bytes′ k = let both = both-given {a = true} k in both-lawful form t u bytes bytes′ (both .0 .1) (both .1 .1)
 
   module _ (n : ℕ) (r : Planned) (right : plannedSays r ≡ judge (tablesRules form t u) (chosen t u n)) where
     -- Where no rule is broken, it is the one chosen.

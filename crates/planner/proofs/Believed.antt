@@ -14,8 +14,7 @@ use Rattle.theory.proofs.Parts.{all-part}
 use Rattle.words.specs.Prefix.{hostClear}
 use Rattle.records.specs.Wire.{route, routes}
 use Rattle.records.specs.declared.Form.{Form}
-use Rattle.refusals.specs.Rules.{gives}
-use Rattle.table.specs.Checking.{checkReply}
+use Rattle.refusals.specs.Rules.{gives, judge}
 use Rattle.table.specs.Conditions.{Lawful}
 use Rattle.steps.specs.Steps.{putting, taking}
 use Rattle.steps.specs.Steps as steps
@@ -27,10 +26,11 @@ use Rattle.plans.specs.declared.answers.Step.{Step}
 use Rattle.plans.specs.declared.answers.Judged.{Judged}
 use Rattle.plans.specs.declared.answers.Judged.the-variants.{Yes}
 use Rattle.plans.specs.Following.{stepAt}
-use Rattle.plans.specs.Judging.{stepOf, Accepts, Judges}
+use Rattle.plans.specs.Judging.{stepOf, tablesRules, Accepts, Judges}
 use Rattle.plans.proofs.Rules.{kept, all-kept}
 use Rattle.plans.proofs.Calls.{yes-exactly}
 use Rattle.planner.specs.Planning.{structOf, planOf}
+use Rattle.planner.proofs.Answers.{both-given}
 
 -- A route of an accepted table.
 abbrev Good : Route → Type 0
@@ -102,6 +102,8 @@ module _ (form : Form) where
     plan-accepts few = rw (plan-fine .same) (planned-hitless 32 (from .table) (to .table) 1024 few)
 
     -- So the checker says yes to it.
-    pub plan-believed : {m l : ℕ} → checkReply form false t ≡ gives m → checkReply form false u ≡ gives l → together (routes t) (routes u) ≤ 1024
+    pub plan-believed : judge (tablesRules form t u) true ≡ gives true → together (routes t) (routes u) ≤ 1024
         → (q : Judged) → Judges form t u (planOf t u) q → q ≡ Yes
-    plan-believed e f few q judges = yes-exactly form t u (planOf t u) q judges (all-kept form t u (planOf t u) true e f (plan-fine .keep)) .1 (plan-accepts few)
+    plan-believed ok few q judges =
+        let both = both-given form t u {a = true} ok in
+        yes-exactly form t u (planOf t u) q judges (all-kept form t u (planOf t u) true (both .0 .1) (both .1 .1) (plan-fine .keep)) .1 (plan-accepts few)

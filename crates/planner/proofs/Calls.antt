@@ -34,7 +34,7 @@ use Rattle.planner.specs.declared.Planned.{Planned}
 use Rattle.planner.specs.declared.Planned.the-variants.{Steps, GaveUp, Refused}
 use Rattle.planner.specs.Planning.{structOf, planOf, chosen, plannedSays, writtenBy, over, Plans}
 use Rattle.planner.proofs.Counts.{same-changes, same-gone, plan-length}
-use Rattle.planner.proofs.Answers.{planned-same, both-lawful, both-given, is-chosen, given}
+use Rattle.planner.proofs.Answers.{planned-same, kept-lawful, is-chosen, given}
 use Rattle.planner.proofs.Believed.{plan-believed}
 
 module _ (form : Form) (t u : List ℕ) (room : List Step) where
@@ -97,22 +97,20 @@ module _ (form : Form) (t u : List ℕ) (room : List Step) where
       pub plan-yes : (k : ℕ) → r ≡ Steps k → (q : Judged) → Judges form t u (take k room′) q → q ≡ Yes
       plan-yes k e q judges =
           let g = given form t u (length room) r (s .answer) k e in
-          let both = both-given form t u {a = true} (g .kept) in
-          let ok = both-lawful form t u 0 (both .0 .1) (both .1 .1) bytes bytes′ in
-          plan-believed form t u (ok .0) (ok .1) (both .0 .1) (both .1 .1) (g .few) q (subst (λ (ss : List Step). Judges form t u ss q) (plan-written k e .0) judges)
+          let ok = kept-lawful form t u bytes bytes′ (g .kept) in
+          plan-believed form t u (ok .0) (ok .1) (g .kept) (g .few) q (subst (λ (ss : List Step). Judges form t u ss q) (plan-written k e .0) judges)
 
       -- A plan of no step is given only between tables with the same routes.
       pub empty-same : r ≡ Steps 0 → routes t ≡ routes u
       empty-same e =
           let g = given form t u (length room) r (s .answer) 0 e in
-          let both = both-given form t u {a = true} (g .kept) in
-          let ok = both-lawful form t u 0 (both .0 .1) (both .1 .1) bytes bytes′ in
+          let ok = kept-lawful form t u bytes bytes′ (g .kept) in
           let size : 0 ≡ length (plan 32 (routes t) (routes u)) = g .long ∙ length-map (plan 32 (routes t) (routes u)) structOf in
           ap (λ (k : ℕ). after k (plan 32 (routes t) (routes u)) (routes t)) size ∙ planned-hitless 32 (ok .0 .table) (ok .1 .table) 1024 (g .few) .arrives
 
       module _ (none : None (TablesCondition form t u)) where
         lawful : Lawful false (routes t) × Lawful false (routes u)
-        lawful = let both = both-given form t u {a = true} (none-kept none) in both-lawful form t u 0 (both .0 .1) (both .1 .1) bytes bytes′
+        lawful = kept-lawful form t u bytes bytes′ (none-kept none)
 
         -- The plan has no more steps than the tables have prefixes together.
         plan-short : length (planOf t u) ≤ together (routes t) (routes u)

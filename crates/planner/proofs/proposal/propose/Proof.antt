@@ -32,10 +32,10 @@ enum-told-2 c = search needs
 choose-requires : tie.Need-choose-requires
 choose-requires c κs =
     let s = c .before .before .before .before .before .before .before .before .args in
-    both-lawful (s .form) (s .installed .now) (s .new .now) (s .room)
+    both-lawful (s .form) (s .installed .now) (s .new .now)
+    (λ k. omega (arith, c .before .before .before .before .before .before .before .shared-slice-known .given k)) (λ k. omega (arith, c .before .before .before .before .before .before .shared-slice-known2 .given k))
     (sym (c .before .before .before .before .before .check-table .ensures) ∙ ap checkedSays (c .before .before .before .enum-told .given .1))
     (sym (c .before .before .check-table2 .ensures) ∙ ap checkedSays (c .enum-told2 .given .1))
-    (λ k. omega (arith, c .before .before .before .before .before .before .before .shared-slice-known .given k)) (λ k. omega (arith, c .before .before .before .before .before .before .shared-slice-known2 .given k))
 
 returns : tie.Need-returns
 returns c =

@@ -56,7 +56,7 @@ use Rattle.plans.proofs.Followed.{followed-none}
 use Rattle.plans.proofs.Rules.{kept}
 
 -- The start of a prefix is its own start.
-start-twice : (k a : ℕ) → startOf k (startOf k a) ≡ startOf k a
+pub start-twice : (k a : ℕ) → startOf k (startOf k a) ≡ startOf k a
 start-twice k a = start-is k (startOf k a) (startOf k a) (aligned-start k a) (omega arith, omega (arith, pow-pos k))
 
 -- What holds of a table's routes and of those put holds after any number of steps.

@@ -7,3 +7,5 @@ pub mod Checked
 pub mod Calls
 pub mod Tested
 pub mod Refusals
+pub mod Masking
+pub mod Wrong

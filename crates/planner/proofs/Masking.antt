@@ -1,6 +1,6 @@
 -- Host bits in the planner: an answer under the strict choice, and the room after it, are the default's wherever it is not refused by 6 or 26; and accepted
 -- tables, masked and read by any form, have the default's answer and room. Assumes of a table, where it says so, that its elements are bytes.
-use Prim.Native.Nat.{ℕ, _+_}
+use Prim.Native.Nat.{ℕ}
 use mathlib.Core.Path.{_≡_, refl, sym, ap, ap₂, _∙_}
 use mathlib.Core.Bool.{false}
 use mathlib.Core.List.{List, _++_, map}
@@ -26,6 +26,7 @@ reply-carried t six =
     table-carried (λ (x : Reply ℕ). x) (λ x y e. e) false t (records t) (checkReply strictly false t) (checkReply byDefault false t) refl refl six
 
 module _ (t u : List ℕ) (room : List Step) where
+  -- What is not refused by 6 or 26 is the default's, answer and room.
   pub plan-carried : (r q : Planned) (zs ws : List Step) → Plans strictly t u room r zs → Plans byDefault t u room q ws
       → ((i : ℕ) → r ≡ Refused 6 i → ⊥) → ((i : ℕ) → r ≡ Refused 26 i → ⊥) → (q ≡ r) × (ws ≡ zs)
   plan-carried r q zs ws one other six more =
@@ -60,6 +61,7 @@ module _ (t u : List ℕ) (room : List Step) where
     unfolding tablesRules
     rules other = ap₂ (λ (rs ss : List Rule). rs ++ map ofNew ss) (masked-rules form false t bytes ok other false) (masked-rules form false u bytes′ ok′ other false)
 
+    -- The masked bytes, read by any form, in place of accepted tables: the default's answer and room.
     pub plan-masked : (other : Form) (r q : Planned) (zs ws : List Step) → Plans byDefault t u room r zs
         → Plans other (maskedBytes t) (maskedBytes u) room q ws → (q ≡ r) × (ws ≡ zs)
     plan-masked other r q zs ws one two =

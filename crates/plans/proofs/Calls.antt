@@ -64,6 +64,10 @@ module _ (form : Form) (t u : List ℕ) (ss : List Step) where
     pub yes-kept : r ≡ Yes → judge (checkRules form t u ss) true ≡ gives true
     yes-kept e = gives-any (checkRules form t u ss) (s .word) true true (sym (s .answer) ∙ ap judgedSays e)
 
+    -- So is no.
+    pub no-kept : r ≡ No → judge (checkRules form t u ss) true ≡ gives true
+    no-kept e = gives-any (checkRules form t u ss) (s .word) false true (sym (s .answer) ∙ ap judgedSays e)
+
     -- A cut after any number of steps of an accepted plan leaves every address an old or a new answer.
     pub cut-anywhere : r ≡ Yes → (k x : ℕ) → x < 2 ^ 32 → OldOrNew 32 (routes t) (routes u) (after k (map stepOf ss) (routes t)) x
     cut-anywhere e k x lt = yes-exactly (yes-kept e) .0 e .answered k x lt

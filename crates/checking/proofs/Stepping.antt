@@ -6,8 +6,8 @@ use mathlib.Core.List.{List}
 use mathlib.Core.Logic.{_⊎_, inl, inr}
 use native.Mathlib.Nat.{pow-le-pow-right, sub-add-cancel, mod-eq-of-lt, mul-le-mul-left, mul-le-mul-right, mul-lt-mul-of-pos-right, div-lt-iff-lt-mul, le-div-iff-mul-le}
 use native.Mathlib.Omega.{arith}
-use lib.Dec.{eqb, leb, ltb}
-use lib.Bits.{bitXor, bitAnd, xor-lt, xor-shr, xor-self, xor-add-and, and-le-l, and-le-r}
+use lib.Dec.{eqb, ltb}
+use lib.Bits.{bitXor, xor-lt, xor-shr, xor-self, xor-add-and, and-le-l, and-le-r}
 use lib.ListN.{getD, set}
 use lib.Pow.{pow-add}
 use borrow.Author.Tests.{eqb-true, eqb-false, eq-eqb, ne-eqb, lt-ltb, le-ltb}
@@ -22,7 +22,6 @@ use Rattle.table.proofs.Accepted.{refused-exactly}
 use Rattle.table.proofs.Tested.{table-numbers}
 use Rattle.runs.proofs.Halves.{whole-run, record-within}
 use Rattle.rungs.specs.Rungs.{topFrom}
-use Rattle.rungs.proofs.Rows.{top-low}
 use Rattle.checking.specs.declared.Stage.{Stage}
 use Rattle.checking.specs.declared.Stage.the-variants.{No, Judging, ToStep}
 use Rattle.checking.specs.declared.Pass.{Pass}

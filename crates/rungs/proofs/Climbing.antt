@@ -1,17 +1,17 @@
 -- The climb's invariant: the numbers are those of the records from one on. Assumes nothing.
-use Prim.Native.Nat.{ℕ, zero, suc, _+_, _-_, _^_, _≤_, _<_}
+use Prim.Native.Nat.{ℕ, zero, suc, _+_, _-_, _≤_, _<_}
 use mathlib.Core.Path.{_≡_, refl, sym, ap, ap₂, _∙_}
 use mathlib.Core.Bool.{Bool, true, false, cond, _&&_, true≢false}
-use mathlib.Core.List.{List, [], _∷_}
+use mathlib.Core.List.{List, _∷_}
 use mathlib.Core.Logic.{_⊎_, inl, inr}
 use native.Mathlib.Decide.{decLt}
 use native.Mathlib.Omega.{arith}
-use lib.Dec.{eqb, leb, ltb}
+use lib.Dec.{eqb, ltb}
 use lib.ListN.{length, getD, set, replicate, length-set, length-replicate, getD-replicate}
 use lib.Seq.{getD-set-same, getD-set-other}
-use borrow.Author.Tests.{eqb-true, eqb-false, le-leb, ltb-true, ltb-false}
-use Rattle.theory.specs.Results.{In, startOf}
-use Rattle.theory.specs.Routes.{Route, matches, Answer, none, via, Valid, Before, Table, Ascending}
+use borrow.Author.Tests.{eqb-true, eqb-false, le-leb, ltb-true}
+use Rattle.theory.specs.Results.{startOf}
+use Rattle.theory.specs.Routes.{Route, matches, via, Valid, Before, Table, Ascending}
 use Rattle.theory.proofs.Blocks.{pow-pos, in-nested, in-start, aligned-start}
 use Rattle.words.specs.Prefix.{within}
 use Rattle.positions.specs.Runs.{noHop}
@@ -19,7 +19,7 @@ use Rattle.records.specs.Wire.{records, routeAt, routes}
 use Rattle.runs.specs.Runs.{run}
 use Rattle.runs.proofs.Halves.{whole-run, record-within}
 use Rattle.runs.proofs.Records.{run-whole, run-none, run-first, run-before, run-rises}
-use Rattle.steps.specs.Steps.{same, entry}
+use Rattle.steps.specs.Steps.{entry}
 use Rattle.steps.specs.Views.{rung}
 use Rattle.steps.proofs.Entries.{same-false, true-same}
 use Rattle.steps.proofs.Rungs.{match-start, start-match}

@@ -4,12 +4,15 @@ use mathlib.Core.Path.{_≡_, refl, sym, ap, ap₂, _∙_}
 use mathlib.Core.Bool.{Bool, true, false, cond, _||_, _&&_}
 use mathlib.Core.List.{List}
 use mathlib.Core.Logic.{_⊎_, inl, inr}
+use native.Mathlib.Nat.{pow-le-pow-right, sub-add-cancel, mod-eq-of-lt, mul-le-mul-left, mul-le-mul-right, mul-lt-mul-of-pos-right, div-lt-iff-lt-mul, le-div-iff-mul-le}
 use native.Mathlib.Omega.{arith}
-use lib.Dec.{eqb, leb, ltb}
-use lib.Bits.{bitXor, bitAnd, xor-shr, xor-self, xor-add-and, and-le-l, and-le-r}
+use lib.Dec.{eqb, ltb}
+use lib.Bits.{bitXor, xor-lt, xor-shr, xor-self, xor-add-and, and-le-l, and-le-r}
 use lib.ListN.{getD, set}
-use borrow.Author.Tests.{eqb-true, eqb-false, eq-eqb, ne-eqb}
+use lib.Pow.{pow-add}
+use borrow.Author.Tests.{eqb-true, eqb-false, eq-eqb, ne-eqb, lt-ltb, le-ltb}
 use Rattle.theory.specs.Routes.{Table}
+use Rattle.theory.proofs.Blocks.{pow-pos}
 use Rattle.words.specs.Prefix.{agree}
 use Rattle.refusals.specs.Rules.{refuses}
 use Rattle.records.specs.Wire.{records, routeAt, routes}
@@ -19,7 +22,6 @@ use Rattle.table.proofs.Accepted.{refused-exactly}
 use Rattle.table.proofs.Tested.{table-numbers}
 use Rattle.runs.proofs.Halves.{whole-run, record-within}
 use Rattle.rungs.specs.Rungs.{topFrom}
-use Rattle.rungs.proofs.Rows.{top-low}
 use Rattle.checking.specs.declared.Stage.{Stage}
 use Rattle.checking.specs.declared.Stage.the-variants.{No, Judging, ToStep}
 use Rattle.checking.specs.declared.Pass.{Pass}
@@ -35,8 +37,33 @@ xor-same a b = go (eqb a b) refl
     go true e = eq-eqb (bitXor a b) 0 (ap (bitXor a) (sym (eqb-true a b e)) ∙ xor-self a)
     go false e = ne-eqb (bitXor a b) 0 (λ z. eqb-false a b e (omega (arith, xor-add-and a b, and-le-l a b, and-le-r a b)))
 
-pub xor-agree : (len x a : ℕ) → eqb (bitXor x a / 2 ^ (32 - len)) 0 ≡ agree 32 len x a
+xor-agree : (len x a : ℕ) → eqb (bitXor x a / 2 ^ (32 - len)) 0 ≡ agree 32 len x a
 xor-agree len x a = ap (λ (n : ℕ). eqb n 0) (xor-shr x a (32 - len)) ∙ xor-same (x / 2 ^ (32 - len)) (a / 2 ^ (32 - len))
+
+-- The bits of two addresses that differ, shifted up by a length, fit 32 bits exactly if a prefix of that length holds both.
+pub shl-agree : (len x a : ℕ) → len ≤ 32 → x < 2 ^ 32 → a < 2 ^ 32 → ltb (bitXor x a * 2 ^ len % 2 ^ 64) (2 ^ 32) ≡ agree 32 len x a
+shl-agree len x a le p q = rw (mod-eq-of-lt small) (go (eqb (y / 2 ^ (32 - len)) 0) refl ∙ xor-agree len x a)
+  where
+    y : ℕ
+    y = bitXor x a
+
+    whole : 2 ^ (32 - len) * 2 ^ len ≡ 2 ^ 32
+    whole = sym (pow-add 2 (32 - len) len) ∙ ap (λ (n : ℕ). 2 ^ n) (sub-add-cancel le)
+
+    small : bitXor x a * 2 ^ len < 2 ^ 64
+    small =
+        let up : 2 ^ len ≤ 2 ^ 32 = pow-le-pow-right (omega arith) le in
+        omega (arith, mul-lt-mul-of-pos-right {k = 2 ^ len} (xor-lt 32 x a p q) (pow-pos len), mul-le-mul-left (2 ^ 32) up)
+
+    go : (b : Bool) → eqb (y / 2 ^ (32 - len)) 0 ≡ b → ltb (bitXor x a * 2 ^ len) (2 ^ 32) ≡ eqb (bitXor x a / 2 ^ (32 - len)) 0
+    go true e =
+        let z : y / 2 ^ (32 - len) < 1 = omega (arith, eqb-true (y / 2 ^ (32 - len)) 0 e) in
+        let low : y < 2 ^ (32 - len) = omega (arith, div-lt-iff-lt-mul (pow-pos (32 - len)) .0 z) in
+        lt-ltb (y * 2 ^ len) (2 ^ 32) (omega (arith, whole, mul-lt-mul-of-pos-right {k = 2 ^ len} low (pow-pos len))) ∙ sym e
+    go false e =
+        let z : 1 ≤ y / 2 ^ (32 - len) = omega (arith, eqb-false (y / 2 ^ (32 - len)) 0 e) in
+        let up : 2 ^ (32 - len) ≤ y = omega (arith, le-div-iff-mul-le (pow-pos (32 - len)) .0 z) in
+        le-ltb (y * 2 ^ len) (2 ^ 32) (omega (arith, whole, mul-le-mul-right (2 ^ len) up)) ∙ sym e
 
 pub longer-short : (a b : ℕ) → a ≤ 32 → b ≤ 32 → longerOf a b ≤ 32
 longer-short a b p q = go (ltb a b)

@@ -1,10 +1,9 @@
 -- The steps followed at one address.
-use Prim.Native.Nat.{ℕ, zero, suc, _+_, _-_, _^_, _%_, _≤_, _<_}
-use mathlib.Core.Bool.{Bool, true, false, cond, not, _||_, _&&_}
+use Prim.Native.Nat.{ℕ, _+_, _-_, _^_, _%_}
+use mathlib.Core.Bool.{Bool, true, false, cond, not, _||_}
 use mathlib.Core.List.{List}
 use lib.Dec.{eqb, ltb}
-use lib.ListN.{length, getD, set, replicate}
-use Rattle.words.specs.Prefix.{agree}
+use lib.ListN.{getD, set, replicate}
 use Rattle.positions.specs.Runs.{noHop}
 use Rattle.rungs.specs.Rungs.{topFrom}
 use Rattle.checking.specs.declared.Pass.{Pass}

@@ -91,7 +91,7 @@ pub fn holds(addr: u32, len: u8, x: u32) -> bool
     requires { ⌜ len ≤ 32 ⌝ }
     ensures { λ r. ⌜ r ≡ agree 32 len x addr ⌝ }
 {
-    ((x ^ addr) as u64) >> (32 - len) == 0
+    ((x ^ addr) as u64) << len < 4294967296
 }
 
 // The longer of two lengths.

@@ -2,9 +2,9 @@
 -- plan leaves every address an old or a new answer. The answer of a call is any r of which the call's `ensures` holds. Assumes nothing.
 use Prim.Native.Nat.{ℕ, _^_, _<_}
 use mathlib.Core.Path.{_≡_, refl, sym, ap, _∙_}
-use mathlib.Core.Bool.{Bool, true, false, true≢false, false≢true}
+use mathlib.Core.Bool.{Bool, true, false}
 use mathlib.Core.List.{List, map}
-use mathlib.Core.Logic.{_⊎_, inl, inr, _↔_}
+use mathlib.Core.Logic.{_↔_}
 use native.Mathlib.Omega.{arith}
 use Rattle.theory.specs.Routes.{answer}
 use Rattle.refusals.specs.Rules.{Reply, gives, refuses, judge}

@@ -23,11 +23,11 @@ use Rattle.steps.proofs.Entries.{and-true}
 use Rattle.plans.specs.declared.answers.Step.{Step}
 use Rattle.plans.specs.declared.answers.Judged.{Judged}
 use Rattle.plans.specs.declared.answers.Judged.the-variants as judged
-use Rattle.checking.specs.declared.Stage.the-variants.{Yes, No, Refused, Judging, AtZero}
+use Rattle.checking.specs.declared.Stage.the-variants.{Yes, No, Refused, AtZero}
 use Rattle.checking.specs.declared.Check.{Check}
 use Rattle.checking.specs.Passes.{puts, emptyPass}
 use Rattle.plans.specs.Following.{stepAt, followedOf, MayFollow}
-use Rattle.checking.specs.Checking.{sameFrom, unchangedOf, MaySee, overOf, judgingOf, passOf, judgedOf, seenOf, begunBy, begunOf}
+use Rattle.checking.specs.Checking.{sameFrom, unchangedOf, MaySee, overOf, judgingOf, passOf, seenOf, begunBy, begunOf}
 use Rattle.plans.specs.Following.{verdictOf}
 use Rattle.plans.specs.Judging.{stepOf, checkRules, Accepts, Judges}
 use Rattle.plans.proofs.Followed.{followed-none}

@@ -1,7 +1,7 @@
 -- The check's states and what each has found out: every state that a check comes to is one of these, and the last ones answer right. Assumes nothing.
-use Prim.Native.Nat.{ℕ, zero, suc, _+_, _-_, _*_, _%_, _^_, _≤_, _<_}
+use Prim.Native.Nat.{ℕ, zero, suc, _+_, _-_, _*_, _^_, _≤_, _<_}
 use mathlib.Core.Path.{_≡_, refl, sym, ap, ap₂, subst, _∙_}
-use mathlib.Core.Bool.{Bool, true, false, cond, not, _&&_, true≢false, false≢true}
+use mathlib.Core.Bool.{Bool, true, false, cond, not, _&&_, true≢false}
 use mathlib.Core.List.{List, [], _∷_, map}
 use mathlib.Core.Logic.{_⊎_, inl, inr}
 use native.Mathlib.Decide.{decLt}
@@ -10,24 +10,20 @@ use native.Mathlib.Omega.{arith}
 use lib.Dec.{eqb, leb, ltb}
 use lib.ListN.{length, getD, length-map, List·getD-map}
 use borrow.Author.Tests.{eqb-true, eqb-false, eq-eqb, ne-eqb, ltb-true, ltb-false, leb-true}
-use Rattle.theory.specs.Results.{startOf, part}
-use Rattle.theory.specs.Routes.{Route, Answer, none, via, Valid, All, nil, cons, Table, Member}
+use Rattle.theory.specs.Results.{startOf}
+use Rattle.theory.specs.Routes.{Route, Answer, none, via, All, Table}
 use Rattle.theory.specs.Shapes.{routed}
 use Rattle.theory.proofs.Blocks.{pow-pos, aligned-start, start-is}
-use Rattle.theory.proofs.Lists.{all-map, all-member, member-all}
 use Rattle.theory.proofs.Parts.{all-part}
 use Rattle.words.proofs.PrefixLaws.{start-small}
 use Rattle.positions.specs.Runs.{noHop}
-use Rattle.refusals.specs.Rules.{gives, refuses, judge}
-use Rattle.refusals.proofs.Judged.{gives-exactly}
+use Rattle.refusals.specs.Rules.{gives}
 use Rattle.records.specs.Wire.{records, routeAt, route, routes, Bytes}
 use Rattle.records.specs.declared.Form.{Form}
 use Rattle.records.proofs.Reading.{length-routes}
 use Rattle.table.specs.Checking.{checkReply}
 use Rattle.table.specs.Conditions.{Lawful}
-use Rattle.table.specs.TableRules.{tableRules}
 use Rattle.table.proofs.Tables.{accepted-table, hops-below}
-use Rattle.table.proofs.Tested.{table-tests}
 use Rattle.runs.proofs.Halves.{whole-run, record-within}
 use Rattle.theory.proofs.Numbered.{all-numbered}
 use Rattle.runs.proofs.Records.{run-whole, run-numbered}
@@ -42,11 +38,10 @@ use Rattle.checking.specs.declared.Pass.{Pass}
 use Rattle.checking.specs.declared.Check.{Check}
 use Rattle.checking.specs.Passes.{puts, emptyPass, behindOf}
 use Rattle.plans.specs.Following.{stepAt, followedOf, MayFollow}
-use Rattle.plans.specs.declared.answers.Judged.{Judged}
 use Rattle.plans.specs.declared.answers.Judged.the-variants as judged
 use Rattle.checking.specs.declared.Stage.{Stage}
 use Rattle.checking.specs.declared.Stage.the-variants.{Yes, No, Refused, Judging, AtZero, Picking, ToStep, FromStep, AtStepEnd, AtRecordStart, AtRecordEnd}
-use Rattle.checking.specs.Checking.{countedOf, MaySee, overOf, judgingOf, pickingOf, startPass, passOf, recordOrEnd, stepOrRecord, fromOf, countAt, metOf, landsOf, seenOf}
+use Rattle.checking.specs.Checking.{countedOf, MaySee, overOf, pickingOf, startPass, passOf, recordOrEnd, stepOrRecord, fromOf, countAt, metOf, landsOf, seenOf}
 use Rattle.plans.specs.Following.{verdictOf}
 use Rattle.plans.specs.Judging.{stepOf}
 use Rattle.rungs.specs.Rungs.{numberOf, row}

@@ -3,12 +3,11 @@
 use Prim.Native.Nat.{ℕ, zero, suc, _+_, _-_, _*_, _/_, _^_, _≤_, _<_}
 use mathlib.Core.Path.{_≡_, refl, sym, ap, ap₂, subst, _∙_}
 use mathlib.Core.Bool.{Bool, true, false, cond, _||_, _&&_, true≢false, false≢true, or-true}
-use mathlib.Core.List.{List, [], _∷_, map}
+use mathlib.Core.List.{List, map}
 use mathlib.Core.Logic.{_⊎_, inl, inr}
 use native.Mathlib.Nat.{eq-or-lt-of-le}
-use native.Mathlib.Numerals.{add-one}
 use native.Mathlib.Omega.{arith}
-use lib.Dec.{eqb, leb, ltb}
+use lib.Dec.{eqb, ltb}
 use lib.ListN.{length, getD, set, length-set, length-map, List·getD-map}
 use lib.Seq.{getD-set-same, getD-set-other}
 use borrow.Author.Tests.{eqb-true, eqb-false, eq-eqb, ltb-true, ltb-false}
@@ -20,19 +19,18 @@ use Rattle.words.specs.Prefix.{agree}
 use Rattle.positions.specs.Runs.{noHop, orElse}
 use Rattle.records.specs.Wire.{route}
 use Rattle.steps.specs.Steps.{Step as Move, putting, taking, same, entry, apply, after, OldOrNew}
-use Rattle.steps.specs.Views.{stepped, rung, best}
-use Rattle.steps.proofs.Entries.{entry-step, entry-member, same-true, true-same, same-false}
+use Rattle.steps.specs.Views.{rung, best}
+use Rattle.steps.proofs.Entries.{entry-step, entry-member, true-same, same-false}
 use Rattle.steps.proofs.Rungs.{answer-best, best-alike}
-use Rattle.steps.proofs.Turns.{nth, after-step}
+use Rattle.steps.proofs.Turns.{after-step}
 use Rattle.rungs.specs.Rungs.{numberOf, row, topFrom}
 use Rattle.rungs.proofs.Rows.{row-length, row-hop, row-is, top-low, top-above, bare-above, Small, number-one, top-best}
 use Rattle.plans.specs.declared.answers.Step.{Step}
 use Rattle.checking.specs.declared.Pass.{Pass}
-use Rattle.checking.specs.Passes.{puts, leftOf, longerOf, hopsAfter, topAfter, passedOf}
+use Rattle.checking.specs.Passes.{puts, leftOf, longerOf, passedOf}
 use Rattle.plans.specs.Following.{stepAt, nextOf, followedOf}
 use Rattle.checking.specs.Checking.{topNumber, startPass}
 use Rattle.plans.specs.Judging.{stepOf}
-use Rattle.plans.proofs.Followed.{followed-none, followed-next}
 
 -- A table whose hops are below noHop.
 abbrev pub Hopped : List Route → Type 0

@@ -4,31 +4,26 @@ use Prim.Native.Nat.{ℕ, suc, _+_, _-_, _/_, _^_}
 use mathlib.Core.Path.{_≡_, refl, sym, ap, ap₂, _∙_}
 use mathlib.Core.Bool.{Bool, true, false, _&&_}
 use mathlib.Core.List.{List, [], _∷_, _++_, map}
-use mathlib.Core.Logic.{_↔_}
 use native.Mathlib.Nat.{mul-mod-left}
 use native.Mathlib.Omega.{arith}
 use lib.Dec.{leb}
-use lib.ListN.{length}
 use borrow.Author.Tests.{eq-eqb}
 use Rattle.theory.specs.Results.{startOf}
-use Rattle.theory.specs.Routes.{Route}
-use Rattle.refusals.specs.Rules.{Rule, rule, gives, judge}
-use Rattle.refusals.specs.Order.{First, None}
-use Rattle.records.specs.Wire.{route, routes, Bytes, maskedBytes}
+use Rattle.refusals.specs.Rules.{Rule, rule, judge}
+use Rattle.refusals.specs.Order.{None}
+use Rattle.records.specs.Wire.{Bytes, maskedBytes}
 use Rattle.records.specs.declared.Form.{Form}
 use Rattle.records.specs.Forms.{byDefault, strictly}
 use Rattle.table.specs.Conditions.{TableCondition, not-whole, too-many, of-record, too-long, host-bits, bad-tail, not-after, Accepted}
 use Rattle.table.proofs.Masking.{masked-routes, masked-rules}
 use Rattle.steps.specs.Steps as steps
-use Rattle.steps.specs.Steps.{putting, taking}
 use Rattle.checking.specs.Passes.{puts}
 use Rattle.checking.specs.Checking.{hostKeptOf, hopKeptOf}
 use Rattle.plans.specs.declared.answers.Step.{Step}
 use Rattle.plans.specs.declared.answers.Judged.{Judged}
 use Rattle.plans.specs.declared.answers.Judged.the-variants.{Yes, No, Refused}
-use Rattle.plans.specs.Judging.{stepOf, stepRules, ofNew, tablesRules, checkRules, judgedSays, Accepts, Judges}
-use Rattle.plans.specs.Following.{stepAt}
-use Rattle.plans.specs.Conditions.{TablesCondition, of-installed, of-new, StepKept, PlanCondition, of-tables, of-step}
+use Rattle.plans.specs.Judging.{stepOf, stepRules, ofNew, tablesRules, checkRules, Accepts, Judges}
+use Rattle.plans.specs.Conditions.{of-installed, of-new, PlanCondition, of-tables, of-step}
 use Rattle.plans.proofs.Calls.{yes-kept, no-kept}
 use Rattle.plans.proofs.Deciding.{start-twice}
 use Rattle.plans.proofs.Refusals.{kept-exactly, check-refused, check-yes, check-no}

@@ -1,11 +1,11 @@
 -- Which refusals the checker gives: the first number in the documents' order whose condition holds, exactly then. Assumes nothing.
 use Prim.Native.Nat.{ℕ, _≤_}
-use mathlib.Core.Path.{_≡_, refl, sym, ap, _∙_}
-use mathlib.Core.Bool.{Bool, true, false}
+use mathlib.Core.Path.{_≡_, refl, sym, _∙_}
+use mathlib.Core.Bool.{true, false}
 use mathlib.Core.List.{List}
 use mathlib.Core.Logic.{_⊎_, inl, inr, _↔_}
 use native.Mathlib.Omega.{arith}
-use Rattle.refusals.specs.Rules.{gives, refuses, judge}
+use Rattle.refusals.specs.Rules.{gives, judge}
 use Rattle.refusals.specs.Order.{First, None}
 use Rattle.refusals.proofs.Judged.{gives-exactly}
 use Rattle.refusals.proofs.Answered.{refused-exactly}

@@ -1,11 +1,11 @@
 -- The rules of the two tables and of the steps, one after the other. Assumes nothing.
 use Prim.Native.Nat.{ℕ, zero, suc, _+_, _<_}
-use mathlib.Core.Path.{_≡_, refl, sym, ap, _∙_}
+use mathlib.Core.Path.{_≡_, refl, ap, _∙_}
 use mathlib.Core.Bool.{Bool, true, false}
-use mathlib.Core.List.{List, [], _∷_, _++_, map}
+use mathlib.Core.List.{List, [], _∷_, map}
 use native.Mathlib.Omega.{arith}
 use lib.ListN.{length}
-use Rattle.refusals.specs.Rules.{Rule, rule, gives, refuses, judge}
+use Rattle.refusals.specs.Rules.{Rule, gives, refuses, judge}
 use Rattle.refusals.proofs.Judged.{all-next, some-here}
 use Rattle.records.specs.Wire.{records}
 use Rattle.records.specs.declared.Form.{Form}

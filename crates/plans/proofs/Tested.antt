@@ -1,15 +1,14 @@
 -- The rules of the calls of plans test the documents' conditions, and stand in the order of the checks. Assumes nothing.
 use Prim.Native.Nat.{ℕ, zero, suc, _+_, _-_, _%_, _^_, _≤_, _<_}
-use mathlib.Core.Path.{_≡_, refl, sym, ap, subst, _∙_}
-use mathlib.Core.Bool.{Bool, true, false, cond, not, _&&_, and-eq-true-iff}
-use mathlib.Core.List.{List, [], _∷_, _++_, map}
-use mathlib.Core.Logic.{_⊎_, inl, inr, ⊎-elim, _↔_}
+use mathlib.Core.Path.{_≡_, refl, ap, subst}
+use mathlib.Core.Bool.{Bool, true, false, not, _&&_, and-eq-true-iff}
+use mathlib.Core.List.{List, [], _∷_, map}
+use mathlib.Core.Logic.{inl, inr, _↔_}
 use native.Mathlib.Omega.{arith}
 use lib.Dec.{eqb, leb}
 use lib.ListN.{length}
 use borrow.Author.Tests.{eqb-true, eqb-false, eq-eqb, ne-eqb, leb-true, le-leb}
-use Rattle.words.specs.Prefix.{hostClear}
-use Rattle.refusals.specs.Rules.{Rule, rule}
+use Rattle.refusals.specs.Rules.{Rule}
 use Rattle.refusals.specs.Order.{rank, Earlier}
 use Rattle.refusals.proofs.Shown.{Shows, shown, fails, refuted}
 use Rattle.refusals.proofs.Judged.{Broken, InOrder}
@@ -19,7 +18,7 @@ use Rattle.table.specs.Conditions.{TableCondition, not-whole, too-many, of-reco
 use Rattle.table.specs.TableRules.{tableRules}
 use Rattle.table.proofs.Tested.{table-tests, table-ranked}
 use Rattle.checking.specs.Passes.{puts}
-use Rattle.checking.specs.Checking.{hostKeptOf, hopKeptOf, stepKept}
+use Rattle.checking.specs.Checking.{hostKeptOf, hopKeptOf}
 use Rattle.plans.specs.declared.answers.Step.{Step}
 use Rattle.plans.specs.Judging.{stepRules, ofNew, tablesRules, checkRules}
 use Rattle.plans.specs.Following.{stepAt}

@@ -1,26 +1,26 @@
 -- Wrong checkers, each with a plan that it gets wrong: what it looks at is as it should be, or seems not to be, and the statement forbids its answer. One that looks
 -- only at the end, one that looks only at the addresses where steps begin, one that compares a match's length beside its hop. Both choices on host bits. Assumes nothing.
 use Prim.Native.Nat.{ℕ, zero, suc, _/_, _^_, _≤_, _<_}
-use mathlib.Core.Path.{_≡_, refl, sym, ap, _∙_}
+use mathlib.Core.Path.{_≡_, refl}
 use mathlib.Core.Bool.{Bool, true, false, cond}
 use mathlib.Core.List.{List, [], _∷_, map}
 use mathlib.Core.Logic.{_⊎_, inl, inr}
 use native.Mathlib.Omega.{arith}
 use lib.ListN.{length}
 use borrow.Author.Tests.{eq-eqb}
-use Rattle.theory.specs.Routes.{Route, Match, hit, miss, longer, under, lookup, Answer, none, via, answer}
+use Rattle.theory.specs.Routes.{hit, miss, longer, under, lookup, none, via}
 use Rattle.words.specs.Prefix.{agree}
 use Rattle.refusals.specs.Rules.{gives, judge}
 use Rattle.records.specs.Wire.{rawAt, routeAt, routes, routesFrom}
 use Rattle.records.specs.declared.Form.{Form}
 use Rattle.table.specs.TableRules.{recordRules, rulesFrom, tableRules}
-use Rattle.steps.specs.Steps.{after, OldOrNew, Hitless}
+use Rattle.steps.specs.Steps.{after, OldOrNew}
 use Rattle.steps.proofs.Turns.{after-every}
 use Rattle.plans.specs.declared.answers.Step.{Step}
 use Rattle.plans.specs.declared.answers.Judged.{Judged}
-use Rattle.plans.specs.declared.answers.Judged.the-variants.{Yes, No}
+use Rattle.plans.specs.declared.answers.Judged.the-variants.{Yes}
 use Rattle.plans.specs.Judging.{stepOf, stepRules, tablesRules, checkRules, Accepts, Judges}
-use Rattle.plans.proofs.Calls.{yes-kept, yes-exactly, cut-anywhere}
+use Rattle.plans.proofs.Calls.{yes-exactly, cut-anywhere}
 
 -- A form by its choice.
 abbrev by : Bool → Form

@@ -12,13 +12,13 @@ use Rattle.records.specs.declared.Form.{Form}
 use Rattle.table.specs.Checking.{checkReply}
 use Rattle.table.specs.TableRules.{tableRules}
 use Rattle.plans.specs.declared.answers.Step.{Step}
-use Rattle.plans.specs.Passes.{stepAt}
+use Rattle.plans.specs.Passes.{stepAt, puts}
 use Rattle.plans.specs.Checking.{stepKept}
 use Rattle.plans.specs.Judging.{stepRules, ofNew, tablesRules, checkRules}
 
 -- Does the step keep rule 13?
 abbrev pub kept : Form → Step → Bool
-kept form s = stepKept (form .strict) (s .put) (s .addr) (s .len) (s .hop)
+kept form s = stepKept (form .strict) (puts (s .put)) (s .addr) (s .len) (s .hop)
 
 -- ---- Numbers by 20 higher.
 

@@ -27,7 +27,7 @@ use Rattle.plans.specs.declared.check.Pass.{Pass}
 use Rattle.plans.specs.declared.check.Check.{Check}
 use Rattle.plans.specs.Checking.{sameFrom, overOf, metOf, seenBy, seenOf}
 use Rattle.plans.specs.declared.answers.Step.{Step}
-use Rattle.plans.specs.Passes.{stepAt, leftOf, longerOf, passedOf, nextOf, followedOf}
+use Rattle.plans.specs.Passes.{stepAt, puts, leftOf, longerOf, passedOf, nextOf, followedOf}
 
 -- Two numbers are one exactly if they differ in no bit.
 xor-same : (a b : ℕ) → eqb (bitXor a b) 0 ≡ eqb a b
@@ -114,16 +114,16 @@ followed-next ss p from k = ap (followedOf ss p from) (add-one k)
 
 pub followed-holds : (ss : List Step) (p : Pass) (from k : ℕ)
     → agree 32 (stepAt ss (from + k) .len) (followedOf ss p from k .x) (stepAt ss (from + k) .addr) ≡ true
-    → passedOf (followedOf ss p from k) (stepAt ss (from + k) .put) (stepAt ss (from + k) .len) (stepAt ss (from + k) .hop) ≡ followedOf ss p from (k + 1)
+    → passedOf (followedOf ss p from k) (puts (stepAt ss (from + k) .put)) (stepAt ss (from + k) .len) (stepAt ss (from + k) .hop) ≡ followedOf ss p from (k + 1)
 followed-holds ss p from k e =
-    sym (followed-next ss p from k ∙ ap (λ (b : Bool). cond b (passedOf (followedOf ss p from k) (stepAt ss (from + k) .put) (stepAt ss (from + k) .len) (stepAt ss (from + k) .hop))
+    sym (followed-next ss p from k ∙ ap (λ (b : Bool). cond b (passedOf (followedOf ss p from k) (puts (stepAt ss (from + k) .put)) (stepAt ss (from + k) .len) (stepAt ss (from + k) .hop))
     (followedOf ss p from k)) e)
 
 pub followed-other : (ss : List Step) (p : Pass) (from k : ℕ)
     → agree 32 (stepAt ss (from + k) .len) (followedOf ss p from k .x) (stepAt ss (from + k) .addr) ≡ false
     → followedOf ss p from k ≡ followedOf ss p from (k + 1)
 followed-other ss p from k e =
-    sym (followed-next ss p from k ∙ ap (λ (b : Bool). cond b (passedOf (followedOf ss p from k) (stepAt ss (from + k) .put) (stepAt ss (from + k) .len) (stepAt ss (from + k) .hop))
+    sym (followed-next ss p from k ∙ ap (λ (b : Bool). cond b (passedOf (followedOf ss p from k) (puts (stepAt ss (from + k) .put)) (stepAt ss (from + k) .len) (stepAt ss (from + k) .hop))
     (followedOf ss p from k)) e)
 
 -- The top stays a length.
@@ -136,9 +136,9 @@ followed-top ss p from (suc k) low short =
     (followed-top ss p from k low (λ j ge lt. short j ge (omega arith)))
   where
     go : (b : Bool) → followedOf ss p from k .top ≤ 32
-        → (cond b (passedOf (followedOf ss p from k) (stepAt ss (from + k) .put) (stepAt ss (from + k) .len) (stepAt ss (from + k) .hop)) (followedOf ss p from k)) .top ≤ 32
+        → (cond b (passedOf (followedOf ss p from k) (puts (stepAt ss (from + k) .put)) (stepAt ss (from + k) .len) (stepAt ss (from + k) .hop)) (followedOf ss p from k)) .top ≤ 32
     go false le = le
     go true le =
         let s = stepAt ss (from + k) in
         let l = longer-short (followedOf ss p from k .top) (s .len) le (short (from + k) (omega arith) (omega arith)) in
-        omega (arith, top-low (set (followedOf ss p from k .hops) (s .len) (leftOf (s .put) (s .hop))) (longerOf (followedOf ss p from k .top) (s .len)))
+        omega (arith, top-low (set (followedOf ss p from k .hops) (s .len) (leftOf (puts (s .put)) (s .hop))) (longerOf (followedOf ss p from k .top) (s .len)))

@@ -1,6 +1,6 @@
 -- The steps followed at one address.
 use Prim.Native.Nat.{ℕ, zero, suc, _+_, _-_, _^_, _%_, _≤_, _<_}
-use mathlib.Core.Bool.{Bool, true, false, cond, _||_, _&&_}
+use mathlib.Core.Bool.{Bool, true, false, cond, not, _||_, _&&_}
 use mathlib.Core.List.{List}
 use lib.Dec.{eqb, ltb}
 use lib.ListN.{length, getD, set, replicate}
@@ -12,7 +12,11 @@ use Rattle.plans.specs.declared.check.Pass.{Pass}
 
 -- Step i of a list; past its end, some step.
 abbrev pub stepAt : List Step → ℕ → Step
-stepAt ss i = getD ss i (record { addr = 0; len = 0; hop = 0; put = false })
+stepAt ss i = getD ss i (record { addr = 0; len = 0; hop = 0; put = 0; unread = 0 })
+
+-- Does a step with this byte put?
+abbrev pub puts : ℕ → Bool
+puts b = not (eqb b 0)
 
 -- What a step leaves at its prefix, the longer of two lengths, and the number at the top of hops.
 abbrev pub leftOf : Bool → ℕ → ℕ
@@ -47,7 +51,7 @@ passedOf p put len hop =
 
 -- The pass after any step.
 abbrev pub nextOf : Pass → Step → Pass
-nextOf p s = cond (agree 32 (s .len) (p .x) (s .addr)) (passedOf p (s .put) (s .len) (s .hop)) p
+nextOf p s = cond (agree 32 (s .len) (p .x) (s .addr)) (passedOf p (puts (s .put)) (s .len) (s .hop)) p
 
 -- The pass after k steps from one on.
 unfoldable pub followedOf : List Step → Pass → ℕ → ℕ → Pass

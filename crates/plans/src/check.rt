@@ -25,7 +25,7 @@ ghost use Rattle.theory.specs.Routes.{Table};
 ghost use Rattle.words.specs.Prefix.{agree};
 ghost use Rattle.positions.specs.Runs.{noHop};
 ghost use Rattle.records.specs.Wire.{records, routeAt, routes};
-ghost use Rattle.plans.specs.Passes.{emptyPass, passedOf, leftOf, longerOf, behindOf};
+ghost use Rattle.plans.specs.Passes.{emptyPass, puts, passedOf, leftOf, longerOf, behindOf};
 ghost use Rattle.plans.specs.Checking.{hostKeptOf, hopKeptOf, stepKept, countedOf, sameFrom, overOf, judgingOf, pickingOf, passOf, recordOrEnd, stepOrRecord, judgedOf, metOf, seenOf, MaySee, Begun, verdictOf};
 
 // What a check is at.
@@ -107,10 +107,10 @@ fn longer(a: usize, b: usize) -> usize
 }
 
 // What a step leaves at its prefix.
-fn left(put: bool, hop: u8) -> u8
-    ensures { λ r. ⌜ r ≡ leftOf put hop ⌝ }
+fn left(put: u8, hop: u8) -> u8
+    ensures { λ r. ⌜ r ≡ leftOf (puts put) hop ⌝ }
 {
-    if put { hop } else { NO_HOP }
+    if put != 0 { hop } else { NO_HOP }
 }
 
 // Is it one of the two?
@@ -121,9 +121,9 @@ fn one_of(hop: u8, was: u8, goal: u8) -> bool
 }
 
 // The pass after a step whose prefix holds the address.
-pub fn passed(pass: Pass, put: bool, len: u8, hop: u8) -> Pass
+pub fn passed(pass: Pass, put: u8, len: u8, hop: u8) -> Pass
     requires { ⌜ (len ≤ 32) × (pass .top ≤ 32) ⌝ }
-    ensures { λ r. ⌜ r ≡ passedOf pass put len hop ⌝ }
+    ensures { λ r. ⌜ r ≡ passedOf pass (puts put) len hop ⌝ }
 {
     let mut p = pass;
     let l = len as usize;
@@ -429,13 +429,13 @@ pub fn see(
     n: usize,
     c: Check,
     p: Pass,
-    put: bool,
+    put: u8,
     addr: u32,
     len: u8,
     hop: u8,
 ) -> Check
     requires { ⌜ (Table 32 (routes (now installed)) × Table 32 (routes (now new))) × MaySee n c len ⌝ }
-    ensures { λ r. ⌜ r ≡ seenOf (now (installed .entry)) (now (new .entry)) n c p put addr len hop ⌝ }
+    ensures { λ r. ⌜ r ≡ seenOf (now (installed .entry)) (now (new .entry)) n c p (puts put) addr len hop ⌝ }
 {
     if !p.good {
         return over(Stage::No, 0, 0, n);
@@ -450,7 +450,7 @@ pub fn see(
             c.index,
             c.count,
             c.strict,
-            put,
+            put != 0,
             addr,
             len,
             hop,
@@ -465,7 +465,7 @@ pub fn see(
             c.index,
             masked(addr, len),
             len,
-            put,
+            put != 0,
         ),
         Stage::Picking => pass_at(
             installed,
@@ -477,9 +477,9 @@ pub fn see(
             c.index,
             masked(addr, len),
             len,
-            put,
+            put != 0,
         ),
-        Stage::ToStep => met(installed, new, n, c, p, put),
+        Stage::ToStep => met(installed, new, n, c, p, put != 0),
         Stage::FromStep => {
             if p.hops[at] != c.aim {
                 return over(Stage::No, 0, 0, n);

@@ -4,6 +4,7 @@ use mathlib.Core.Path.{sym, _∙_}
 use native.Mathlib.Omega.{arith}
 use Rattle.rungs.proofs.Rows.{top-low}
 use lib.ListN.{set}
+use Rattle.plans.specs.Passes.{puts}
 use Rattle.plans.proofs.Stepping.{longer-short, passed-is}
 use borrow.Author.Needs.{needs}
 use Rattle.plans.proofs.check.passed.Statement.{statement}
@@ -28,10 +29,10 @@ one-of-requires : tie.Need-one-of-requires
 one-of-requires c κs = search needs
 
 returns : tie.Need-returns
-returns c = let a = c .before .before .before .before .before .before .before .before .args in passed-is (a .pass) (a .put) (a .len) (a .hop) (c .before .before .before .before .before .before .before .left .result) (c .before .before .before .before .longer .result) (c .before .before .before .top-from .result) true (c .before .before .before .before .before .before .before .left .ensures) (c .before .before .before .before .longer .ensures) (c .before .before .before .top-from .ensures) (sym (c .if1 .taken) ∙ c .before .one-of .ensures)
+returns c = let a = c .before .before .before .before .before .before .before .before .args in passed-is (a .pass) (puts (a .put)) (a .len) (a .hop) (c .before .before .before .before .before .before .before .left .result) (c .before .before .before .before .longer .result) (c .before .before .before .top-from .result) true (c .before .before .before .before .before .before .before .left .ensures) (c .before .before .before .before .longer .ensures) (c .before .before .before .top-from .ensures) (sym (c .if1 .taken) ∙ c .before .one-of .ensures)
 
 returns-2 : tie.Need-returns-2
-returns-2 c = let a = c .before .before .before .before .before .before .before .before .args in passed-is (a .pass) (a .put) (a .len) (a .hop) (c .before .before .before .before .before .before .before .left .result) (c .before .before .before .before .longer .result) (c .before .before .before .top-from .result) false (c .before .before .before .before .before .before .before .left .ensures) (c .before .before .before .before .longer .ensures) (c .before .before .before .top-from .ensures) (sym (c .if1 .left) ∙ c .before .one-of .ensures)
+returns-2 c = let a = c .before .before .before .before .before .before .before .before .args in passed-is (a .pass) (puts (a .put)) (a .len) (a .hop) (c .before .before .before .before .before .before .before .left .result) (c .before .before .before .before .longer .result) (c .before .before .before .top-from .result) false (c .before .before .before .before .before .before .before .left .ensures) (c .before .before .before .before .longer .ensures) (c .before .before .before .top-from .ensures) (sym (c .if1 .left) ∙ c .before .one-of .ensures)
 
 pub passed-spec : {M : Type 1} → statement M
 passed-spec =

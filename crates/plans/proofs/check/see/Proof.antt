@@ -1,4 +1,5 @@
 -- `plans::check::see` meets its contract. Assumes nothing.
+use Rattle.plans.specs.Passes.{puts}
 use Rattle.plans.proofs.Stepping.{not-judging, seen-met}
 use borrow.Author.Tests.{not-true, not-false, eq-eqb, ne-eqb}
 use native.Mathlib.Omega.{arith}
@@ -129,7 +130,7 @@ returns-7 : tie.Need-returns-7
 returns-7 c =
     let a = c .before .before .before .before .before .before .before .args in
     c .met .ensures
-    ∙ seen-met (a .installed .now) (a .new .now) (a .n) (a .c) (a .t5) (a .put) (a .addr) (a .len) (a .hop) (not-false (a .t5 .good) (c .before .before .before .before .if1 .left)) (c .before .enum-told4 .given .1)
+    ∙ seen-met (a .installed .now) (a .new .now) (a .n) (a .c) (a .t5) (puts (a .put)) (a .addr) (a .len) (a .hop) (not-false (a .t5 .good) (c .before .before .before .before .if1 .left)) (c .before .enum-told4 .given .1)
 
 returns-8 : tie.Need-returns-8
 returns-8 c = rw (not-false (c .before .before .before .before .before .before .before .before .before .before .before .args .t5 .good) (c .before .before .before .before .before .before .before .before .if1 .left), c .before .before .before .before .before .enum-told5 .given .1, eq-eqb _ _ (c .before .before .if2 .left)) (rw (c .before .behind .ensures) at (c .pass-at3 .ensures))

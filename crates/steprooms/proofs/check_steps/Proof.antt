@@ -23,7 +23,7 @@ check-room-requires c κs = search needs
 returns : tie.Need-returns
 returns c =
     let args = c .before .before .before .before .before .args in
-    subst (λ (ss : List Step). Judges (args .form) (args .installed .now) (args .new .now) ss (c .check-room .result)) (c .before .before .before .before .steps-of .ensures) (c .check-room .ensures)
+    subst (λ (ss : List Step). Judges (args .form) (args .installed .now) (args .new .now) ss (c .check-room .result)) (c .before .steps-of .ensures) (c .check-room .ensures)
 
 pub check-steps-spec : {M : Type 1} → statement M
 check-steps-spec = tie.close (tie.spec steps-of-requires check-room-requires returns)

@@ -1,0 +1,66 @@
+// The text of steps and of the checker's answer.
+
+use plans::answers::Judged;
+use plans::answers::Step;
+use text::put_bytes;
+use text::put_dotted;
+use text::put_ending;
+use text::put_refused;
+ghost use Prim.Native.Nat.{_+_, _*_, _≤_};
+ghost use lib.ListN.{length, take};
+ghost use Rattle.plans.specs.Passes.{puts};
+ghost use Rattle.text.specs.Text.{Put};
+ghost use Rattle.steplines.specs.Lines.{judgedText, wordOf, stepLine, stepLines};
+
+// `yes`, `no` or the refusal.
+pub fn put_judged(answer: Judged, at: usize, out: &mut [u8]) -> usize
+    requires { ⌜ at + 36 ≤ length (now out) ⌝ }
+    ensures { λ r. ⌜ Put (judgedText answer) at r (now (out .entry)) (now (out .exit)) ⌝ }
+{
+    match answer {
+        Judged::Yes => put_bytes(b"yes\n", at, out),
+        Judged::No => put_bytes(b"no\n", at, out),
+        Judged::Refused { number, index } => put_refused(number, index, at, out),
+    }
+}
+
+// `put` or `take`, and a space.
+fn put_word(put: bool, at: usize, out: &mut [u8]) -> usize
+    requires { ⌜ at + 5 ≤ length (now out) ⌝ }
+    ensures { λ r. ⌜ Put (wordOf put) at r (now (out .entry)) (now (out .exit)) ⌝ }
+    ensures { λ r. ⌜ r ≤ at + 5 ⌝ }
+{
+    if put {
+        put_bytes(b"put ", at, out)
+    } else {
+        put_bytes(b"take ", at, out)
+    }
+}
+
+// The line of a step.
+fn put_step(step: Step, at: usize, out: &mut [u8]) -> usize
+    requires { ⌜ at + 29 ≤ length (now out) ⌝ }
+    ensures { λ r. ⌜ Put (stepLine step) at r (now (out .entry)) (now (out .exit)) ⌝ }
+    ensures { λ r. ⌜ r ≤ at + 29 ⌝ }
+{
+    let put = step.put != 0;
+    let word = put_word(put, at, out);
+    let prefix = put_dotted(step.addr, word, out);
+    put_ending(step.len, step.hop, put, prefix, out)
+}
+
+// The lines of the first n steps of a room.
+pub fn put_steps(room: [Step; 65535], n: usize, at: usize, out: &mut [u8]) -> usize
+    requires { ⌜ n ≤ 65535 ⌝ }
+    requires { ⌜ at + 29 * n ≤ length (now out) ⌝ }
+    ensures { λ r. ⌜ Put (stepLines (take n room)) at r (now (out .entry)) (now (out .exit)) ⌝ }
+    ensures { λ r. ⌜ r ≤ at + 29 * n ⌝ }
+{
+    let mut end = at;
+    let mut i: usize = 0;
+    while i < n {
+        end = put_step(room[i], end, out);
+        i += 1;
+    }
+    end
+}

@@ -3,6 +3,7 @@
 
 pub mod cases;
 mod chip_cases;
+pub mod plan_cases;
 mod counted;
 mod special_cases;
 

@@ -38,19 +38,21 @@ use Rattle.steps.proofs.Tables.{all-put, length-new, length-old, length-without
 use Rattle.steps.proofs.Turns.{nth, after-step, after-every, possible-at, sounds-from, table-after}
 use Rattle.steps.proofs.Enough.{Passed, Edged, Taken, enough}
 use Rattle.plans.specs.declared.answers.Step.{Step}
-use Rattle.plans.specs.declared.check.Pass.{Pass}
-use Rattle.plans.specs.declared.check.Check.{Check}
-use Rattle.plans.specs.Passes.{stepAt, puts, emptyPass, followedOf, MayFollow, behindOf}
+use Rattle.checking.specs.declared.Pass.{Pass}
+use Rattle.checking.specs.declared.Check.{Check}
+use Rattle.checking.specs.Passes.{puts, emptyPass, behindOf}
+use Rattle.plans.specs.Following.{stepAt, followedOf, MayFollow}
 use Rattle.plans.specs.declared.answers.Judged.{Judged}
 use Rattle.plans.specs.declared.answers.Judged.the-variants as judged
-use Rattle.plans.specs.declared.check.Stage.{Stage}
-use Rattle.plans.specs.declared.check.Stage.the-variants.{Yes, No, Refused, Judging, AtZero, Picking, ToStep, FromStep, AtStepEnd, AtRecordStart, AtRecordEnd}
-use Rattle.plans.specs.Checking.{countedOf, MaySee, verdictOf, overOf, judgingOf, pickingOf, startPass, passOf, recordOrEnd, stepOrRecord, fromOf, countAt, metOf, landsOf, seenOf}
+use Rattle.checking.specs.declared.Stage.{Stage}
+use Rattle.checking.specs.declared.Stage.the-variants.{Yes, No, Refused, Judging, AtZero, Picking, ToStep, FromStep, AtStepEnd, AtRecordStart, AtRecordEnd}
+use Rattle.checking.specs.Checking.{countedOf, MaySee, overOf, judgingOf, pickingOf, startPass, passOf, recordOrEnd, stepOrRecord, fromOf, countAt, metOf, landsOf, seenOf}
+use Rattle.plans.specs.Following.{verdictOf}
 use Rattle.plans.specs.Judging.{stepOf}
 use Rattle.rungs.specs.Rungs.{numberOf, row}
 use Rattle.rungs.proofs.Rows.{Small, row-hop, top-low, number-one}
 use Rattle.plans.proofs.Following.{Hopped, small-entry, prefixOf, Tracks, tracks-start, tracks-followed}
-use Rattle.plans.proofs.Stepping.{followed-none}
+use Rattle.plans.proofs.Followed.{followed-none}
 use Rattle.plans.proofs.Rules.{kept}
 
 -- The start of a prefix is its own start.

@@ -27,11 +27,12 @@ use Rattle.steps.proofs.Turns.{nth, after-step}
 use Rattle.rungs.specs.Rungs.{numberOf, row, topFrom}
 use Rattle.rungs.proofs.Rows.{row-length, row-hop, row-is, top-low, top-above, bare-above, Small, number-one, top-best}
 use Rattle.plans.specs.declared.answers.Step.{Step}
-use Rattle.plans.specs.declared.check.Pass.{Pass}
-use Rattle.plans.specs.Passes.{stepAt, puts, leftOf, longerOf, hopsAfter, topAfter, passedOf, nextOf, followedOf}
-use Rattle.plans.specs.Checking.{topNumber, startPass}
+use Rattle.checking.specs.declared.Pass.{Pass}
+use Rattle.checking.specs.Passes.{puts, leftOf, longerOf, hopsAfter, topAfter, passedOf}
+use Rattle.plans.specs.Following.{stepAt, nextOf, followedOf}
+use Rattle.checking.specs.Checking.{topNumber, startPass}
 use Rattle.plans.specs.Judging.{stepOf}
-use Rattle.plans.proofs.Stepping.{followed-none, followed-next}
+use Rattle.plans.proofs.Followed.{followed-none, followed-next}
 
 -- A table whose hops are below noHop.
 abbrev pub Hopped : List Route → Type 0

@@ -12,8 +12,9 @@ use Rattle.records.specs.declared.Form.{Form}
 use Rattle.table.specs.Checking.{checkReply}
 use Rattle.table.specs.TableRules.{tableRules}
 use Rattle.plans.specs.declared.answers.Step.{Step}
-use Rattle.plans.specs.Passes.{stepAt, puts}
-use Rattle.plans.specs.Checking.{stepKept}
+use Rattle.checking.specs.Passes.{puts}
+use Rattle.plans.specs.Following.{stepAt}
+use Rattle.checking.specs.Checking.{stepKept}
 use Rattle.plans.specs.Judging.{stepRules, ofNew, tablesRules, checkRules}
 
 -- Does the step keep rule 13?

@@ -14,8 +14,8 @@ use Rattle.steps.specs.Steps as steps
 use Rattle.plans.specs.declared.answers.Step.{Step}
 use Rattle.plans.specs.declared.answers.Judged.{Judged}
 use Rattle.plans.specs.declared.answers.Judged.the-variants.{Yes, No, Refused}
-use Rattle.plans.specs.Passes.{puts}
-use Rattle.plans.specs.Checking.{stepKept}
+use Rattle.checking.specs.Passes.{puts}
+use Rattle.checking.specs.Checking.{stepKept}
 
 -- The step that a struct stands for: its address is masked, and a take's hop is not read.
 abbrev pub stepOf : Step → steps.Step

@@ -13,10 +13,10 @@ ghost use mathlib.Core.Bool.{cond};
 ghost use Prim.Native.Nat.{_-_, _<_, _≤_};
 ghost use lib.Dec.{eqb};
 ghost use Rattle.theory.specs.Results.{In};
-ghost use Rattle.theory.specs.Routes.{Table};
+ghost use Rattle.theory.specs.Routes.{Table, Ascending};
 ghost use Rattle.positions.specs.Runs.{noHop};
 ghost use Rattle.records.specs.Wire.{records, routeAt, routes};
-ghost use Rattle.runs.specs.Runs.{RunAt};
+ghost use Rattle.runs.specs.Runs.{run, RunAt, SplitAt};
 ghost use Rattle.steps.specs.Views.{rung};
 ghost use Rattle.rungs.specs.Rungs.{topFrom, rungsOf, withTop, Halved};
 
@@ -67,6 +67,24 @@ fn hop_of_length(table: &[u8], lo: usize, len: u8) -> u8
     NO_HOP
 }
 
+// Where those of the records lo..hi begin that do not stand below the address `mid`. The two ends are looked at first: often all stand on one side.
+fn parted(table: &[u8], lo: usize, hi: usize, mid: u32) -> usize
+    requires { ⌜ (lo ≤ hi) × (hi ≤ records (now table)) ⌝ }
+    requires { ⌜ Ascending (run (now table) lo hi) ⌝ }
+    ensures { λ r. ⌜ SplitAt (now (table .entry)) lo hi mid r ⌝ }
+{
+    if lo == hi {
+        return lo;
+    }
+    if addr_at(table, hi - 1) < mid {
+        return hi;
+    }
+    if mid <= addr_at(table, lo) {
+        return lo;
+    }
+    split(table, lo, hi, mid)
+}
+
 // The half that holds x of the position of this length at `start`, whose run is lo..hi.
 fn halved(table: &[u8], lo: usize, hi: usize, start: u32, len: u8, x: u32) -> Span
     requires { ⌜ (len < 32) × RunAt 32 (now table) lo hi (32 - len) start ⌝ }
@@ -75,7 +93,7 @@ fn halved(table: &[u8], lo: usize, hi: usize, start: u32, len: u8, x: u32) -> Sp
 {
     let first = past_own(table, lo, hi, len);
     let right = right_half(start, len);
-    let mid = split(table, first, hi, right);
+    let mid = parted(table, first, hi, right);
     if x < right {
         Span {
             lo: first,

@@ -6,7 +6,7 @@ use Rattle.records.specs.Wire.{route}
 use Rattle.plans.specs.declared.answers.Step.{Step}
 use Rattle.plans.specs.declared.answers.Judged.{Judged}
 use Rattle.plans.specs.declared.answers.Judged.the-variants.{Yes, No, Refused}
-use Rattle.plans.specs.Passes.{puts}
+use Rattle.checking.specs.Passes.{puts}
 use Rattle.text.specs.Text.{lineOf, refusedLine}
 
 -- `yes`, `no` or the refusal.

@@ -8,7 +8,7 @@ use text::put_ending;
 use text::put_refused;
 ghost use Prim.Native.Nat.{_+_, _*_, _≤_};
 ghost use lib.ListN.{length, take};
-ghost use Rattle.plans.specs.Passes.{puts};
+ghost use Rattle.checking.specs.Passes.{puts};
 ghost use Rattle.text.specs.Text.{Put};
 ghost use Rattle.steplines.specs.Lines.{judgedText, wordOf, stepLine, stepLines};
 

@@ -53,10 +53,12 @@ use Rattle.records.proofs.Form as F
 use Rattle.records.proofs.Form.Laws as F′
 use Rattle.plans.specs.declared.answers.Step.{Step}
 use Rattle.plans.specs.declared.answers.Judged.{Judged}
-use Rattle.plans.specs.declared.check.Pass.{Pass}
-use Rattle.plans.specs.declared.check.Check.{Check}
-use Rattle.plans.specs.Passes.{stepAt, puts, followedOf}
-use Rattle.plans.specs.Checking.{begunOf, Begun, seenOf, verdictOf}
+use Rattle.checking.specs.declared.Pass.{Pass}
+use Rattle.checking.specs.declared.Check.{Check}
+use Rattle.checking.specs.Passes.{puts}
+use Rattle.plans.specs.Following.{stepAt, followedOf}
+use Rattle.checking.specs.Checking.{begunOf, Begun, seenOf}
+use Rattle.plans.specs.Following.{verdictOf}
 use Rattle.plans.specs.Judging.{Judges}
 use Rattle.plans.proofs.Deciding.{rank}
 use Rattle.plans.proofs.Checked.{Found, found-begin, afterIt, found-next, found-falls, found-follow, found-tables, found-see, found-end}
@@ -64,26 +66,26 @@ use Rattle.plans.proofs.answers.Step as S
 use Rattle.plans.proofs.answers.Step.Laws as S′
 use Rattle.plans.proofs.answers.Judged as J
 use Rattle.plans.proofs.answers.Judged.Laws as J′
-use Rattle.plans.proofs.check.Pass as T
-use Rattle.plans.proofs.check.Pass.Laws as T′
-use Rattle.plans.proofs.check.Check as K
-use Rattle.plans.proofs.check.Check.Laws as K′
-use Rattle.plans.proofs.check.begin as begin
-use Rattle.plans.proofs.check.begin.Symbol as begin-def
-use Rattle.plans.proofs.check.begin.Symbol.{name as #begin}
-use Rattle.plans.proofs.check.begin.Met as begin-thm
+use Rattle.checking.proofs.Pass as T
+use Rattle.checking.proofs.Pass.Laws as T′
+use Rattle.checking.proofs.Check as K
+use Rattle.checking.proofs.Check.Laws as K′
+use Rattle.checking.proofs.begin as begin
+use Rattle.checking.proofs.begin.Symbol as begin-def
+use Rattle.checking.proofs.begin.Symbol.{name as #begin}
+use Rattle.checking.proofs.begin.Met as begin-thm
 use Rattle.plans.proofs.follow as follow
 use Rattle.plans.proofs.follow.Symbol as follow-def
 use Rattle.plans.proofs.follow.Symbol.{name as #follow}
 use Rattle.plans.proofs.follow.Met as follow-thm
-use Rattle.plans.proofs.check.see as see
-use Rattle.plans.proofs.check.see.Symbol as see-def
-use Rattle.plans.proofs.check.see.Symbol.{name as #see}
-use Rattle.plans.proofs.check.see.Met as see-thm
-use Rattle.plans.proofs.check.verdict as verdict
-use Rattle.plans.proofs.check.verdict.Symbol as verdict-def
-use Rattle.plans.proofs.check.verdict.Symbol.{name as #verdict}
-use Rattle.plans.proofs.check.verdict.Met as verdict-thm
+use Rattle.checking.proofs.see as see
+use Rattle.checking.proofs.see.Symbol as see-def
+use Rattle.checking.proofs.see.Symbol.{name as #see}
+use Rattle.checking.proofs.see.Met as see-thm
+use Rattle.plans.proofs.verdict as verdict
+use Rattle.plans.proofs.verdict.Symbol as verdict-def
+use Rattle.plans.proofs.verdict.Symbol.{name as #verdict}
+use Rattle.plans.proofs.verdict.Met as verdict-thm
 use Rattle.plans.proofs.check_plan.Key.{name as #check-plan}
 use Rattle.plans.proofs.check_plan as f
 use Rattle.plans.proofs.check_plan.Statement as stated
@@ -449,7 +451,7 @@ check-plan-spec 𝓤 H 𝓜 𝓖 𝓡 =
     entered 𝓤 H (tripleOf 𝓤 H (𝓖 .A) f.signature (f.spec 𝓤 H (𝓖 .A) (𝓜 .mem) (𝓡 .run)))
     (tables 𝓤 H 𝓜 𝓡 code.env .C) (tables 𝓤 H 𝓜 𝓡 code.env .Λ) #check-plan code.function (code.unfolded 𝓤 H 𝓜 𝓡)
     (check-plan-meets 𝓤 H (𝓖 .A) (givenOf 𝓤 H 𝓜 𝓖) (𝓜 .mem) (𝓡 .run) (tablesOf 𝓤 H 𝓜 (tables 𝓤 H 𝓜 𝓡 code.env))
-    (cited 𝓤 H (BeginC 𝓤 H (𝓖 .A) (𝓜 .mem) (𝓡 .run)) 𝓜 𝓡 code.env #begin begin-def.routine code.calls-plans·check·begin (begin-thm.met 𝓤 H 𝓜 𝓖 𝓡))
+    (cited 𝓤 H (BeginC 𝓤 H (𝓖 .A) (𝓜 .mem) (𝓡 .run)) 𝓜 𝓡 code.env #begin begin-def.routine code.calls-checking·begin (begin-thm.met 𝓤 H 𝓜 𝓖 𝓡))
     (cited 𝓤 H (FollowC 𝓤 H (𝓖 .A) (𝓜 .mem) (𝓡 .run)) 𝓜 𝓡 code.env #follow follow-def.routine code.calls-plans·follow (follow-thm.met 𝓤 H 𝓜 𝓖 𝓡))
-    (cited 𝓤 H (SeeC 𝓤 H (𝓖 .A) (𝓜 .mem) (𝓡 .run)) 𝓜 𝓡 code.env #see see-def.routine code.calls-plans·check·see (see-thm.met 𝓤 H 𝓜 𝓖 𝓡))
-    (cited 𝓤 H (VerdictC 𝓤 H (𝓖 .A) (𝓜 .mem) (𝓡 .run)) 𝓜 𝓡 code.env #verdict verdict-def.routine code.calls-plans·check·verdict (verdict-thm.met 𝓤 H 𝓜 𝓖 𝓡)))
+    (cited 𝓤 H (SeeC 𝓤 H (𝓖 .A) (𝓜 .mem) (𝓡 .run)) 𝓜 𝓡 code.env #see see-def.routine code.calls-checking·see (see-thm.met 𝓤 H 𝓜 𝓖 𝓡))
+    (cited 𝓤 H (VerdictC 𝓤 H (𝓖 .A) (𝓜 .mem) (𝓡 .run)) 𝓜 𝓡 code.env #verdict verdict-def.routine code.calls-plans·verdict (verdict-thm.met 𝓤 H 𝓜 𝓖 𝓡)))

@@ -49,21 +49,22 @@ use denote.Exit.{yes}
 use denote.Signature.{plain}
 use Rattle.words.specs.Prefix.{agree}
 use Rattle.plans.specs.declared.answers.Step.{Step}
-use Rattle.plans.specs.declared.check.Pass.{Pass}
-use Rattle.plans.specs.Passes.{stepAt, puts, passedOf, followedOf, MayFollow}
-use Rattle.plans.proofs.Stepping.{followed-none, followed-holds, followed-other, followed-top}
+use Rattle.checking.specs.declared.Pass.{Pass}
+use Rattle.checking.specs.Passes.{puts, passedOf}
+use Rattle.plans.specs.Following.{stepAt, followedOf, MayFollow}
+use Rattle.plans.proofs.Followed.{followed-none, followed-holds, followed-other, followed-top}
 use Rattle.plans.proofs.answers.Step as S
 use Rattle.plans.proofs.answers.Step.Laws as S′
-use Rattle.plans.proofs.check.Pass as T
-use Rattle.plans.proofs.check.Pass.Laws as T′
-use Rattle.plans.proofs.check.holds as holds
-use Rattle.plans.proofs.check.holds.Symbol as holds-def
-use Rattle.plans.proofs.check.holds.Symbol.{name as #holds}
-use Rattle.plans.proofs.check.holds.Met as holds-thm
-use Rattle.plans.proofs.check.passed as passed
-use Rattle.plans.proofs.check.passed.Symbol as passed-def
-use Rattle.plans.proofs.check.passed.Symbol.{name as #passed}
-use Rattle.plans.proofs.check.passed.Met as passed-thm
+use Rattle.checking.proofs.Pass as T
+use Rattle.checking.proofs.Pass.Laws as T′
+use Rattle.checking.proofs.holds as holds
+use Rattle.checking.proofs.holds.Symbol as holds-def
+use Rattle.checking.proofs.holds.Symbol.{name as #holds}
+use Rattle.checking.proofs.holds.Met as holds-thm
+use Rattle.checking.proofs.passed as passed
+use Rattle.checking.proofs.passed.Symbol as passed-def
+use Rattle.checking.proofs.passed.Symbol.{name as #passed}
+use Rattle.checking.proofs.passed.Met as passed-thm
 use Rattle.plans.proofs.follow.Key.{name as #follow}
 use Rattle.plans.proofs.follow as f
 use Rattle.plans.proofs.follow.Statement as stated
@@ -364,5 +365,5 @@ follow-spec 𝓤 H 𝓜 𝓖 𝓡 =
     entered 𝓤 H (tripleOf 𝓤 H (𝓖 .A) f.signature (f.spec 𝓤 H (𝓖 .A) (𝓜 .mem) (𝓡 .run)))
     (tables 𝓤 H 𝓜 𝓡 code.env .C) (tables 𝓤 H 𝓜 𝓡 code.env .Λ) #follow code.function (code.unfolded 𝓤 H 𝓜 𝓡)
     (follow-meets 𝓤 H (𝓖 .A) (givenOf 𝓤 H 𝓜 𝓖) (𝓜 .mem) (𝓡 .run) (tablesOf 𝓤 H 𝓜 (tables 𝓤 H 𝓜 𝓡 code.env))
-    (cited 𝓤 H (HoldsC 𝓤 H (𝓖 .A) (𝓜 .mem) (𝓡 .run)) 𝓜 𝓡 code.env #holds holds-def.routine code.calls-plans·check·holds (holds-thm.met 𝓤 H 𝓜 𝓖 𝓡))
-    (cited 𝓤 H (PassedC 𝓤 H (𝓖 .A) (𝓜 .mem) (𝓡 .run)) 𝓜 𝓡 code.env #passed passed-def.routine code.calls-plans·check·passed (passed-thm.met 𝓤 H 𝓜 𝓖 𝓡)))
+    (cited 𝓤 H (HoldsC 𝓤 H (𝓖 .A) (𝓜 .mem) (𝓡 .run)) 𝓜 𝓡 code.env #holds holds-def.routine code.calls-checking·holds (holds-thm.met 𝓤 H 𝓜 𝓖 𝓡))
+    (cited 𝓤 H (PassedC 𝓤 H (𝓖 .A) (𝓜 .mem) (𝓡 .run)) 𝓜 𝓡 code.env #passed passed-def.routine code.calls-checking·passed (passed-thm.met 𝓤 H 𝓜 𝓖 𝓡)))

@@ -12,8 +12,8 @@ past-own-requires c κs = search needs
 right-half-requires : tie.Need-right-half-requires
 right-half-requires c κs = search needs
 
-split-requires : tie.Need-split-requires
-split-requires c κs =
+parted-requires : tie.Need-parted-requires
+parted-requires c κs =
     let pre = c .before .before .before .pre in
     let z = rest-ascends (pre .0 .0) (pre .0 .1) (c .before .past-own .ensures) (pre .1) in
     ((z .0, pre .0 .1 .high), z .1)
@@ -22,13 +22,13 @@ returns : tie.Need-returns
 returns c =
     let pre = c .before .before .before .before .before .pre in
     let e = c .before .before .right-half .ensures in
-    left-half (pre .0 .0) (pre .0 .1) (c .before .before .before .past-own .ensures) (pre .1) (rw e at (c .before .split .ensures)) (rw e at (c .if1 .taken))
+    left-half (pre .0 .0) (pre .0 .1) (c .before .before .before .past-own .ensures) (pre .1) (rw e at (c .before .parted .ensures)) (rw e at (c .if1 .taken))
 
 returns-2 : tie.Need-returns-2
 returns-2 c =
     let pre = c .before .before .before .before .before .pre in
     let e = c .before .before .right-half .ensures in
-    rw e (right-half (pre .0 .0) (pre .0 .1) (c .before .before .before .past-own .ensures) (pre .1) (rw e at (c .before .split .ensures)) (rw e at (c .if1 .left)))
+    rw e (right-half (pre .0 .0) (pre .0 .1) (c .before .before .before .past-own .ensures) (pre .1) (rw e at (c .before .parted .ensures)) (rw e at (c .if1 .left)))
 
 pub halved-spec : {M : Type 1} → statement M
-halved-spec = tie.close (tie.spec past-own-requires right-half-requires split-requires returns returns-2)
+halved-spec = tie.close (tie.spec past-own-requires right-half-requires parted-requires returns returns-2)

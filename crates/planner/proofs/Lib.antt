@@ -1,0 +1,9 @@
+-- The laws of the planner: what is due, record by record; level by level, which is the plan; how many it is; the answers; the room while it is written; the
+-- plan as the checker reads it; and what the statement settles.
+pub mod Records
+pub mod Levels
+pub mod Counts
+pub mod Answers
+pub mod Writing
+pub mod Believed
+pub mod Calls

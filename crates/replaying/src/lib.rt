@@ -3,8 +3,8 @@
 
 pub mod cases;
 mod chip_cases;
-pub mod plan_cases;
 mod counted;
+pub mod plan_cases;
 mod special_cases;
 
 use libc::STDOUT_FILENO;

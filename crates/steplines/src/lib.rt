@@ -1,16 +1,21 @@
 // The text of steps and of the checker's answer.
 
+use planner::Planned;
+use planner::plan;
 use plans::answers::Judged;
 use plans::answers::Step;
+use records::Form;
 use text::put_bytes;
 use text::put_dotted;
 use text::put_ending;
+use text::put_last;
 use text::put_refused;
+ghost use mathlib.Core.List.{_++_};
 ghost use Prim.Native.Nat.{_+_, _*_, _≤_};
 ghost use lib.ListN.{length, take};
 ghost use Rattle.checking.specs.Passes.{puts};
 ghost use Rattle.text.specs.Text.{Put};
-ghost use Rattle.steplines.specs.Lines.{judgedText, wordOf, stepLine, stepLines};
+ghost use Rattle.steplines.specs.Lines.{judgedText, wordOf, stepLine, stepLines, stepsEnd, plannedText, PlanPut};
 
 // `yes`, `no` or the refusal.
 pub fn put_judged(answer: Judged, at: usize, out: &mut [u8]) -> usize
@@ -63,4 +68,68 @@ pub fn put_steps(room: [Step; 65535], n: usize, at: usize, out: &mut [u8]) -> us
         i += 1;
     }
     end
+}
+
+// Where `total` says so, the line `steps N`.
+fn put_total(n: usize, total: bool, at: usize, out: &mut [u8]) -> usize
+    requires { ⌜ at + 27 ≤ length (now out) ⌝ }
+    ensures { λ r. ⌜ Put (stepsEnd total n) at r (now (out .entry)) (now (out .exit)) ⌝ }
+{
+    if total {
+        let end = put_bytes(b"steps ", at, out);
+        return put_last(n as u64, end, out);
+    }
+    at
+}
+
+// The lines of a plan's steps, the first of a room.
+fn put_plan(count: usize, room: [Step; 65535], total: bool, at: usize, out: &mut [u8]) -> usize
+    requires { ⌜ count ≤ 2048 ⌝ }
+    requires { ⌜ at + 59428 ≤ length (now out) ⌝ }
+    ensures { λ r. ⌜ Put (stepLines (take count room) ++ stepsEnd total count) at r (now (out .entry)) (now (out .exit)) ⌝ }
+{
+    let end = put_steps(room, count, at, out);
+    put_total(count, total, end, out)
+}
+
+// The text of the planner's answer, from the room that it left; nothing of a plan of more than 2,048 steps, which no tables have.
+pub fn put_planned(
+    answer: Planned,
+    room: [Step; 65535],
+    total: bool,
+    at: usize,
+    out: &mut [u8],
+) -> usize
+    requires { ⌜ at + 59428 ≤ length (now out) ⌝ }
+    ensures { λ r. ⌜ Put (plannedText total answer room) at r (now (out .entry)) (now (out .exit)) ⌝ }
+{
+    match answer {
+        Planned::Steps { count } => {
+            if 2048 < count {
+                return at;
+            }
+            put_plan(count, room, total, at, out)
+        }
+        Planned::GaveUp => put_bytes(b"gave up\n", at, out),
+        Planned::Refused { number, index } => put_refused(number, index, at, out),
+    }
+}
+
+// The text of the planner's answer, where it is lent the first n steps of a room.
+pub fn plan_text(
+    installed: &[u8],
+    new: &[u8],
+    form: Form,
+    room: [Step; 65535],
+    n: usize,
+    total: bool,
+    at: usize,
+    out: &mut [u8],
+) -> usize
+    requires { ⌜ (n ≤ 65535) × (at + 59428 ≤ length (now out)) ⌝ }
+    ensures { λ r. ⌜ PlanPut form (now (installed .entry)) (now (new .entry)) (take n room) total at r (now (out .entry)) (now (out .exit)) ⌝ }
+{
+    let mut steps = room;
+    let answer = plan(installed, new, form, &mut steps[..n]);
+    put_planned(answer, steps, total, at, out)
 }

@@ -36,7 +36,7 @@ fn step_at(bytes: &[u8], i: usize) -> Step
 }
 
 // A room of steps that are all bytes 0.
-fn empty_room() -> [Step; 65535]
+pub fn empty_room() -> [Step; 65535]
     ensures { λ r. ⌜ length r ≡ 65535 ⌝ }
 {
     [Step {

@@ -57,7 +57,7 @@ fn put_octet(n: u8, after: u8, at: usize, out: &mut [u8]) -> usize
 }
 
 // A number in decimal, and the line feed.
-fn put_last(n: u64, at: usize, out: &mut [u8]) -> usize
+pub fn put_last(n: u64, at: usize, out: &mut [u8]) -> usize
     requires { ⌜ at + 21 ≤ length (now out) ⌝ }
     ensures { λ r. ⌜ Put (decimal n ++ (10 ∷ [])) at r (now (out .entry)) (now (out .exit)) ⌝ }
     ensures { λ r. ⌜ r ≤ at + 21 ⌝ }

@@ -4,7 +4,7 @@ use Prim.Native.Nat.{ℕ}
 use mathlib.Core.Path.{_≡_}
 use mathlib.Core.Bool.{true}
 use mathlib.Core.List.{List}
-use lib.ListN.{length}
+use lib.ListN.{length, take}
 use Rattle.records.specs.declared.Form.{Form}
 use Rattle.plans.specs.Judging.{Judges}
 use Rattle.plans.specs.declared.answers.Judged.{Judged}
@@ -20,8 +20,8 @@ pub record CheckKept (form : Form) (t u bytes : List ℕ) (at r : ℕ) (o o′ :
   pub right : Judges form t u (stepsOf bytes) answer
   pub kept : Put (judgedText answer) (beginOf at) r o o′
 
--- Of the installed table t, the new one u and a room of n steps.
+-- Of the installed table t, the new one u and a room of n steps, the first of 65,535.
 pub record PlanKept (form : Form) (t u : List ℕ) (n at r : ℕ) (o o′ : List ℕ) : Type 0 where
-  pub room : List Step
-  pub size : length room ≡ n
-  pub kept : PlanPut form t u room true (beginOf at) r o o′
+  pub steps : List Step
+  pub whole : length steps ≡ 65535
+  pub kept : PlanPut form t u (take n steps) true (beginOf at) r o o′

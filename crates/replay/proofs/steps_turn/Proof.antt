@@ -1,3 +1,10 @@
+-- `steps_turn` is safe and ends. Assumes nothing.
+use Prim.Native.Nat.{ℕ, _*_, _≤_}
+use mathlib.Core.Path.{_≡_}
+use mathlib.Core.List.{List, _++_}
+use native.Mathlib.Omega.{arith}
+use Rattle.records.specs.Wire.{records}
+use lib.ListN.{length, take, drop, length-append, length-take, length-drop}
 use borrow.Author.Needs.{needs}
 use Rattle.replay.proofs.steps_turn.Statement.{statement}
 use Rattle.replay.proofs.steps_turn.Tie as tie
@@ -9,6 +16,17 @@ use Rattle.replaying.proofs.join2.Reads as join2-reads
 use Rattle.replaying.proofs.last_line.Reads as last-line-reads
 use Rattle.replaying.proofs.plan_cases.check_turn.Reads as check-turn-reads
 use Rattle.replaying.proofs.plan_cases.plan_turn.Reads as plan-turn-reads
+
+-- The part of a room that was read has as many bytes as were asked for.
+read-part : (n : ℕ) (table part : List ℕ) → n ≤ length table → length part ≡ length (take n table) → n ≡ length (take n (part ++ drop n table))
+read-part n table part fits same =
+    let size = length-take n table in
+    simp (length-take, length-append, length-drop) (omega arith)
+
+-- So many steps were read.
+few-read : (m : ℕ) (room part : List ℕ) → m ≤ 65535 → 8 * m ≤ length room → length part ≡ length (take (8 * m) room)
+    → records (take (8 * m) (part ++ drop (8 * m) room)) ≤ 65535
+few-read m room part few fits same = let e = read-part (8 * m) room part fits same in omega (arith, e)
 
 -- src/main.rt:36:22
 element-copy-out-join2 : tie.Need-element-copy-out-join2
@@ -28,7 +46,7 @@ slice-relend-prefix-read-full c = search needs
 
 -- src/main.rt:37:36
 slice-aggregate-read-full : tie.Need-slice-aggregate-read-full
-slice-aggregate-read-full c = ?
+slice-aggregate-read-full c = simp length-take (omega arith)
 
 -- src/main.rt:37:8
 read-full-requires : tie.Need-read-full-requires
@@ -68,7 +86,7 @@ slice-reshare-prefix-plan-turn c = search needs
 
 -- src/main.rt:42:44
 slice-aggregate-plan-turn : tie.Need-slice-aggregate-plan-turn
-slice-aggregate-plan-turn c = ?
+slice-aggregate-plan-turn c = read-part (c .before .before .before .before .before .before .before .before .before .join2 .result) (c .before .before .before .before .before .before .before .before .before .before .before .before .before .before .before .before .args .new .now) (c .before .before .before .before .before .before .before .read-full .last .1 .0) (omega (arith, c .before .before .before .before .before .before .before .before .before .join2 .ensures .1, c .before .before .before .before .before .before .before .before .before .before .before .before .before .before .before .before .pre .0)) (c .before .before .before .before .before .before .before .read-full .kept .1 .0)
 
 -- src/main.rt:42:17
 plan-turn-requires : tie.Need-plan-turn-requires
@@ -108,7 +126,7 @@ slice-relend-prefix-read-full-2 c = search needs
 
 -- src/main.rt:47:36
 slice-aggregate-read-full-2 : tie.Need-slice-aggregate-read-full-2
-slice-aggregate-read-full-2 c = ?
+slice-aggregate-read-full-2 c = simp length-take (omega arith)
 
 -- src/main.rt:47:8
 read-full-requires-2 : tie.Need-read-full-requires-2
@@ -144,7 +162,7 @@ slice-reshare-prefix-check-turn c = search needs
 
 -- src/main.rt:51:41
 slice-aggregate-check-turn : tie.Need-slice-aggregate-check-turn
-slice-aggregate-check-turn c = ?
+slice-aggregate-check-turn c = read-part (c .before .before .before .before .before .before .before .before .before .before .before .before .before .before .before .before .before .join2 .result) (c .before .before .before .before .before .before .before .before .before .before .before .before .before .before .before .before .before .before .before .before .before .before .before .before .args .new .now) (c .before .before .before .before .before .before .before .before .before .before .before .before .before .before .before .read-full .last .1 .0) (omega (arith, c .before .before .before .before .before .before .before .before .before .before .before .before .before .before .before .before .before .join2 .ensures .1, c .before .before .before .before .before .before .before .before .before .before .before .before .before .before .before .before .before .before .before .before .before .before .before .before .pre .0)) (c .before .before .before .before .before .before .before .before .before .before .before .before .before .before .before .read-full .kept .1 .0)
 
 -- src/main.rt:51:55
 slice-reshare-prefix-check-turn-2 : tie.Need-slice-reshare-prefix-check-turn-2
@@ -152,11 +170,11 @@ slice-reshare-prefix-check-turn-2 c = search needs
 
 -- src/main.rt:51:55
 slice-aggregate-check-turn-2 : tie.Need-slice-aggregate-check-turn-2
-slice-aggregate-check-turn-2 c = ?
+slice-aggregate-check-turn-2 c = read-part (8 * c .before .before .before .before .before .before .before .join22 .result) (c .before .before .before .before .before .before .before .before .before .before .before .before .before .before .before .before .before .before .before .before .before .before .before .before .before .args .steps .now) (c .before .before .before .before .before .read-full2 .last .1 .0) (omega (arith, c .before .before .before .before .before .before .before .join22 .ensures .1, c .before .before .before .before .before .before .before .before .before .before .before .before .before .before .before .before .before .before .before .before .before .before .before .before .before .pre .1)) (c .before .before .before .before .before .read-full2 .kept .1 .0)
 
 -- src/main.rt:51:13
 check-turn-requires : tie.Need-check-turn-requires
-check-turn-requires c κs = ?
+check-turn-requires c κs = (few-read (c .before .before .before .before .before .before .before .before .join22 .result) (c .before .before .before .before .before .before .before .before .before .before .before .before .before .before .before .before .before .before .before .before .before .before .before .before .before .before .args .steps .now) (c .before .before .before .before .before .before .read-full2 .last .1 .0) (c .before .before .before .before .before .before .before .before .join22 .ensures .1) (omega (arith, c .before .before .before .before .before .before .before .before .join22 .ensures .1, c .before .before .before .before .before .before .before .before .before .before .before .before .before .before .before .before .before .before .before .before .before .before .before .before .before .before .pre .1)) (c .before .before .before .before .before .before .read-full2 .kept .1 .0), (c .before .before .before .before .before .before .before .before .before .before .before .before .before .before .before .before .before .before .before .before .before .before .before .before .before .before .pre .1 .1 .0, c .before .before .before .before .before .before .before .before .before .before .before .before .before .before .before .before .before .before .before .before .before .before .before .before .before .before .pre .1 .1 .1))
 
 -- src/main.rt:22:1
 same-length-8 : tie.Need-same-length-8

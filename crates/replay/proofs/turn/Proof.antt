@@ -1,3 +1,9 @@
+-- `turn` is safe and ends. Assumes nothing.
+use Prim.Native.Nat.{ℕ, _*_, _≤_}
+use mathlib.Core.Path.{_≡_}
+use mathlib.Core.List.{List, _++_}
+use native.Mathlib.Omega.{arith}
+use lib.ListN.{length, take, drop, length-append, length-take, length-drop}
 use borrow.Author.Needs.{needs}
 use Rattle.replay.proofs.turn.Statement.{statement}
 use Rattle.replay.proofs.turn.Tie as tie
@@ -9,6 +15,12 @@ use Rattle.replaying.proofs.call_of.Reads as call-of-reads
 use Rattle.replaying.proofs.cases.case_turn.Reads as case-turn-reads
 use Rattle.replaying.proofs.join2.Reads as join2-reads
 use Rattle.replaying.proofs.last_line.Reads as last-line-reads
+
+-- The part of a room that was read has as many bytes as were asked for.
+read-part : (n : ℕ) (table part : List ℕ) → n ≤ length table → length part ≡ length (take n table) → n ≡ length (take n (part ++ drop n table))
+read-part n table part fits same =
+    let size = length-take n table in
+    simp (length-take, length-append, length-drop) (omega arith)
 
 -- src/main.rt:76:43
 slice-aggregate-read-full : tie.Need-slice-aggregate-read-full
@@ -56,7 +68,7 @@ slice-relend-prefix-read-full c = search needs
 
 -- src/main.rt:87:36
 slice-aggregate-read-full-2 : tie.Need-slice-aggregate-read-full-2
-slice-aggregate-read-full-2 c = ?
+slice-aggregate-read-full-2 c = simp length-take (omega arith)
 
 -- src/main.rt:87:8
 read-full-requires-2 : tie.Need-read-full-requires-2
@@ -96,7 +108,7 @@ slice-reshare-prefix-steps-turn c = search needs
 
 -- src/main.rt:93:38
 slice-aggregate-steps-turn : tie.Need-slice-aggregate-steps-turn
-slice-aggregate-steps-turn c = ?
+slice-aggregate-steps-turn c = read-part (c .before .before .before .before .before .before .before .before .before .before .join2 .result) (c .before .before .before .before .before .before .before .before .before .before .before .before .before .before .before .before .before .before .before .before .before .before .args .table .now) (c .before .before .before .before .before .before .before .before .read-full2 .last .1 .0) (omega (arith, c .before .before .before .before .before .before .before .before .before .before .join2 .ensures .1, c .before .before .before .before .before .before .before .before .before .before .before .before .before .before .before .before .before .before .before .before .before .before .pre .0)) (c .before .before .before .before .before .before .before .before .read-full2 .kept .1 .0)
 
 -- src/main.rt:93:13
 steps-turn-requires : tie.Need-steps-turn-requires
@@ -128,7 +140,7 @@ slice-reshare-prefix-case-turn c = search needs
 
 -- src/main.rt:96:22
 slice-aggregate-case-turn : tie.Need-slice-aggregate-case-turn
-slice-aggregate-case-turn c = ?
+slice-aggregate-case-turn c = read-part (c .before .before .before .before .before .before .before .before .before .join2 .result) (c .before .before .before .before .before .before .before .before .before .before .before .before .before .before .before .before .before .before .before .before .before .args .table .now) (c .before .before .before .before .before .before .before .read-full2 .last .1 .0) (omega (arith, c .before .before .before .before .before .before .before .before .before .join2 .ensures .1, c .before .before .before .before .before .before .before .before .before .before .before .before .before .before .before .before .before .before .before .before .before .pre .0)) (c .before .before .before .before .before .before .before .read-full2 .kept .1 .0)
 
 -- src/main.rt:96:5
 case-turn-requires : tie.Need-case-turn-requires

@@ -22,7 +22,8 @@
  *
  * What every function gives:
  *   - its result is 0 exactly when the call is answered; else it is the number of the first refusal, in the order below, that is due;
- *   - *index is the index of the record that a refusal 5 to 8 names, counted from 0; it is 0 for the other refusals and for an answer;
+ *   - *index is the index of the record that a refusal 5 to 8 or 25 to 28 names, or of the step that 13 names, counted from 0; it is 0 for the other
+ *     refusals and for an answer;
  *   - every number that is set through a pointer is set in every case, and a refusal sets all but *index to 0;
  *   - a table is only read; a work room is 0 throughout afterwards, answered or refused; nothing past a length is read or written.
  *
@@ -39,7 +40,7 @@ extern "C" {
 #endif
 
 /* One more whenever something that is declared or promised here changes. */
-#define SUOVVAMET_VERSION 6
+#define SUOVVAMET_VERSION 7
 
 /*
  * How a table is read, in every call: 0, or SUOVVAMET_STRICT for the strict choice. The other bits of the flags are kept for later and ignored;
@@ -62,7 +63,9 @@ enum suovvamet_refusal {
     SUOVVAMET_QUERY_LENGTH = 9,   /* the cover query's length is above 32 */
     SUOVVAMET_WORK_ROOM = 10,     /* the work room has fewer than 160 words for each node of the table */
     SUOVVAMET_OUTPUT = 11,        /* the output has fewer than 8 bytes for each record of the result or the list */
-    SUOVVAMET_IMAGE = 12          /* the chip's image has not 8,192 bytes */
+    SUOVVAMET_IMAGE = 12,         /* the chip's image has not 8,192 bytes */
+    SUOVVAMET_NEW_TABLE = 20,     /* 23 to 28: the faults 3 to 8 in the new table of a plan, each by 20 higher */
+    SUOVVAMET_STEP = 13           /* a step's length is above 32, its host bits are set under the strict choice, or a put's hop is above 63 */
 };
 
 /* The modes of a rewrite. The first two take a set, the others a map. */
@@ -153,6 +156,33 @@ uint32_t suovvamet_special_use(const uint8_t *table, uint64_t table_length, uint
 uint32_t suovvamet_chip_image(const uint8_t *table, uint64_t table_length, uint32_t flags, uint8_t *image, uint64_t image_length, uint64_t *slots,
                               uint64_t *index);
 
+/*
+ * A step of a plan, 8 bytes without padding, as one CAN frame carries it: put the record of this prefix and hop, a present prefix gets the new hop; or
+ * take the prefix away. The address is a number, its first octet the most significant.
+ */
+struct suovvamet_step {
+    uint32_t address;
+    uint8_t length, hop, put, unread; /* put: 0 for a take, anything else for a put; a take's hop is not read, and unread never */
+};
+
+/*
+ * Do the steps change the installed map to the new one without a detour? Then *yes is 1, else 0: each step can be done (a prefix that is taken is
+ * present), the table never has more than 1,024 records, after every step each address has its old or its new answer, no route included, and the table
+ * at the end is the new one. So a cut after any step leaves every address an old or a new answer (docs/PLANS.md). Any number of steps. By default a
+ * step's address is masked. Refusals 3 to 8 for the installed map, 23 to 28 for the new one, then 13.
+ */
+uint32_t suovvamet_check_plan(const uint8_t *installed, uint64_t installed_length, const uint8_t *new_table, uint64_t new_length, uint32_t flags,
+                              const struct suovvamet_step *steps, uint64_t steps_length, uint32_t *yes, uint64_t *index);
+
+/*
+ * Proposes a plan from the installed map to the new one: *given is 1, *count is the number of its steps, and they stand in the room of steps from its
+ * start; the steps behind them are as they were. Or it gives up, which claims nothing: *given and *count are 0 and the room is as it was, as after a
+ * refusal. It gives up exactly when the prefixes of both are together more than 1,024 or the room is too short for its steps; else suovvamet_check_plan
+ * says yes to them. A room of 1,024 steps is never too short. Refusals 3 to 8 and 23 to 28.
+ */
+uint32_t suovvamet_plan(const uint8_t *installed, uint64_t installed_length, const uint8_t *new_table, uint64_t new_length, uint32_t flags,
+                        struct suovvamet_step *steps, uint64_t steps_length, uint32_t *given, uint64_t *count, uint64_t *index);
+
 /* A refusal in words, for a person to read. It is C, no function of the library, and proved by nothing. */
 static inline const char *suovvamet_refusal_text(uint32_t refusal)
 {
@@ -170,6 +200,13 @@ static inline const char *suovvamet_refusal_text(uint32_t refusal)
     case SUOVVAMET_WORK_ROOM: return "the work room is shorter than the table needs";
     case SUOVVAMET_OUTPUT: return "the output is shorter than the result or the list";
     case SUOVVAMET_IMAGE: return "the image has not 8,192 bytes";
+    case SUOVVAMET_STEP: return "a step's length is above 32, its address has bits set past it, or a put's hop is above 63";
+    case SUOVVAMET_NEW_TABLE + SUOVVAMET_TABLE_LENGTH: return "the new table is not made of whole records of 8 bytes";
+    case SUOVVAMET_NEW_TABLE + SUOVVAMET_RECORDS: return "the new table has more than 1,024 records";
+    case SUOVVAMET_NEW_TABLE + SUOVVAMET_PREFIX_LENGTH: return "a length in the new table is above 32";
+    case SUOVVAMET_NEW_TABLE + SUOVVAMET_HOST_BITS: return "an address in the new table has bits set past its length";
+    case SUOVVAMET_NEW_TABLE + SUOVVAMET_HOP: return "a hop in the new table is above 63, or one of a record's last two bytes is not 0";
+    case SUOVVAMET_NEW_TABLE + SUOVVAMET_ORDER: return "a record of the new table does not stand strictly after the one before it";
     case SUOVVAMET_EDITION: return "the edition is not 5735 or 6890";
     default: return "no call gives this number";
     }

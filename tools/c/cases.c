@@ -9,10 +9,13 @@
 /* A case's first byte is its call, and so much more under the strict choice. */
 enum { STRICT_CASE = 128 };
 
-enum { HEADER = 16, MOST_BYTES = 65535, MOST_LIST = 262144, EDGE = 64, SHIFTS = 4 };
+enum { HEADER = 16, MOST_BYTES = 65535, MOST_LIST = 262144, MOST_STEPS = 65535, EDGE = 64, SHIFTS = 4 };
 
 static uint8_t table_room[EDGE + SHIFTS + MOST_BYTES + EDGE], kept[sizeof table_room], output_room[EDGE + SHIFTS + MOST_LIST + EDGE];
 static uint32_t work_room[EDGE + SHIFTS + SUOVVAMET_MOST_WORK + EDGE];
+
+static uint8_t new_room[MOST_BYTES], step_bytes[8];
+static struct suovvamet_step step_room[MOST_STEPS];
 
 /* Where the rooms of this case begin. */
 static uint8_t *table, *output;
@@ -297,6 +300,78 @@ static void special_use(size_t length, uint32_t flags, uint32_t edition)
     }
 }
 
+/* ---- Plans: the new table and the steps stand behind the installed table. */
+static int read_new(size_t new_length)
+{
+    return platform_read(new_room, new_length) == new_length;
+}
+
+static int read_steps(size_t steps)
+{
+    for (size_t i = 0; i < steps; i++) {
+        if (platform_read(step_bytes, 8) < 8)
+            return 0;
+        step_room[i].address = (uint32_t)step_bytes[0] << 24 | (uint32_t)step_bytes[1] << 16 | (uint32_t)step_bytes[2] << 8 | step_bytes[3];
+        step_room[i].length = step_bytes[4];
+        step_room[i].hop = step_bytes[5];
+        step_room[i].put = step_bytes[6];
+        step_room[i].unread = step_bytes[7];
+    }
+    return 1;
+}
+
+static void check_plan(size_t length, size_t new_length, uint32_t flags, size_t steps)
+{
+    struct guarded32 yes = unset32;
+    struct guarded index = unset;
+    uint32_t refusal = suovvamet_check_plan(table, length, new_room, new_length, flags, step_room, steps, &yes.value, &index.value);
+    promise_guards32(&yes);
+    if (answered(refusal, &index, yes.value == 0)) {
+        print(yes.value == 1 ? "yes\n" : "no\n");
+        promise(yes.value <= 1, "a third word");
+    }
+}
+
+static void plan(size_t length, size_t new_length, uint32_t flags, size_t room)
+{
+    static const struct suovvamet_step filled = {0xA5A5A5A5u, 165, 165, 165, 165};
+    struct guarded32 given = unset32;
+    struct guarded count = unset, index = unset;
+    for (size_t i = 0; i < room; i++)
+        step_room[i] = filled;
+    uint32_t refusal = suovvamet_plan(table, length, new_room, new_length, flags, step_room, room, &given.value, &count.value, &index.value);
+    promise_guards32(&given);
+    promise_guards(&count);
+    if (answered(refusal, &index, given.value == 0 && count.value == 0)) {
+        if (given.value == 1) {
+            for (size_t i = 0; i < (size_t)count.value; i++) {
+                const struct suovvamet_step *s = &step_room[i];
+                print(s->put != 0 ? "put " : "take ");
+                for (int shift = 24; shift >= 0; shift -= 8) {
+                    print_number(s->address >> shift & 255);
+                    print(shift > 0 ? "." : "/");
+                }
+                print_number(s->length);
+                if (s->put != 0) {
+                    print(" ");
+                    print_number(s->hop);
+                }
+                print("\n");
+            }
+            print("steps ");
+            print_number(count.value);
+            print("\n");
+        } else {
+            print("gave up\n");
+            promise(given.value == 0 && count.value == 0, "value in giving up");
+        }
+    }
+    int touched = 0;
+    for (size_t i = (size_t)count.value; i < room; i++)
+        touched |= step_room[i].address != filled.address || step_room[i].length != 165 || step_room[i].hop != 165 || step_room[i].put != 165 || step_room[i].unread != 165;
+    promise(!touched, "steps touched");
+}
+
 /* ---- The cases. */
 static uint32_t number(const uint8_t *bytes, int size)
 {
@@ -323,8 +398,11 @@ static const char *run(void)
         if (got < HEADER || platform_read(table, length) < length)
             return "case cut short";
         uint32_t call = header[0] % STRICT_CASE;
-        if (call > 6 && call != 9)
+        if (call > 9)
             return "no such call";
+        size_t new_length = number(header + 8, 2), steps = number(header + 10, 2);
+        if ((call == 7 || call == 8) && (!read_new(new_length) || (call == 7 && !read_steps(steps))))
+            return "case cut short";
         uint32_t flags = header[0] < STRICT_CASE ? 0 : SUOVVAMET_STRICT;
         flags |= filler(at) & ~(uint32_t)SUOVVAMET_STRICT; /* bits that are ignored */
         size_t words = number(header + 8, 4), room = number(header + 12, 2);
@@ -346,6 +424,8 @@ static const char *run(void)
         case 4: unrouted(length, flags, words); break;
         case 5: rewrite(1, length, flags, header[1], header[2], room, 0); break;
         case 6: chip_image(length, flags, room); break;
+        case 7: check_plan(length, new_length, flags, steps); break;
+        case 8: plan(length, new_length, flags, steps); break;
         case 9: special_use(length, flags, number(header + 4, 4)); break;
         }
         uint32_t left = 0, round = 0;

@@ -2,6 +2,8 @@
 
 use std::fmt::Write;
 
+use crate::plans::{self, Step};
+
 /// Address, length, hop.
 pub type Route = (u32, u8, u8);
 
@@ -14,7 +16,10 @@ pub const UNROUTED: u8 = 4;
 pub const PLAIN: u8 = 5;
 /// The chip's slot image.
 pub const CHIP: u8 = 6;
-
+/// Is a plan one without a detour?
+pub const CHECK: u8 = 7;
+/// A plan.
+pub const PLAN: u8 = 8;
 /// The first record in a special-use range.
 pub const SPECIAL: u8 = 9;
 
@@ -36,11 +41,14 @@ pub struct Case {
     pub query_length: u8,
     /// The query's address; the edition of the special-use ranges.
     pub query: u32,
-    /// Words of work room; bytes of output for a list of what has no route; not read by the plain engine.
+    /// Words of work room; bytes of output for a list of what has no route; 65,536 times the bytes of a plan's new table, and the steps; not read by
+    /// the plain engine.
     pub work: u32,
     /// Bytes of output; of the image room for the chip's image.
     pub room: u16,
     pub table: Vec<u8>,
+    /// What follows the table: a plan's new table, and the steps that are to be checked.
+    pub more: Vec<u8>,
 }
 
 impl Case {
@@ -51,6 +59,7 @@ impl Case {
         to.extend(self.room.to_be_bytes());
         to.extend((self.table.len() as u16).to_be_bytes());
         to.extend(&self.table);
+        to.extend(&self.more);
     }
 
     /// The first case of `from` and the bytes after it; or the line that ends a run there.
@@ -60,12 +69,18 @@ impl Case {
         }
         let (head, rest) = from.split_at(16);
         let word = |at: usize| u32::from_be_bytes([head[at], head[at + 1], head[at + 2], head[at + 3]]);
+        let call = head[0] % STRICT;
         let length = (word(12) & 0xFFFF) as usize;
-        if rest.len() < length {
+        let more = match call {
+            CHECK => (word(8) >> 16) as usize + 8 * (word(8) & 0xFFFF) as usize,
+            PLAN => (word(8) >> 16) as usize,
+            _ => 0,
+        };
+        if rest.len() < length + more {
             return Err("case cut short");
         }
         let case = Case {
-            call: head[0] % STRICT,
+            call,
             strict: head[0] >= STRICT,
             mode: head[1],
             default: head[2],
@@ -74,8 +89,9 @@ impl Case {
             work: word(8),
             room: (word(12) >> 16) as u16,
             table: rest[..length].to_vec(),
+            more: rest[length..length + more].to_vec(),
         };
-        if case.call > CHIP && case.call != SPECIAL {
+        if case.call > SPECIAL {
             return Err("no such call");
         }
         if case.call == UNROUTED && case.work > MOST_LIST {
@@ -84,7 +100,7 @@ impl Case {
         if case.call < UNROUTED && case.work > MOST_WORK {
             return Err("work room too large");
         }
-        Ok((case, &rest[length..]))
+        Ok((case, &rest[length + more..]))
     }
 
     /// The case in words, its table a record a line.
@@ -99,6 +115,8 @@ impl Case {
             HELD => "addresses held".to_string(),
             CHIP => "chip image".to_string(),
             SPECIAL => format!("special use by RFC {}", self.query),
+            CHECK => "check of a plan".to_string(),
+            PLAN => "plan".to_string(),
             _ => "list of what has no route".to_string(),
         };
         if self.strict {
@@ -109,6 +127,10 @@ impl Case {
             PLAIN => writeln!(text, "; {} bytes of output, {} bytes of table", self.room, self.table.len()),
             CHIP => writeln!(text, "; {} bytes of image, {} bytes of table", self.room, self.table.len()),
             SPECIAL => writeln!(text, "; {} bytes of table", self.table.len()),
+            CHECK | PLAN => {
+                let (installed, new, _) = plans::parts(self);
+                writeln!(text, "; {} bytes installed, {} bytes new, {} steps", installed.len(), new.len(), self.work & 0xFFFF)
+            }
             _ => writeln!(
                 text,
                 "; {} words of work room, {} bytes of output, {} bytes of table",
@@ -117,14 +139,29 @@ impl Case {
                 self.table.len()
             ),
         };
-        for record in self.table.chunks(8) {
-            if let [a, b, c, d, length, hop, 0, 0] = record {
-                let _ = writeln!(text, "  {a}.{b}.{c}.{d}/{length} {hop}");
-            } else {
-                let _ = writeln!(text, "  bytes {}", hex(record));
+        list_records(&mut text, &self.table);
+        if self.call == CHECK || self.call == PLAN {
+            let (_, new, steps) = plans::parts(self);
+            text.push_str("  new:\n");
+            list_records(&mut text, new);
+            for [a, b, c, d, length, hop, put, _] in steps {
+                let _ = match put {
+                    0 => writeln!(text, "  take {a}.{b}.{c}.{d}/{length}"),
+                    _ => writeln!(text, "  put {a}.{b}.{c}.{d}/{length} {hop}"),
+                };
             }
         }
         text
+    }
+}
+
+/// The records of a table, a line each.
+fn list_records(text: &mut String, table: &[u8]) {
+    for record in table.chunks(8) {
+        let _ = match record {
+            [a, b, c, d, length, hop, 0, 0] => writeln!(text, "  {a}.{b}.{c}.{d}/{length} {hop}"),
+            _ => writeln!(text, "  bytes {}", hex(record)),
+        };
     }
 }
 
@@ -141,6 +178,10 @@ pub enum Answer {
     Slots(Vec<Route>),
     /// The first record in a special-use range.
     Special(Option<usize>),
+    /// Is the plan good?
+    Judged(bool),
+    /// A plan's steps, or none where the planner gives up.
+    Planned(Option<Vec<Step>>),
 }
 
 impl Answer {
@@ -176,6 +217,17 @@ impl Answer {
             }
             Answer::Special(Some(at)) => writeln!(text, "special at {at}"),
             Answer::Special(None) => writeln!(text, "none special"),
+            Answer::Judged(good) => writeln!(text, "{}", if *good { "yes" } else { "no" }),
+            Answer::Planned(None) => writeln!(text, "gave up"),
+            Answer::Planned(Some(steps)) => {
+                for step in steps {
+                    let _ = match *step {
+                        Step::Put((address, length, hop)) => writeln!(text, "put {}/{length} {hop}", dotted(address)),
+                        Step::Take(address, length) => writeln!(text, "take {}/{length}", dotted(address)),
+                    };
+                }
+                writeln!(text, "steps {}", steps.len())
+            }
         };
         text
     }

@@ -3,8 +3,11 @@
 
 use std::collections::BTreeMap;
 
-use crate::case::{table_of, Answer, Case, Route, CHIP, COVER, HELD, LOOKUP, MOST_LIST, MOST_WORK, PLAIN, REWRITE, SPECIAL, UNROUTED};
+use crate::case::{
+    table_of, Answer, Case, Route, CHECK, CHIP, COVER, HELD, LOOKUP, MOST_LIST, MOST_WORK, PLAIN, PLAN, REWRITE, SPECIAL, UNROUTED,
+};
 use crate::model::{self, Fault};
+use crate::plans;
 
 /// A case, what it is, and the refusal that its damage was planned to give.
 pub struct Made {
@@ -40,23 +43,23 @@ impl Random {
     }
 
     /// A number below `n`.
-    fn below(&mut self, n: usize) -> usize {
+    pub fn below(&mut self, n: usize) -> usize {
         (self.next() % n as u64) as usize
     }
 
-    fn within(&mut self, low: usize, high: usize) -> usize {
+    pub fn within(&mut self, low: usize, high: usize) -> usize {
         low + self.below(high - low + 1)
     }
 
-    fn chance(&mut self, percent: usize) -> bool {
+    pub fn chance(&mut self, percent: usize) -> bool {
         self.below(100) < percent
     }
 
-    fn pick<T: Copy>(&mut self, from: &[T]) -> T {
+    pub fn pick<T: Copy>(&mut self, from: &[T]) -> T {
         from[self.below(from.len())]
     }
 
-    fn address(&mut self) -> u32 {
+    pub fn address(&mut self) -> u32 {
         self.next() as u32
     }
 }
@@ -92,7 +95,7 @@ pub const SHAPES: [&str; 24] = [
     "1,024: scattered",
     "about 1,024: whole space, split",
 ];
-const LARGE: usize = 19;
+pub const LARGE: usize = 19;
 
 struct Building<'a> {
     random: &'a mut Random,
@@ -142,7 +145,7 @@ impl Building<'_> {
 }
 
 /// The routes of a table of the given shape, with as many different hops.
-fn routes_of(random: &mut Random, shape: usize, hop_count: usize) -> Vec<Route> {
+pub fn routes_of(random: &mut Random, shape: usize, hop_count: usize) -> Vec<Route> {
     let mut hops: Vec<u8> = (0..64).collect();
     for i in 0..hop_count {
         let other = random.within(i, 63);
@@ -310,7 +313,7 @@ fn near_special(random: &mut Random, case: &mut Case, routes: &mut Vec<Route>) {
 }
 
 /// Sets host bits in some of the records, or in none or all.
-fn loosen(random: &mut Random, table: &mut [u8]) {
+pub fn loosen(random: &mut Random, table: &mut [u8]) {
     let loosened = random.pick(&[0, 10, 50, 100]);
     for record in table.chunks_exact_mut(8) {
         if random.chance(loosened) {
@@ -376,8 +379,8 @@ fn make_room(random: &mut Random, case: &mut Case, rooms: usize) {
     };
 }
 
-fn blank(call: u8, mode: u8) -> Case {
-    Case { call, strict: false, mode, default: 0, query_length: 0, query: 0, work: 0, room: 0, table: Vec::new() }
+pub fn blank(call: u8, mode: u8) -> Case {
+    Case { call, strict: false, mode, default: 0, query_length: 0, query: 0, work: 0, room: 0, table: Vec::new(), more: Vec::new() }
 }
 
 /// A call on an accepted table. What `rooms` says of a room that the call is not lent is passed over.
@@ -454,7 +457,7 @@ pub fn pairs(call: u8) -> Vec<(u8, u8, Order)> {
 
 /// Damages record `at` so that it deserves `number`. Order (8) comes first where it is wanted, as it moves records. A record that stands there
 /// twice may have other host bits, where they are masked.
-fn spoil(random: &mut Random, table: &mut [u8], at: usize, number: u8, is_set: bool, strict: bool) {
+pub fn spoil(random: &mut Random, table: &mut [u8], at: usize, number: u8, is_set: bool, strict: bool) {
     let (from, to) = (8 * at, 8 * at + 8);
     match number {
         5 => table[from + 4] = random.pick(&[33, 33, 34, 64, 128, 255]),
@@ -592,14 +595,19 @@ fn damaged(random: &mut Random, call: u8, first: u8, second: u8, order: Order, s
 pub fn seeded(seed: u64, index: u64) -> Made {
     let random = &mut Random::new(seed, index);
     let call = match random.below(100) {
-        0..=54 => REWRITE,
-        55..=70 => COVER,
-        71..=79 => LOOKUP,
-        80..=84 => HELD,
-        85..=90 => UNROUTED,
-        91..=95 => CHIP,
-        _ => SPECIAL,
+        0..=49 => REWRITE,
+        50..=63 => COVER,
+        64..=71 => LOOKUP,
+        72..=75 => HELD,
+        76..=81 => UNROUTED,
+        82..=86 => CHIP,
+        87..=90 => SPECIAL,
+        91..=96 => CHECK,
+        _ => PLAN,
     };
+    if call == CHECK || call == PLAN {
+        return plans::seeded(random, call);
+    }
     if random.chance(20) {
         // Damage by number 4 needs a long table, and comes less often.
         let pairs = pairs(call);
@@ -838,6 +846,8 @@ pub fn fixed() -> Vec<Made> {
             }
         }
     }
+    // Plans, and checks of plans as they are proposed and damaged.
+    list.extend(plans::fixed(random));
     // Every rewrite of the list by the plain engine.
     let again: Vec<Made> = list.iter().filter_map(plain).collect();
     list.extend(again);

@@ -6,6 +6,7 @@
 mod case;
 mod generate;
 mod model;
+mod plans;
 
 use std::collections::BTreeMap;
 use std::fs;
@@ -15,7 +16,7 @@ use std::process::{exit, Command, Stdio};
 use std::sync::{Mutex, OnceLock};
 use std::thread;
 
-use case::{Answer, Case, Route, CHIP, COVER, HELD, LOOKUP, PLAIN, REWRITE, SPECIAL, UNROUTED};
+use case::{Answer, Case, Route, CHECK, CHIP, COVER, HELD, LOOKUP, PLAIN, PLAN, REWRITE, SPECIAL, UNROUTED};
 use generate::Made;
 use model::Fault;
 
@@ -64,9 +65,49 @@ fn matched_by_crate(routes: &[Route], slots: &[Route]) -> bool {
     oracle::lookups(routes, &asked).into_iter().eq(asked.iter().map(first_match))
 }
 
-/// The answer that is expected: refusals 1 to 9, 12 and 14, the list of what has no route and the chip's image by the model, all else by the crate,
-/// which is asked about those two all the same.
+/// How often the crate is asked about one plan, at most.
+const MOST_ASKED: usize = 20_000;
+
+/// Is the model's word about a plan the crate's? Its longest match after each step is asked at every point where a prefix of the tables or of the steps begins
+/// or is over; of long plans at as many of the points as can be afforded, where a word of yes is held to.
+fn followed_by_crate(old: &[Route], new: &[Route], steps: &[plans::Step], good: bool) -> bool {
+    let (was, goal) = (plans::held(old), plans::held(new));
+    let points = plans::points_of(&was, &goal, steps);
+    let every = (points.len() * (steps.len() + 1)).div_ceil(MOST_ASKED);
+    let points: Vec<u32> = points.into_iter().step_by(every).collect();
+    let hops = |routes: &[Route]| -> Vec<Option<u8>> {
+        oracle::lookups(routes, &points).into_iter().map(|found| found.map(|(hop, _)| hop)).collect()
+    };
+    let (old_hops, new_hops) = (hops(old), hops(new));
+    let mut table = was;
+    for &step in steps {
+        if plans::done(&mut table, step, Fault::None).is_none() {
+            return !good;
+        }
+        let routes: Vec<Route> = table.iter().map(|(&(address, length), &hop)| (address, length, hop)).collect();
+        let kept = |((now, old), new): ((&Option<u8>, &Option<u8>), &Option<u8>)| now == old || now == new;
+        if !hops(&routes).iter().zip(&old_hops).zip(&new_hops).all(kept) {
+            return !good;
+        }
+    }
+    good == (table == goal) || every > 1 && !good
+}
+
+/// The answer that is expected: refusals 1 to 9, 12 to 14 and 23 to 28, the list of what has no route, the chip's image and plans by the model, all else by
+/// the crate, which is asked about those all the same.
 fn expected(case: &Case) -> Answer {
+    if case.call == CHECK || case.call == PLAN {
+        let answer = model::answer(case, Fault::None);
+        if let Ok((old, new, steps)) = plans::accepted(case, Fault::None) {
+            let agreed = match &answer {
+                Answer::Judged(good) => followed_by_crate(&old, &new, &steps, *good),
+                Answer::Planned(Some(steps)) => followed_by_crate(&old, &new, steps, true),
+                _ => true,
+            };
+            assert!(agreed, "the crate finds another answer after a step");
+        }
+        return answer;
+    }
     if let Err((number, at)) = model::accepted(case, Fault::None) {
         return Answer::Refused(number, at);
     }
@@ -168,6 +209,8 @@ impl Counts {
             HELD => "addresses held".to_string(),
             CHIP => "chip image".to_string(),
             SPECIAL => format!("special use, RFC {}", if [5735, 6890].contains(&made.case.query) { made.case.query } else { 0 }),
+            CHECK => "check of a plan".to_string(),
+            PLAN => "plan".to_string(),
             _ => "list of what has no route".to_string(),
         };
         let outcome = match answer {
@@ -187,6 +230,11 @@ impl Counts {
             Answer::Slots(_) => "slots",
             Answer::Special(Some(_)) => "a record",
             Answer::Special(None) => "none",
+            Answer::Judged(true) => "yes",
+            Answer::Judged(false) => "no",
+            Answer::Planned(None) => "gave up",
+            Answer::Planned(Some(steps)) if steps.is_empty() => "no step",
+            Answer::Planned(Some(_)) => "steps",
         };
         self.add(format!("call     {call}: {outcome}"));
         if let Answer::Refused(number, _) = answer {
@@ -427,7 +475,7 @@ fn check_ends(command: &str) {
         tries.push(([&good[..], &good[..cut]].concat(), text.clone()));
     }
     for bytes in
-        [&[(0, CHIP + 1)][..], &[(0, SPECIAL + 1)], &[(0, 255)], &[(8, 1)], &[(0, UNROUTED), (8, 0), (9, 4), (10, 0), (11, 1)]]
+        [&[(0, SPECIAL + 1)][..], &[(0, 255)], &[(8, 1)], &[(0, UNROUTED), (8, 0), (9, 4), (10, 0), (11, 1)]]
     {
         let mut odd = good.clone();
         bytes.iter().for_each(|&(at, byte)| odd[at] = byte);

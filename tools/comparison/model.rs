@@ -4,7 +4,8 @@
 //! A call of the model can be given a fault, a planted mistake: `tools/compare --self-test` shows with them that the comparison
 //! finds mistakes. `Fault::None` is the model itself.
 
-use crate::case::{Answer, Case, Route, CHIP, COVER, HELD, LOOKUP, PLAIN, REWRITE, SPECIAL, UNROUTED};
+use crate::case::{Answer, Case, Route, CHECK, CHIP, COVER, HELD, LOOKUP, PLAIN, PLAN, REWRITE, SPECIAL, UNROUTED};
+use crate::plans;
 
 #[derive(Clone, Copy, PartialEq, Eq, Debug)]
 pub enum Fault {
@@ -50,10 +51,24 @@ pub enum Fault {
     WiderIsSpecial,
     LastSpecial,
     EditionsAlike,
+    OnlyTheEnd,
+    LengthsCompared,
+    OnlyStepStarts,
+    OnlyTheNew,
+    AbsentTaken,
+    CountUnwatched,
+    TakeHopRead,
+    StepsUnmasked,
+    NewAsInstalled,
+    PutsByRisingLength,
+    TakesByFallingLength,
+    TakesFirst,
+    UnchangedPut,
+    NeverTooMany,
 }
 
 /// Each planted mistake and what it does wrong.
-pub const FAULTS: [(Fault, &str); 41] = [
+pub const FAULTS: [(Fault, &str); 55] = [
     (Fault::LargestHop, "modes 4, 5: the largest hop of a set instead of the smallest"),
     (Fault::HoleIsEmptySet, "mode 4: a hole taken as an empty set"),
     (Fault::AlwaysSmallest, "modes 4, 5: the smallest hop even where the hop above is in the set"),
@@ -95,6 +110,20 @@ pub const FAULTS: [(Fault, &str); 41] = [
     (Fault::WiderIsSpecial, "special use: a record wider than the range named"),
     (Fault::LastSpecial, "special use: the last such record named"),
     (Fault::EditionsAlike, "special use: RFC 6890 read as RFC 5735"),
+    (Fault::OnlyTheEnd, "check of a plan: only the table at the end looked at"),
+    (Fault::LengthsCompared, "check of a plan: the length of an answer compared, too"),
+    (Fault::OnlyStepStarts, "check of a plan: only the addresses looked at where steps begin"),
+    (Fault::OnlyTheNew, "check of a plan: the old answer refused"),
+    (Fault::AbsentTaken, "check of a plan: an absent prefix may be taken"),
+    (Fault::CountUnwatched, "check of a plan: more than 1,024 records allowed on the way"),
+    (Fault::TakeHopRead, "number 13: a take's hop read"),
+    (Fault::StepsUnmasked, "check of a plan: host bits of a step not masked"),
+    (Fault::NewAsInstalled, "numbers 23 to 28: given as 3 to 8"),
+    (Fault::PutsByRisingLength, "plan: the shortest prefixes put first"),
+    (Fault::TakesByFallingLength, "plan: the longest prefixes taken first"),
+    (Fault::TakesFirst, "plan: takes before puts"),
+    (Fault::UnchangedPut, "plan: a record put that does not change"),
+    (Fault::NeverTooMany, "plan: given where the prefixes are more than 1,024"),
 ];
 
 /// The first `length` bits set.
@@ -162,7 +191,20 @@ pub fn accepted(case: &Case, fault: Fault) -> Result<Vec<Route>, (u8, usize)> {
     if case.call == SPECIAL && ranges(case.query, fault).is_none() {
         return Err((14, 0));
     }
-    let table = &case.table;
+    let is_map = match case.call {
+        REWRITE | PLAIN => case.mode >= 3,
+        COVER => false,
+        _ => true,
+    };
+    let routes = routes_of(&case.table, is_map, case.strict, fault)?;
+    if case.call == COVER && case.query_length > 32 {
+        return Err((9, 0));
+    }
+    Ok(routes)
+}
+
+/// The routes of an accepted table, or the refusal by a number of 3 to 8.
+pub fn routes_of(table: &[u8], is_map: bool, strict: bool, fault: Fault) -> Result<Vec<Route>, (u8, usize)> {
     if table.len() % 8 != 0 {
         return Err((3, 0));
     }
@@ -170,15 +212,10 @@ pub fn accepted(case: &Case, fault: Fault) -> Result<Vec<Route>, (u8, usize)> {
     if too_many && fault != Fault::RecordBeforeCount {
         return Err((4, 0));
     }
-    let is_map = match case.call {
-        REWRITE | PLAIN => case.mode >= 3,
-        COVER => false,
-        _ => true,
-    };
     let mut bad = None;
     for (i, record) in table.chunks(8).enumerate() {
         let before = if i == 0 { None } else { Some(&table[8 * i - 8..8 * i]) };
-        if let Some(number) = bad_record(record, before, is_map, case.strict, fault) {
+        if let Some(number) = bad_record(record, before, is_map, strict, fault) {
             if bad.is_none() || fault == Fault::LastBadRecord {
                 bad = Some((number, i));
             }
@@ -189,9 +226,6 @@ pub fn accepted(case: &Case, fault: Fault) -> Result<Vec<Route>, (u8, usize)> {
     }
     if too_many {
         return Err((4, 0));
-    }
-    if case.call == COVER && case.query_length > 32 {
-        return Err((9, 0));
     }
     let address = |r: &[u8]| if fault == Fault::RoutesUnmasked { address_of(r, fault) } else { masked(r, fault) };
     Ok(table.chunks(8).map(|r| (address(r), r[4], r[5])).collect())
@@ -523,6 +557,9 @@ fn special(routes: &[Route], ranges: &[Route], fault: Fault) -> Option<usize> {
 
 /// The model's answer to a case.
 pub fn answer(case: &Case, fault: Fault) -> Answer {
+    if case.call == CHECK || case.call == PLAN {
+        return plans::answer(case, fault);
+    }
     let routes = match accepted(case, fault) {
         Err((number, at)) => return Answer::Refused(number, at),
         Ok(routes) => routes,

@@ -2,9 +2,9 @@
 -- plan leaves every address an old or a new answer. The answer of a call is any r of which the call's `ensures` holds. Assumes nothing.
 use Prim.Native.Nat.{ℕ, _^_, _<_}
 use mathlib.Core.Path.{_≡_, refl, sym, ap, _∙_}
-use mathlib.Core.Bool.{Bool, true, false, true≢false, false≢true}
+use mathlib.Core.Bool.{Bool, true, false}
 use mathlib.Core.List.{List, map}
-use mathlib.Core.Logic.{_⊎_, inl, inr, _↔_}
+use mathlib.Core.Logic.{_↔_}
 use native.Mathlib.Omega.{arith}
 use Rattle.theory.specs.Routes.{answer}
 use Rattle.refusals.specs.Rules.{Reply, gives, refuses, judge}
@@ -63,6 +63,10 @@ module _ (form : Form) (t u : List ℕ) (ss : List Step) where
     -- Yes is said only where nothing is refused.
     pub yes-kept : r ≡ Yes → judge (checkRules form t u ss) true ≡ gives true
     yes-kept e = gives-any (checkRules form t u ss) (s .word) true true (sym (s .answer) ∙ ap judgedSays e)
+
+    -- So is no.
+    pub no-kept : r ≡ No → judge (checkRules form t u ss) true ≡ gives true
+    no-kept e = gives-any (checkRules form t u ss) (s .word) false true (sym (s .answer) ∙ ap judgedSays e)
 
     -- A cut after any number of steps of an accepted plan leaves every address an old or a new answer.
     pub cut-anywhere : r ≡ Yes → (k x : ℕ) → x < 2 ^ 32 → OldOrNew 32 (routes t) (routes u) (after k (map stepOf ss) (routes t)) x

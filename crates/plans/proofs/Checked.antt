@@ -23,12 +23,14 @@ use Rattle.steps.proofs.Entries.{and-true}
 use Rattle.plans.specs.declared.answers.Step.{Step}
 use Rattle.plans.specs.declared.answers.Judged.{Judged}
 use Rattle.plans.specs.declared.answers.Judged.the-variants as judged
-use Rattle.plans.specs.declared.check.Stage.the-variants.{Yes, No, Refused, Judging, AtZero}
-use Rattle.plans.specs.declared.check.Check.{Check}
-use Rattle.plans.specs.Passes.{stepAt, emptyPass, followedOf, MayFollow}
-use Rattle.plans.specs.Checking.{sameFrom, unchangedOf, MaySee, overOf, judgingOf, passOf, judgedOf, seenOf, begunBy, begunOf, verdictOf}
+use Rattle.checking.specs.declared.Stage.the-variants.{Yes, No, Refused, AtZero}
+use Rattle.checking.specs.declared.Check.{Check}
+use Rattle.checking.specs.Passes.{puts, emptyPass}
+use Rattle.plans.specs.Following.{stepAt, followedOf, MayFollow}
+use Rattle.checking.specs.Checking.{sameFrom, unchangedOf, MaySee, overOf, judgingOf, passOf, seenOf, begunBy, begunOf}
+use Rattle.plans.specs.Following.{verdictOf}
 use Rattle.plans.specs.Judging.{stepOf, checkRules, Accepts, Judges}
-use Rattle.plans.proofs.Stepping.{followed-none}
+use Rattle.plans.proofs.Followed.{followed-none}
 use Rattle.plans.proofs.Rules.{kept, old-refused, new-refused, all-kept, step-refused}
 use Rattle.plans.proofs.Deciding.{Fine, lawful, lawful′, rank, Going, zero-next, goes, falls, going-follow, going-see, going-end}
 
@@ -144,7 +146,7 @@ module _ (form : Form) (t u : List ℕ) (ss : List Step) (bt : Bytes t) (bu : By
 
   -- The state after the one c, once the step that it asks for is shown.
   abbrev pub afterIt : Check → Check
-  afterIt c = seenOf t u n c (followedOf ss (c .pass) (c .from) (c .to - c .from)) (stepAt ss (c .index) .put) (stepAt ss (c .index) .addr) (stepAt ss (c .index) .len) (stepAt ss (c .index) .hop)
+  afterIt c = seenOf t u n c (followedOf ss (c .pass) (c .from) (c .to - c .from)) (puts (stepAt ss (c .index) .put)) (stepAt ss (c .index) .addr) (stepAt ss (c .index) .len) (stepAt ss (c .index) .hop)
 
   pub found-next : {c : Check} → Found c → c .index < n → stepAt ss (c .index) .addr < 2 ^ 32 → Found (afterIt c)
   found-next (refused e) lt small = absurd (omega arith)

@@ -1,7 +1,7 @@
 -- The check's states and what each has found out: every state that a check comes to is one of these, and the last ones answer right. Assumes nothing.
-use Prim.Native.Nat.{ℕ, zero, suc, _+_, _-_, _*_, _%_, _^_, _≤_, _<_}
+use Prim.Native.Nat.{ℕ, zero, suc, _+_, _-_, _*_, _^_, _≤_, _<_}
 use mathlib.Core.Path.{_≡_, refl, sym, ap, ap₂, subst, _∙_}
-use mathlib.Core.Bool.{Bool, true, false, cond, not, _&&_, true≢false, false≢true}
+use mathlib.Core.Bool.{Bool, true, false, cond, not, _&&_, true≢false}
 use mathlib.Core.List.{List, [], _∷_, map}
 use mathlib.Core.Logic.{_⊎_, inl, inr}
 use native.Mathlib.Decide.{decLt}
@@ -10,24 +10,20 @@ use native.Mathlib.Omega.{arith}
 use lib.Dec.{eqb, leb, ltb}
 use lib.ListN.{length, getD, length-map, List·getD-map}
 use borrow.Author.Tests.{eqb-true, eqb-false, eq-eqb, ne-eqb, ltb-true, ltb-false, leb-true}
-use Rattle.theory.specs.Results.{startOf, part}
-use Rattle.theory.specs.Routes.{Route, Answer, none, via, Valid, All, nil, cons, Table, Member}
+use Rattle.theory.specs.Results.{startOf}
+use Rattle.theory.specs.Routes.{Route, Answer, none, via, All, Table}
 use Rattle.theory.specs.Shapes.{routed}
 use Rattle.theory.proofs.Blocks.{pow-pos, aligned-start, start-is}
-use Rattle.theory.proofs.Lists.{all-map, all-member, member-all}
 use Rattle.theory.proofs.Parts.{all-part}
 use Rattle.words.proofs.PrefixLaws.{start-small}
 use Rattle.positions.specs.Runs.{noHop}
-use Rattle.refusals.specs.Rules.{gives, refuses, judge}
-use Rattle.refusals.proofs.Judged.{gives-exactly}
+use Rattle.refusals.specs.Rules.{gives}
 use Rattle.records.specs.Wire.{records, routeAt, route, routes, Bytes}
 use Rattle.records.specs.declared.Form.{Form}
 use Rattle.records.proofs.Reading.{length-routes}
 use Rattle.table.specs.Checking.{checkReply}
 use Rattle.table.specs.Conditions.{Lawful}
-use Rattle.table.specs.TableRules.{tableRules}
 use Rattle.table.proofs.Tables.{accepted-table, hops-below}
-use Rattle.table.proofs.Tested.{table-tests}
 use Rattle.runs.proofs.Halves.{whole-run, record-within}
 use Rattle.theory.proofs.Numbered.{all-numbered}
 use Rattle.runs.proofs.Records.{run-whole, run-numbered}
@@ -38,23 +34,24 @@ use Rattle.steps.proofs.Tables.{all-put, length-new, length-old, length-without
 use Rattle.steps.proofs.Turns.{nth, after-step, after-every, possible-at, sounds-from, table-after}
 use Rattle.steps.proofs.Enough.{Passed, Edged, Taken, enough}
 use Rattle.plans.specs.declared.answers.Step.{Step}
-use Rattle.plans.specs.declared.check.Pass.{Pass}
-use Rattle.plans.specs.declared.check.Check.{Check}
-use Rattle.plans.specs.Passes.{stepAt, emptyPass, followedOf, MayFollow, behindOf}
-use Rattle.plans.specs.declared.answers.Judged.{Judged}
+use Rattle.checking.specs.declared.Pass.{Pass}
+use Rattle.checking.specs.declared.Check.{Check}
+use Rattle.checking.specs.Passes.{puts, emptyPass, behindOf}
+use Rattle.plans.specs.Following.{stepAt, followedOf, MayFollow}
 use Rattle.plans.specs.declared.answers.Judged.the-variants as judged
-use Rattle.plans.specs.declared.check.Stage.{Stage}
-use Rattle.plans.specs.declared.check.Stage.the-variants.{Yes, No, Refused, Judging, AtZero, Picking, ToStep, FromStep, AtStepEnd, AtRecordStart, AtRecordEnd}
-use Rattle.plans.specs.Checking.{countedOf, MaySee, verdictOf, overOf, judgingOf, pickingOf, startPass, passOf, recordOrEnd, stepOrRecord, fromOf, countAt, metOf, landsOf, seenOf}
+use Rattle.checking.specs.declared.Stage.{Stage}
+use Rattle.checking.specs.declared.Stage.the-variants.{Yes, No, Refused, Judging, AtZero, Picking, ToStep, FromStep, AtStepEnd, AtRecordStart, AtRecordEnd}
+use Rattle.checking.specs.Checking.{countedOf, MaySee, overOf, pickingOf, startPass, passOf, recordOrEnd, stepOrRecord, fromOf, countAt, metOf, landsOf, seenOf}
+use Rattle.plans.specs.Following.{verdictOf}
 use Rattle.plans.specs.Judging.{stepOf}
 use Rattle.rungs.specs.Rungs.{numberOf, row}
 use Rattle.rungs.proofs.Rows.{Small, row-hop, top-low, number-one}
 use Rattle.plans.proofs.Following.{Hopped, small-entry, prefixOf, Tracks, tracks-start, tracks-followed}
-use Rattle.plans.proofs.Stepping.{followed-none}
+use Rattle.plans.proofs.Followed.{followed-none}
 use Rattle.plans.proofs.Rules.{kept}
 
 -- The start of a prefix is its own start.
-start-twice : (k a : ℕ) → startOf k (startOf k a) ≡ startOf k a
+pub start-twice : (k a : ℕ) → startOf k (startOf k a) ≡ startOf k a
 start-twice k a = start-is k (startOf k a) (startOf k a) (aligned-start k a) (omega arith, omega (arith, pow-pos k))
 
 -- What holds of a table's routes and of those put holds after any number of steps.
@@ -70,7 +67,7 @@ module _ (form : Form) (s : Step) (ok : kept form s ≡ true) where
   pub kept-short : s .len ≤ 32
   kept-short = leb-true (s .len) 32 (and-true (leb (s .len) 32) _ ok .0)
 
-  kept-hop : s .put ≡ true → s .hop < noHop
+  kept-hop : puts (s .put) ≡ true → s .hop < noHop
   kept-hop e =
       let z = and-true (leb (s .len) 32) _ ok in
       let y = and-true (cond (form .strict) (Rattle.words.specs.Prefix.hostClear 32 (s .addr) (s .len)) true) _ (z .1) in
@@ -78,16 +75,16 @@ module _ (form : Form) (s : Step) (ok : kept form s ≡ true) where
       omega (arith, leb-true (s .hop) 63 h)
 
   kept-sound : s .addr < 2 ^ 32 → Sound 32 (stepOf s)
-  kept-sound small = go (s .put)
+  kept-sound small = go (puts (s .put))
     where
       go : (b : Bool) → Sound 32 (cond b (putting (route (prefixOf s) (s .len) (s .hop))) (taking (prefixOf s) (s .len)))
       go true = record { short = kept-short; clean = aligned-start (32 - s .len) (s .addr); small = start-small 32 (32 - s .len) (s .addr) small }
       go false = tt
 
   kept-put : (r : Route) → stepOf s ≡ putting r → r .hop < noHop
-  kept-put r e = go (s .put) refl e
+  kept-put r e = go (puts (s .put)) refl e
     where
-      go : (b : Bool) → s .put ≡ b → cond b (putting (route (prefixOf s) (s .len) (s .hop))) (taking (prefixOf s) (s .len)) ≡ putting r → r .hop < noHop
+      go : (b : Bool) → puts (s .put) ≡ b → cond b (putting (route (prefixOf s) (s .len) (s .hop))) (taking (prefixOf s) (s .len)) ≡ putting r → r .hop < noHop
       go true q p = let h : s .hop ≡ r .hop = cc in omega (arith, kept-hop q)
       go false q p = let z : _≡_ {A = ℕ} 0 1 = cc in absurd (omega arith)
 
@@ -105,7 +102,7 @@ module _ (form : Form) (t u : List ℕ) (ss : List Step) (bt : Bytes t) (bu : By
   T k = after k moves old
 
   nth-is : (j : ℕ) → nth moves j ≡ stepOf (stepAt ss j)
-  nth-is j = List·getD-map stepOf ss j (record { addr = 0; len = 0; hop = 0; put = false })
+  nth-is j = List·getD-map stepOf ss j (record { addr = 0; len = 0; hop = 0; put = 0; unread = 0 })
 
   -- A step keeps its rule, and its address is one.
   abbrev pub Fine : ℕ → Type 0
@@ -214,7 +211,7 @@ module _ (form : Form) (t u : List ℕ) (ss : List Step) (bt : Bytes t) (bu : By
 
       -- It puts a prefix that old lacks.
       pub record Fresh (i : ℕ) : Type 0 where
-        pub puts : S i .put ≡ true
+        pub puts-it : puts (S i .put) ≡ true
         pub lacks : entry old (prefixOf (S i)) (S i .len) ≡ none
 
       done-next : {i : ℕ} → i < n → Done i → Able i → ((r : Route) → stepOf (S i) ≡ putting r → entry old (r .addr) (r .len) ≡ none → Edged 32 old new moves r) → Done (suc i)
@@ -255,13 +252,13 @@ module _ (form : Form) (t u : List ℕ) (ss : List Step) (bt : Bytes t) (bu : By
             ∙ there-is (entry (T i) (prefixOf (S i)) (S i .len)) (small-at i (prefixOf (S i)) (S i .len))
 
         -- The count is the number of routes after the step, or above 1,024 where it cannot be done.
-        count-right : (k : ℕ) → k ≡ countedOf (S i .put) there (length (T i)) → k ≤ 1024 → (length (T (suc i)) ≡ k) × (can (stepOf (S i)) (T i) ≡ true)
-        count-right k e le = go (S i .put) refl there-present
+        count-right : (k : ℕ) → k ≡ countedOf (puts (S i .put)) there (length (T i)) → k ≤ 1024 → (length (T (suc i)) ≡ k) × (can (stepOf (S i)) (T i) ≡ true)
+        count-right k e le = go (puts (S i .put)) refl there-present
           where
             r : Route
             r = route (prefixOf (S i)) (S i .len) (S i .hop)
 
-            go : (b : Bool) → S i .put ≡ b → there ≡ present (T i) (prefixOf (S i)) (S i .len) → (length (T (suc i)) ≡ k) × (can (stepOf (S i)) (T i) ≡ true)
+            go : (b : Bool) → puts (S i .put) ≡ b → there ≡ present (T i) (prefixOf (S i)) (S i .len) → (length (T (suc i)) ≡ k) × (can (stepOf (S i)) (T i) ≡ true)
             go true q f =
                 let m : stepOf (S i) ≡ putting r = rw q in
                 let c : k ≡ cond there (length (T i)) (length (T i) + 1) = e ∙ ap (λ (b : Bool). countedOf b there (length (T i))) q in
@@ -282,13 +279,13 @@ module _ (form : Form) (t u : List ℕ) (ss : List Step) (bt : Bytes t) (bu : By
                 take-length false y c = absurd (omega arith)
 
         -- Where the steps are hitless it is not above.
-        count-small : (k : ℕ) → k ≡ countedOf (S i .put) there (length (T i)) → Hitless 32 1024 old new moves → k ≤ 1024
+        count-small : (k : ℕ) → k ≡ countedOf (puts (S i .put)) there (length (T i)) → Hitless 32 1024 old new moves → k ≤ 1024
         count-small k e h = go (decLt 1024 k)
           where
             can-it : can (stepOf (S i)) (T i) ≡ true
             can-it = ap (λ (s : Move). can s (T i)) (sym (nth-is i)) ∙ possible-at moves old (h .possible) i (omega (arith, length-map ss stepOf))
 
-            within : (b : Bool) → S i .put ≡ b → there ≡ present (T i) (prefixOf (S i)) (S i .len) → k ≤ 1024
+            within : (b : Bool) → puts (S i .put) ≡ b → there ≡ present (T i) (prefixOf (S i)) (S i .len) → k ≤ 1024
             within true q f =
                 let c : k ≡ cond there (length (T i)) (length (T i) + 1) = e ∙ ap (λ (b : Bool). countedOf b there (length (T i))) q in
                 let m : stepOf (S i) ≡ putting (route (prefixOf (S i)) (S i .len) (S i .hop)) = rw q in
@@ -309,7 +306,7 @@ module _ (form : Form) (t u : List ℕ) (ss : List Step) (bt : Bytes t) (bu : By
 
             go : Dec (1024 < k) → k ≤ 1024
             go (no ge) = omega arith
-            go (yes gt) = within (S i .put) refl there-present
+            go (yes gt) = within (puts (S i .put)) refl there-present
 
       -- ---- The states that a check comes to once the steps are judged.
 
@@ -330,9 +327,9 @@ module _ (form : Form) (t u : List ℕ) (ss : List Step) (bt : Bytes t) (bu : By
         no-more : (Accepted → ⊥) → Going (overOf No 0 0 n)
         zero-next : 0 < n → Going (passOf t u AtZero 0 0 (length (T 0)) n 0 0 false)
         pick-next : {i : ℕ} → i < n → Done i → Going (pickingOf i (length (T i)))
-        to-step : {i : ℕ} → i < n → Done i → Going (passOf t u ToStep i 0 (length (T i)) i (prefixOf (S i)) (S i .len) (S i .put))
+        to-step : {i : ℕ} → i < n → Done i → Going (passOf t u ToStep i 0 (length (T i)) i (prefixOf (S i)) (S i .len) (puts (S i .put)))
         from-step : {i : ℕ} {p : Pass} → i < n → Done i → Able i → Fresh i → Tracked (prefixOf (S i)) i p
-            → Going (fromOf n (passOf t u ToStep i 0 (length (T i)) i (prefixOf (S i)) (S i .len) (S i .put)) p (length (T (suc i))))
+            → Going (fromOf n (passOf t u ToStep i 0 (length (T i)) i (prefixOf (S i)) (S i .len) (puts (S i .put))) p (length (T (suc i))))
         step-end : {i : ℕ} → i < n → Done i → Able i → Fresh i → Landed (prefixOf (S i)) (S i .len)
             → Going (passOf t u AtStepEnd i 0 (length (T (suc i))) n (behindOf (prefixOf (S i)) (S i .len)) (S i .len) false)
         record-start : {k : ℕ} → 0 < n → k < records t → Done n → Recs k
@@ -391,7 +388,7 @@ module _ (form : Form) (t u : List ℕ) (ss : List Step) (bt : Bytes t) (bu : By
       cameOut c = followedOf ss (c .pass) (c .from) (c .to - c .from)
 
       abbrev after-it : Check → Check
-      after-it c = seenOf t u n c (cameOut c) (S (c .index) .put) (S (c .index) .addr) (S (c .index) .len) (S (c .index) .hop)
+      after-it c = seenOf t u n c (cameOut c) (puts (S (c .index) .put)) (S (c .index) .addr) (S (c .index) .len) (S (c .index) .hop)
 
       -- A pass at x through the steps up to k.
       passing : (x k : ℕ) → k ≤ n → Tracked x k (followedOf ss (startPass (rung 32 old x) (rung 32 new x) x) 0 (k - 0))
@@ -454,49 +451,49 @@ module _ (form : Form) (t u : List ℕ) (ss : List Step) (bt : Bytes t) (bu : By
           }
 
       -- A step's put is the route of its prefix.
-      put-is : (i : ℕ) (r : Route) → stepOf (S i) ≡ putting r → (S i .put ≡ true) × (r .addr ≡ prefixOf (S i)) × (r .len ≡ S i .len)
-      put-is i r e = go (S i .put) refl e
+      put-is : (i : ℕ) (r : Route) → stepOf (S i) ≡ putting r → (puts (S i .put) ≡ true) × (r .addr ≡ prefixOf (S i)) × (r .len ≡ S i .len)
+      put-is i r e = go (puts (S i .put)) refl e
         where
-          go : (b : Bool) → S i .put ≡ b → cond b (putting (route (prefixOf (S i)) (S i .len) (S i .hop))) (taking (prefixOf (S i)) (S i .len)) ≡ putting r
-              → (S i .put ≡ true) × (r .addr ≡ prefixOf (S i)) × (r .len ≡ S i .len)
+          go : (b : Bool) → puts (S i .put) ≡ b → cond b (putting (route (prefixOf (S i)) (S i .len) (S i .hop))) (taking (prefixOf (S i)) (S i .len)) ≡ putting r
+              → (puts (S i .put) ≡ true) × (r .addr ≡ prefixOf (S i)) × (r .len ≡ S i .len)
           go true q p = (q, cc, cc)
           go false q p = let z : _≡_ {A = ℕ} 0 1 = cc in absurd (omega arith)
 
       -- The step is come to.
       met-next : {i : ℕ} {p : Pass} → i < n → Done i → Tracked (prefixOf (S i)) i p
-          → Going (metOf t u n (passOf t u ToStep i 0 (length (T i)) i (prefixOf (S i)) (S i .len) (S i .put)) p (S i .put))
+          → Going (metOf t u n (passOf t u ToStep i 0 (length (T i)) i (prefixOf (S i)) (S i .len) (puts (S i .put))) p (puts (S i .put)))
       met-next {i} {p} lt d z = go (ltb 1024 k) refl
         where
           k : ℕ
-          k = countedOf (S i .put) (not (eqb (getD (p .hops) (S i .len) 0) noHop)) (length (T i))
+          k = countedOf (puts (S i .put)) (not (eqb (getD (p .hops) (S i .len) 0) noHop)) (length (T i))
 
           old-number : getD (row (rung 32 old (prefixOf (S i))) 0 33) (S i .len) 0 ≡ numberOf (entry old (prefixOf (S i)) (S i .len))
           old-number = row-hop (rung 32 old (prefixOf (S i))) (S i .len) (short i lt) ∙ ap numberOf (own-rung i old)
 
           fresh : Bool
-          fresh = S i .put && eqb (getD (row (rung 32 old (prefixOf (S i))) 0 33) (S i .len) 0) noHop
+          fresh = puts (S i .put) && eqb (getD (row (rung 32 old (prefixOf (S i))) 0 33) (S i .len) 0) noHop
 
           number-none : (v : Answer) → Small v → numberOf v ≡ noHop → v ≡ none
           number-none v s e = number-one v none s tt e
 
           on : (length (T (suc i)) ≡ k) × (can (stepOf (S i)) (T i) ≡ true) → k ≤ 1024 → (b : Bool) → fresh ≡ b
-              → Going (cond b (fromOf n (passOf t u ToStep i 0 (length (T i)) i (prefixOf (S i)) (S i .len) (S i .put)) p (length (T (suc i)))) (stepOrRecord t u n i (length (T (suc i)))))
+              → Going (cond b (fromOf n (passOf t u ToStep i 0 (length (T i)) i (prefixOf (S i)) (S i .len) (puts (S i .put))) p (length (T (suc i)))) (stepOrRecord t u n i (length (T (suc i)))))
           on right le true e =
-              let y = and-true (S i .put) _ e in
+              let y = and-true (puts (S i .put)) _ e in
               from-step lt d (record { able = right .1; fits = omega (arith, right .0) })
-              (record { puts = y .0; lacks = number-none (entry old (prefixOf (S i)) (S i .len)) (small-entry few (prefixOf (S i)) (S i .len)) (sym old-number ∙ eqb-true _ _ (y .1)) }) z
+              (record { puts-it = y .0; lacks = number-none (entry old (prefixOf (S i)) (S i .len)) (small-entry few (prefixOf (S i)) (S i .len)) (sym old-number ∙ eqb-true _ _ (y .1)) }) z
           on right le false e =
               steps-on lt (done-next lt d (record { able = right .1; fits = omega (arith, right .0) })
               (λ r q l. absurd (known r (put-is i r q) l)))
             where
-              known : (r : Route) → (S i .put ≡ true) × (r .addr ≡ prefixOf (S i)) × (r .len ≡ S i .len) → entry old (r .addr) (r .len) ≡ none → ⊥
+              known : (r : Route) → (puts (S i .put) ≡ true) × (r .addr ≡ prefixOf (S i)) × (r .len ≡ S i .len) → entry old (r .addr) (r .len) ≡ none → ⊥
               known r w l =
                   let l′ : entry old (prefixOf (S i)) (S i .len) ≡ none = ap₂ (entry old) (sym (w .1)) (sym (w .2)) ∙ l in
                   let f : eqb (getD (row (rung 32 old (prefixOf (S i))) 0 33) (S i .len) 0) noHop ≡ true = eq-eqb _ _ (old-number ∙ ap numberOf l′) in
                   true≢false (sym (ap₂ _&&_ (w .0) f) ∙ e)
 
           go : (b : Bool) → ltb 1024 k ≡ b
-              → Going (cond b (overOf No 0 0 n) (cond fresh (fromOf n (passOf t u ToStep i 0 (length (T i)) i (prefixOf (S i)) (S i .len) (S i .put)) p k) (stepOrRecord t u n i k)))
+              → Going (cond b (overOf No 0 0 n) (cond fresh (fromOf n (passOf t u ToStep i 0 (length (T i)) i (prefixOf (S i)) (S i .len) (puts (S i .put))) p k) (stepOrRecord t u n i k)))
           go true e = no-more (λ h. let s = count-small lt z k refl h in let g = ltb-true 1024 k e in omega arith)
           go false e =
               let le = ltb-false 1024 k e in
@@ -525,7 +522,7 @@ module _ (form : Form) (t u : List ℕ) (ss : List Step) (bt : Bytes t) (bu : By
           judged-by (behind-small (prefixOf (S i)) (S i .len)) (passing (behindOf (prefixOf (S i)) (S i .len)) n (omega arith)) (λ g.
           steps-on h (done-next h d a (λ r q none-there. moved-edge r (put-is i r q) (edged-by (route (prefixOf (S i)) (S i .len) 0) l (passing (behindOf (prefixOf (S i)) (S i .len)) n (omega arith)) g))))
         where
-          moved-edge : (r : Route) → (S i .put ≡ true) × (r .addr ≡ prefixOf (S i)) × (r .len ≡ S i .len) → Edged 32 old new moves (route (prefixOf (S i)) (S i .len) 0) → Edged 32 old new moves r
+          moved-edge : (r : Route) → (puts (S i .put) ≡ true) × (r .addr ≡ prefixOf (S i)) × (r .len ≡ S i .len) → Edged 32 old new moves (route (prefixOf (S i)) (S i .len) 0) → Edged 32 old new moves r
           moved-edge r w e =
               record { starts = rw (w .1) (e .starts); ends = rw (w .1, w .2) (e .ends); lands = rw (w .1, w .2) (e .lands) }
       goes (record-start {k = k} some h d rs) lt =
@@ -605,11 +602,11 @@ module _ (form : Form) (t u : List ℕ) (ss : List Step) (bt : Bytes t) (bu : By
       falls (zero-next some) lt = rank-cond (cameOut (passOf t u AtZero 0 0 (length (T 0)) n 0 0 false) .good) _ _ _ (omega arith) (omega arith)
       falls (pick-next {i = i} h d) lt = rank-cond (cameOut (pickingOf i (length (T i))) .good) _ _ _ (omega arith) (omega arith)
       falls (to-step {i = i} h d) lt =
-          let c : Check = passOf t u ToStep i 0 (length (T i)) i (prefixOf (S i)) (S i .len) (S i .put) in
+          let c : Check = passOf t u ToStep i 0 (length (T i)) i (prefixOf (S i)) (S i .len) (puts (S i .put)) in
           rank-cond (cameOut c .good) _ _ _
-          (rank-cond (ltb 1024 (countAt c (cameOut c) (S i .put))) _ _ _ (omega arith) (rank-cond (c .fresh) _ _ _ (omega arith) (rank-step i _ _ h (omega arith)))) (omega arith)
+          (rank-cond (ltb 1024 (countAt c (cameOut c) (puts (S i .put)))) _ _ _ (omega arith) (rank-cond (c .fresh) _ _ _ (omega arith) (rank-step i _ _ h (omega arith)))) (omega arith)
       falls (from-step {i = i} {p = p} h d a f z) lt =
-          let c : Check = fromOf n (passOf t u ToStep i 0 (length (T i)) i (prefixOf (S i)) (S i .len) (S i .put)) p (length (T (suc i))) in
+          let c : Check = fromOf n (passOf t u ToStep i 0 (length (T i)) i (prefixOf (S i)) (S i .len) (puts (S i .put))) p (length (T (suc i))) in
           rank-cond (cameOut c .good) _ _ _ (rank-cond (landsOf c (cameOut c)) _ _ _ (omega arith) (omega arith)) (omega arith)
       falls (step-end {i = i} h d a f l) lt =
           rank-cond (cameOut (passOf t u AtStepEnd i 0 (length (T (suc i))) n (behindOf (prefixOf (S i)) (S i .len)) (S i .len) false) .good) _ _ _ (rank-step i _ _ h (omega arith)) (omega arith)

@@ -3,12 +3,11 @@
 use Prim.Native.Nat.{ℕ, zero, suc, _+_, _-_, _*_, _/_, _^_, _≤_, _<_}
 use mathlib.Core.Path.{_≡_, refl, sym, ap, ap₂, subst, _∙_}
 use mathlib.Core.Bool.{Bool, true, false, cond, _||_, _&&_, true≢false, false≢true, or-true}
-use mathlib.Core.List.{List, [], _∷_, map}
+use mathlib.Core.List.{List, map}
 use mathlib.Core.Logic.{_⊎_, inl, inr}
 use native.Mathlib.Nat.{eq-or-lt-of-le}
-use native.Mathlib.Numerals.{add-one}
 use native.Mathlib.Omega.{arith}
-use lib.Dec.{eqb, leb, ltb}
+use lib.Dec.{eqb, ltb}
 use lib.ListN.{length, getD, set, length-set, length-map, List·getD-map}
 use lib.Seq.{getD-set-same, getD-set-other}
 use borrow.Author.Tests.{eqb-true, eqb-false, eq-eqb, ltb-true, ltb-false}
@@ -20,18 +19,18 @@ use Rattle.words.specs.Prefix.{agree}
 use Rattle.positions.specs.Runs.{noHop, orElse}
 use Rattle.records.specs.Wire.{route}
 use Rattle.steps.specs.Steps.{Step as Move, putting, taking, same, entry, apply, after, OldOrNew}
-use Rattle.steps.specs.Views.{stepped, rung, best}
-use Rattle.steps.proofs.Entries.{entry-step, entry-member, same-true, true-same, same-false}
+use Rattle.steps.specs.Views.{rung, best}
+use Rattle.steps.proofs.Entries.{entry-step, entry-member, true-same, same-false}
 use Rattle.steps.proofs.Rungs.{answer-best, best-alike}
-use Rattle.steps.proofs.Turns.{nth, after-step}
+use Rattle.steps.proofs.Turns.{after-step}
 use Rattle.rungs.specs.Rungs.{numberOf, row, topFrom}
 use Rattle.rungs.proofs.Rows.{row-length, row-hop, row-is, top-low, top-above, bare-above, Small, number-one, top-best}
 use Rattle.plans.specs.declared.answers.Step.{Step}
-use Rattle.plans.specs.declared.check.Pass.{Pass}
-use Rattle.plans.specs.Passes.{stepAt, leftOf, longerOf, hopsAfter, topAfter, passedOf, nextOf, followedOf}
-use Rattle.plans.specs.Checking.{topNumber, startPass}
+use Rattle.checking.specs.declared.Pass.{Pass}
+use Rattle.checking.specs.Passes.{puts, leftOf, longerOf, passedOf}
+use Rattle.plans.specs.Following.{stepAt, nextOf, followedOf}
+use Rattle.checking.specs.Checking.{topNumber, startPass}
 use Rattle.plans.specs.Judging.{stepOf}
-use Rattle.plans.proofs.Stepping.{followed-none, followed-next}
 
 -- A table whose hops are below noHop.
 abbrev pub Hopped : List Route → Type 0
@@ -81,13 +80,13 @@ module _ (a b c : Answer) (sa : Small a) (sb : Small b) (sc : Small c) where
 
 -- What a step leaves at its own prefix.
 abbrev pub leaves : Step → Answer
-leaves s = cond (s .put) (via (s .hop)) none
+leaves s = cond (puts (s .put)) (via (s .hop)) none
 
 abbrev pub prefixOf : Step → ℕ
 prefixOf s = startOf (32 - s .len) (s .addr)
 
 step-entry : (s : Step) (v : List Route) (a l : ℕ) → entry (apply (stepOf s) v) a l ≡ cond (same (prefixOf s) (s .len) a l) (leaves s) (entry v a l)
-step-entry s v a l = go (s .put)
+step-entry s v a l = go (puts (s .put))
   where
     go : (b : Bool) → entry (apply (cond b (putting (route (prefixOf s) (s .len) (s .hop))) (taking (prefixOf s) (s .len))) v) a l
         ≡ cond (same (prefixOf s) (s .len) a l) (cond b (via (s .hop)) none) (entry v a l)
@@ -124,7 +123,7 @@ module _ (old new : List Route) (ss : List Step) (from : Table 32 old) (to : Tab
   next-table : (k : ℕ) → k < length ss → T (suc k) ≡ apply (stepOf (stepAt ss k)) (T k)
   next-table k lt =
       after-step k (map stepOf ss) old (omega (arith, length-map ss stepOf))
-      ∙ ap (λ (s : Move). apply s (T k)) (List·getD-map stepOf ss k (record { addr = 0; len = 0; hop = 0; put = false }))
+      ∙ ap (λ (s : Move). apply s (T k)) (List·getD-map stepOf ss k (record { addr = 0; len = 0; hop = 0; put = 0; unread = 0 }))
 
   -- The pass p at x has followed k steps.
   pub record Tracks (x k : ℕ) (p : Pass) : Type 0 where
@@ -195,7 +194,7 @@ module _ (old new : List Route) (ss : List Step) (from : Table 32 old) (to : Tab
         go g j (inr h) = z .good g j (omega arith)
 
     -- It does: its rung is set.
-    tracks-held : agree 32 (s .len) x (s .addr) ≡ true → Tracks x (suc k) (passedOf p (s .put) (s .len) (s .hop))
+    tracks-held : agree 32 (s .len) x (s .addr) ≡ true → Tracks x (suc k) (passedOf p (puts (s .put)) (s .len) (s .hop))
     tracks-held e =
         record {
           at = z .at;
@@ -208,7 +207,7 @@ module _ (old new : List Route) (ss : List Step) (from : Table 32 old) (to : Tab
         }
       where
         now : List ℕ
-        now = set (p .hops) (s .len) (leftOf (s .put) (s .hop))
+        now = set (p .hops) (s .len) (leftOf (puts (s .put)) (s .hop))
 
         left-number : (b : Bool) → leftOf b (s .hop) ≡ numberOf (cond b (via (s .hop)) none)
         left-number true = refl
@@ -217,13 +216,13 @@ module _ (old new : List Route) (ss : List Step) (from : Table 32 old) (to : Tab
         at-length : (l : ℕ) → l ≤ 32 → (b : Bool) → eqb (s .len) l ≡ b → getD now l 0 ≡ numberOf (cond (b && true) (leaves s) (rung 32 (T k) x l))
         at-length l le true q =
             let d = eqb-true (s .len) l q in
-            rw (sym d) (getD-set-same (p .hops) (s .len) (leftOf (s .put) (s .hop)) 0 (omega (arith, size, short k lt)) ∙ left-number (s .put))
+            rw (sym d) (getD-set-same (p .hops) (s .len) (leftOf (puts (s .put)) (s .hop)) 0 (omega (arith, size, short k lt)) ∙ left-number (puts (s .put)))
         at-length l le false q =
-            getD-set-other (p .hops) (s .len) l (leftOf (s .put) (s .hop)) 0 (λ y. eqb-false (s .len) l q (sym y)) ∙ hop-at l le
+            getD-set-other (p .hops) (s .len) l (leftOf (puts (s .put)) (s .hop)) 0 (λ y. eqb-false (s .len) l q (sym y)) ∙ hop-at l le
 
         row-now : now ≡ row (rung 32 (T (suc k)) x) 0 33
         row-now =
-            row-is (rung 32 (T (suc k)) x) now (length-set (p .hops) (s .len) (leftOf (s .put) (s .hop)) ∙ size)
+            row-is (rung 32 (T (suc k)) x) now (length-set (p .hops) (s .len) (leftOf (puts (s .put)) (s .hop)) ∙ size)
             (λ l le. at-length l le (eqb (s .len) l) refl
             ∙ sym (ap numberOf (rung-next l ∙ ap (λ (b : Bool). cond (eqb (s .len) l && b) (leaves s) (rung 32 (T k) x l)) e)))
 
@@ -241,7 +240,7 @@ module _ (old new : List Route) (ss : List Step) (from : Table 32 old) (to : Tab
             let le : up ≤ 32 = u .2 in
             let d : 32 ≡ up + (32 - up) = omega arith in
             sym (ap (topFrom now) d ∙ top-above now up (32 - up) (λ l gt up′.
-            getD-set-other (p .hops) (s .len) l (leftOf (s .put) (s .hop)) 0 (λ y. omega (arith, u .1)) ∙ bare-above (p .hops) 32 l (omega (arith, u .0, z .top)) (omega arith)))
+            getD-set-other (p .hops) (s .len) l (leftOf (puts (s .put)) (s .hop)) 0 (λ y. omega (arith, u .1)) ∙ bare-above (p .hops) 32 l (omega (arith, u .0, z .top)) (omega arith)))
 
         number : getD now (topFrom now up) 0 ≡ numberOf (answer 32 (T (suc k)) x)
         number =
@@ -276,7 +275,7 @@ module _ (old new : List Route) (ss : List Step) (from : Table 32 old) (to : Tab
     pub tracks-next : Tracks x (suc k) (nextOf p s)
     tracks-next = go (agree 32 (s .len) (p .x) (s .addr)) refl
       where
-        go : (b : Bool) → agree 32 (s .len) (p .x) (s .addr) ≡ b → Tracks x (suc k) (cond b (passedOf p (s .put) (s .len) (s .hop)) p)
+        go : (b : Bool) → agree 32 (s .len) (p .x) (s .addr) ≡ b → Tracks x (suc k) (cond b (passedOf p (puts (s .put)) (s .len) (s .hop)) p)
         go true e = tracks-held (ap (λ (y : ℕ). agree 32 (s .len) y (s .addr)) (sym (z .at)) ∙ e)
         go false e = tracks-other (ap (λ (y : ℕ). agree 32 (s .len) y (s .addr)) (sym (z .at)) ∙ e)
 

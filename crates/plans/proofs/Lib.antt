@@ -1,7 +1,11 @@
--- The laws of plans: one step at one address, the steps followed there, the rules, what a check finds out; and what its statement settles.
-pub mod Stepping
+-- The laws of plans: the steps followed at an address, the rules, what a check finds out; what its statement settles, and which refusals it gives.
+pub mod Followed
 pub mod Following
 pub mod Rules
 pub mod Deciding
 pub mod Checked
 pub mod Calls
+pub mod Tested
+pub mod Refusals
+pub mod Masking
+pub mod Wrong

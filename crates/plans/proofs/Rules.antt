@@ -1,24 +1,25 @@
 -- The rules of the two tables and of the steps, one after the other. Assumes nothing.
 use Prim.Native.Nat.{ℕ, zero, suc, _+_, _<_}
-use mathlib.Core.Path.{_≡_, refl, sym, ap, _∙_}
+use mathlib.Core.Path.{_≡_, refl, ap, _∙_}
 use mathlib.Core.Bool.{Bool, true, false}
-use mathlib.Core.List.{List, [], _∷_, _++_, map}
+use mathlib.Core.List.{List, [], _∷_, map}
 use native.Mathlib.Omega.{arith}
 use lib.ListN.{length}
-use Rattle.refusals.specs.Rules.{Rule, rule, gives, refuses, judge}
+use Rattle.refusals.specs.Rules.{Rule, gives, refuses, judge}
 use Rattle.refusals.proofs.Judged.{all-next, some-here}
 use Rattle.records.specs.Wire.{records}
 use Rattle.records.specs.declared.Form.{Form}
 use Rattle.table.specs.Checking.{checkReply}
 use Rattle.table.specs.TableRules.{tableRules}
 use Rattle.plans.specs.declared.answers.Step.{Step}
-use Rattle.plans.specs.Passes.{stepAt}
-use Rattle.plans.specs.Checking.{stepKept}
+use Rattle.checking.specs.Passes.{puts}
+use Rattle.plans.specs.Following.{stepAt}
+use Rattle.checking.specs.Checking.{stepKept}
 use Rattle.plans.specs.Judging.{stepRules, ofNew, tablesRules, checkRules}
 
 -- Does the step keep rule 13?
 abbrev pub kept : Form → Step → Bool
-kept form s = stepKept (form .strict) (s .put) (s .addr) (s .len) (s .hop)
+kept form s = stepKept (form .strict) (puts (s .put)) (s .addr) (s .len) (s .hop)
 
 -- ---- Numbers by 20 higher.
 

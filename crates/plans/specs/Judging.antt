@@ -14,16 +14,17 @@ use Rattle.steps.specs.Steps as steps
 use Rattle.plans.specs.declared.answers.Step.{Step}
 use Rattle.plans.specs.declared.answers.Judged.{Judged}
 use Rattle.plans.specs.declared.answers.Judged.the-variants.{Yes, No, Refused}
-use Rattle.plans.specs.Checking.{stepKept}
+use Rattle.checking.specs.Passes.{puts}
+use Rattle.checking.specs.Checking.{stepKept}
 
 -- The step that a struct stands for: its address is masked, and a take's hop is not read.
 abbrev pub stepOf : Step → steps.Step
-stepOf s = cond (s .put) (putting (route (startOf (32 - s .len) (s .addr)) (s .len) (s .hop))) (taking (startOf (32 - s .len) (s .addr)) (s .len))
+stepOf s = cond (puts (s .put)) (putting (route (startOf (32 - s .len) (s .addr)) (s .len) (s .hop))) (taking (startOf (32 - s .len) (s .addr)) (s .len))
 
 -- Rule 13 for the steps from step i on.
 unfoldable pub stepRules : Form → ℕ → List Step → List Rule
 stepRules form i [] = []
-stepRules form i (s ∷ ss) = rule 13 i (stepKept (form .strict) (s .put) (s .addr) (s .len) (s .hop)) ∷ stepRules form (suc i) ss
+stepRules form i (s ∷ ss) = rule 13 i (stepKept (form .strict) (puts (s .put)) (s .addr) (s .len) (s .hop)) ∷ stepRules form (suc i) ss
 
 -- The same faults in the new table: numbers by 20 higher.
 abbrev pub ofNew : Rule → Rule

@@ -1,4 +1,4 @@
--- Plans, in the order to read them: what the checker's answer says; how it goes: the steps followed at an address, and what comes after what.
+-- Plans, in the order to read them: what the checker's answer says, and when it refuses; how the check is run.
 pub mod Judging
-pub mod Passes
-pub mod Checking
+pub mod Conditions
+pub mod Following

@@ -1,20 +1,20 @@
 // Changing an installed table by single steps: the checker of a plan, which alone is believed.
 
 pub mod answers;
-pub mod check;
 
 use answers::Judged;
 use answers::Step;
-use check::Pass;
-use check::begin;
-use check::holds;
-use check::passed;
-use check::see;
-use check::verdict;
+use checking::Check;
+use checking::Pass;
+use checking::Stage;
+use checking::begin;
+use checking::holds;
+use checking::passed;
+use checking::see;
 use records::Form;
 ghost use mathlib.Core.Path.{_≡_};
 ghost use Prim.Native.Nat.{_-_};
-ghost use Rattle.plans.specs.Passes.{followedOf, MayFollow};
+ghost use Rattle.plans.specs.Following.{followedOf, MayFollow, verdictOf};
 ghost use Rattle.plans.specs.Judging.{Judges};
 
 // Follows the steps from..to at the address of a pass.
@@ -32,6 +32,29 @@ fn follow(steps: &[Step], from: usize, to: usize, pass: Pass) -> Pass
         at += 1;
     }
     p
+}
+
+// What the check says in the end.
+fn verdict(c: Check) -> Judged
+    ensures { λ r. ⌜ r ≡ verdictOf c ⌝ }
+{
+    let stage = c.stage;
+    match stage {
+        Stage::Yes => Judged::Yes,
+        Stage::Refused => Judged::Refused {
+            number: c.number,
+            index: c.place,
+        },
+        Stage::No => Judged::No,
+        Stage::Judging => Judged::No,
+        Stage::AtZero => Judged::No,
+        Stage::Picking => Judged::No,
+        Stage::ToStep => Judged::No,
+        Stage::FromStep => Judged::No,
+        Stage::AtStepEnd => Judged::No,
+        Stage::AtRecordStart => Judged::No,
+        Stage::AtRecordEnd => Judged::No,
+    }
 }
 
 // Do the steps change the installed table to the new one without a detour? Yes, no, or the refusal (3 to 8, 23 to 28, 13).

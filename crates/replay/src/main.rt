@@ -5,18 +5,67 @@
 
 use libc::STDIN_FILENO;
 use replaying::Turn;
+use replaying::call_of;
 use replaying::cases::case_turn;
 use replaying::join2;
 use replaying::last_line;
+use replaying::plan_cases::check_turn;
+use replaying::plan_cases::plan_turn;
 use replaying::send;
 use replaying::turns_left;
 ghost use mathlib.Core.Path.{_≡_};
 ghost use Prim.Native.Nat.{_≤_};
 ghost use lib.ListN.{length};
 
+// Reads what stands behind the installed table in a case with call 7 or 8, the new table and, with call 7, the steps, and keeps its answer, or the line that
+// ends the run.
+fn steps_turn(
+    head: &[u8; 16],
+    installed: &[u8],
+    new: &mut [u8],
+    steps: &mut [u8],
+    at: usize,
+    kept: &mut [u8],
+) -> Turn
+    requires { ⌜ 65535 ≡ length (now new) ⌝ }
+    requires { ⌜ 524280 ≡ length (now steps) ⌝ }
+    requires { ⌜ at ≤ length (now kept) ⌝ }
+    requires { ⌜ 1048576 ≤ length (now kept) ⌝ }
+    ensures { λ r. ⌜ r .at ≤ length (now (kept .entry)) ⌝ }
+{
+    let size = join2(head[8], head[9]);
+    if io::read_full(STDIN_FILENO, &mut new[..size]) < size {
+        return last_line(b"case cut short\n", at, kept);
+    }
+    if call_of(head[0]) == 8 {
+        return Turn {
+            at: plan_turn(head, installed, &new[..size], at, kept),
+            more: true,
+        };
+    }
+    let all = 8 * join2(head[10], head[11]);
+    if io::read_full(STDIN_FILENO, &mut steps[..all]) < all {
+        return last_line(b"case cut short\n", at, kept);
+    }
+    Turn {
+        at: check_turn(head, installed, &new[..size], &steps[..all], at, kept),
+        more: true,
+    }
+}
+
 // Reads a case and keeps its answer, or the line that ends the run.
-fn turn(table: &mut [u8], output: &mut [u8], work: &mut [u32], at: usize, kept: &mut [u8]) -> Turn
+fn turn(
+    table: &mut [u8],
+    new: &mut [u8],
+    steps: &mut [u8],
+    output: &mut [u8],
+    work: &mut [u32],
+    at: usize,
+    kept: &mut [u8],
+) -> Turn
     requires { ⌜ 65535 ≡ length (now table) ⌝ }
+    requires { ⌜ 65535 ≡ length (now new) ⌝ }
+    requires { ⌜ 524280 ≡ length (now steps) ⌝ }
     requires { ⌜ 262144 ≡ length (now output) ⌝ }
     requires { ⌜ 824480 ≡ length (now work) ⌝ }
     requires { ⌜ at ≤ length (now kept) ⌝ }
@@ -38,19 +87,35 @@ fn turn(table: &mut [u8], output: &mut [u8], work: &mut [u32], at: usize, kept: 
     if io::read_full(STDIN_FILENO, &mut table[..size]) < size {
         return last_line(b"case cut short\n", at, kept);
     }
+    let call = call_of(head[0]);
+    if 6 < call {
+        if call < 9 {
+            return steps_turn(&head, &table[..size], new, steps, at, kept);
+        }
+    }
     case_turn(&head, &table[..size], output, work, at, kept)
 }
 
 // A proved loop has to end, so the turns are counted down from a number that no input uses up.
 fn main() {
     let mut table = [0u8; 65535];
+    let mut new = [0u8; 65535];
+    let mut steps = [0u8; 524280];
     let mut output = [0u8; 262144];
     let mut work = [0u32; 824480];
     let mut kept = [0u8; 1048576];
     let mut at: usize = 0;
     let mut turns = u64::MAX;
     while turns > 0 {
-        let next = turn(&mut table, &mut output, &mut work, at, &mut kept);
+        let next = turn(
+            &mut table,
+            &mut new,
+            &mut steps,
+            &mut output,
+            &mut work,
+            at,
+            &mut kept,
+        );
         at = next.at;
         turns = turns_left(turns, next.more);
     }

@@ -4,6 +4,7 @@
 pub mod cases;
 mod chip_cases;
 mod counted;
+pub mod plan_cases;
 mod special_cases;
 
 use libc::STDOUT_FILENO;

@@ -1,182 +1,178 @@
--- The climb's invariant: the numbers at the lengths passed are right, the others bare, and the run that is left has the entries of the other lengths.
--- Assumes nothing.
-use Prim.Native.Nat.{ℕ, suc, _+_, _-_, _^_, _≤_, _<_}
+-- The climb's invariant: the numbers are those of the records from one on. Assumes nothing.
+use Prim.Native.Nat.{ℕ, zero, suc, _+_, _-_, _≤_, _<_}
 use mathlib.Core.Path.{_≡_, refl, sym, ap, ap₂, _∙_}
 use mathlib.Core.Bool.{Bool, true, false, cond, _&&_, true≢false}
-use mathlib.Core.List.{List, [], _∷_}
+use mathlib.Core.List.{List, _∷_}
 use mathlib.Core.Logic.{_⊎_, inl, inr}
 use native.Mathlib.Decide.{decLt}
-use native.Mathlib.Nat.{eq-or-lt-of-le}
 use native.Mathlib.Omega.{arith}
-use lib.Dec.{eqb}
+use lib.Dec.{eqb, ltb}
 use lib.ListN.{length, getD, set, replicate, length-set, length-replicate, getD-replicate}
 use lib.Seq.{getD-set-same, getD-set-other}
-use borrow.Author.Tests.{eqb-true, eqb-false, le-leb}
-use Rattle.theory.specs.Results.{In, startOf}
-use Rattle.theory.specs.Routes.{Route, matches, Answer, none, via, Valid, All, cons, Before, Table}
-use Rattle.theory.specs.Shapes.{Within}
-use Rattle.theory.proofs.Blocks.{pow-pos, start-is}
+use borrow.Author.Tests.{eqb-true, eqb-false, le-leb, ltb-true}
+use Rattle.theory.specs.Results.{startOf}
+use Rattle.theory.specs.Routes.{Route, matches, via, Valid, Before, Table, Ascending}
+use Rattle.theory.proofs.Blocks.{pow-pos, in-nested, in-start, aligned-start}
 use Rattle.words.specs.Prefix.{within}
-use Rattle.positions.specs.Runs.{noHop, own}
+use Rattle.positions.specs.Runs.{noHop}
 use Rattle.records.specs.Wire.{records, routeAt, routes}
-use Rattle.runs.specs.Runs.{run, RunAt, PastOwn, with-own, without}
-use Rattle.runs.proofs.Halves.{whole-run, record-within, own-none, own-hop}
-use Rattle.runs.proofs.Records.{run-whole, run-none, run-first, run-before}
-use Rattle.steps.specs.Steps.{same, entry}
+use Rattle.runs.specs.Runs.{run}
+use Rattle.runs.proofs.Halves.{whole-run, record-within}
+use Rattle.runs.proofs.Records.{run-whole, run-none, run-first, run-before, run-rises}
+use Rattle.steps.specs.Steps.{entry}
 use Rattle.steps.specs.Views.{rung}
 use Rattle.steps.proofs.Entries.{same-false, true-same}
 use Rattle.steps.proofs.Rungs.{match-start, start-match}
-use Rattle.rungs.specs.declared.Span.{Span}
-use Rattle.rungs.specs.Rungs.{numberOf, row, Halved}
+use Rattle.rungs.specs.Rungs.{numberOf, row, Behind, Skipped}
 use Rattle.rungs.proofs.Rows.{row-is}
-use Rattle.rungs.proofs.Halves.{own-entry}
 
-pub record Climbing (t : List ℕ) (x : ℕ) (hops : List ℕ) (lo hi start len : ℕ) : Type 0 where
+-- The start of a shorter prefix is not behind that of a longer one.
+start-rises : (n m x : ℕ) → m ≤ n → startOf n x ≤ startOf m x
+start-rises n m x le = in-nested m n (startOf n x) x (startOf m x) le (aligned-start n x) (in-start n x) (omega arith, omega (arith, pow-pos m)) .0
+
+-- ---- Records behind a prefix.
+
+-- What the test of one says.
+pub past-says : {a l m d : ℕ} {b : Bool} → b ≡ cond (eqb a m) (ltb d l) (ltb m a) → b ≡ true → (m < a) ⊎ ((m ≡ a) × (d < l))
+past-says {a} {l} {m} {d} e q = go (eqb a m) refl (sym e ∙ q)
+  where
+    go : (c : Bool) → eqb a m ≡ c → cond c (ltb d l) (ltb m a) ≡ true → (m < a) ⊎ ((m ≡ a) × (d < l))
+    go true p y = inr (sym (eqb-true a m p), ltb-true d l y)
+    go false p y = inl (ltb-true m a y)
+
+-- Behind a record that stands behind a prefix the others do, too.
+pub past-later : (t : List ℕ) (m d i j : ℕ) → Table 32 (routes t) → i ≤ j → j < records t
+    → (m < routeAt t i .addr) ⊎ ((m ≡ routeAt t i .addr) × (d < routeAt t i .len))
+    → (m < routeAt t j .addr) ⊎ ((m ≡ routeAt t j .addr) × (d < routeAt t j .len))
+past-later t m d i j table le lt p = go (decLt i j)
+  where
+    order : Ascending (run t 0 (records t))
+    order = rw (run-whole t) (table .order)
+
+    next : Before (routeAt t i) (routeAt t j) → (m < routeAt t i .addr) ⊎ ((m ≡ routeAt t i .addr) × (d < routeAt t i .len))
+        → (m < routeAt t j .addr) ⊎ ((m ≡ routeAt t j .addr) × (d < routeAt t j .len))
+    next (inl h) (inl q) = inl (omega arith)
+    next (inl h) (inr q) = inl (omega (arith, q .0))
+    next (inr h) (inl q) = inl (omega (arith, h .0))
+    next (inr h) (inr q) = inr (q .0 ∙ h .0, omega (arith, q .1, h .1))
+
+    go : Dec (i < j) → (m < routeAt t j .addr) ⊎ ((m ≡ routeAt t j .addr) × (d < routeAt t j .len))
+    go (yes h) = next (run-before t 0 (records t) i j order (omega arith) h lt) p
+    go (no h) = let e : i ≡ j = omega arith in rw e at p
+
+-- ---- Records that are passed over.
+module _ {t : List ℕ} {k x r : ℕ} where
+  -- Right of x.
+  pub skip-right : Behind t k x 32 r → Skipped t k x r
+  skip-right z = record { high = z .high; other = λ i ge lt l le e q. go l le (z .past i ge lt) e q }
+    where
+      go : {a n : ℕ} (l : ℕ) → l ≤ 32 → (x < a) ⊎ ((x ≡ a) × (32 < n)) → a ≡ startOf (32 - l) x → n ≡ l → ⊥
+      go l le (inl h) e q = omega (arith, in-start (32 - l) x .0)
+      go l le (inr h) e q = omega (arith, h .1)
+
+  -- Left of x: longer prefixes of x start behind record k.
+  pub skip-left : {d : ℕ} → Table 32 (routes t) → k < records t → d < 32 → routeAt t k .addr < startOf (32 - (d + 1)) x → Behind t k (startOf (32 - d) x) d r → Skipped t k x r
+  skip-left {d} table up short left z =
+      record { high = z .high; other = λ i ge lt l le e q. go l le (z .past i ge lt) (run-rises t 0 (records t) i k order (omega arith) (omega arith) up) e q (decLt d l) }
+    where
+      order : Ascending (run t 0 (records t))
+      order = rw (run-whole t) (table .order)
+
+      go : {a n : ℕ} (l : ℕ) → l ≤ 32 → (startOf (32 - d) x < a) ⊎ ((startOf (32 - d) x ≡ a) × (d < n)) → a ≤ routeAt t k .addr → a ≡ startOf (32 - l) x → n ≡ l → Dec (d < l) → ⊥
+      go l le p up′ e q (yes h) = let s = start-rises (32 - (d + 1)) (32 - l) x (omega arith) in omega arith
+      go l le (inl h) up′ e q (no ge) = let s = start-rises (32 - l) (32 - d) x (omega arith) in omega arith
+      go l le (inr h) up′ e q (no ge) = omega (arith, h .1)
+
+  -- None.
+  pub skip-none : k ≡ r → Skipped t k x r
+  skip-none e = record { high = omega arith; other = λ i ge lt. absurd (omega arith) }
+
+-- ---- The invariant.
+
+pub record Climbing (t : List ℕ) (x : ℕ) (hops : List ℕ) (k : ℕ) : Type 0 where
   pub size : length hops ≡ 33
-  pub short : len ≤ 32
-  pub run-at : RunAt 32 t lo hi (32 - len) start
-  pub holds : In (32 - len) start x
-  pub shown : (l : ℕ) → l < len → getD hops l 0 ≡ numberOf (rung 32 (routes t) x l)
-  pub bare : (l : ℕ) → len ≤ l → l ≤ 32 → getD hops l 0 ≡ noHop
-  pub rest : (l : ℕ) → len ≤ l → l ≤ 32 → entry (run t lo hi) (startOf (32 - l) x) l ≡ rung 32 (routes t) x l
+  pub high : k ≤ records t
+  pub shown : (l : ℕ) → l ≤ 32 → getD hops l 0 ≡ numberOf (entry (run t k (records t)) (startOf (32 - l) x) l)
 
-pub climbing-start : (t : List ℕ) (x : ℕ) → Table 32 (routes t) → x < 2 ^ 32 → Climbing t x (replicate 33 noHop) 0 (records t) 0 0
-climbing-start t x table small =
+pub climbing-start : (t : List ℕ) (x : ℕ) → Climbing t x (replicate 33 noHop) (records t)
+climbing-start t x =
     record {
       size = length-replicate 33 noHop;
-      short = omega arith;
-      run-at = whole-run 32 table;
-      holds = (omega arith, omega arith);
-      shown = λ l lt. absurd (omega arith);
-      bare = λ l le up. getD-replicate 33 l noHop 0 (omega arith);
-      rest = λ l le up. ap (λ (u : List Route). entry u (startOf (32 - l) x) l) (run-whole t);
+      high = omega arith;
+      shown = λ l le. getD-replicate 33 l noHop 0 (omega arith) ∙ ap (λ (u : List Route). numberOf (entry u (startOf (32 - l) x) l)) (sym (run-none t (records t) (records t) (omega arith)));
     }
 
-module _ {t : List ℕ} {x : ℕ} {hops : List ℕ} {lo hi start len : ℕ} (z : Climbing t x hops lo hi start len) where
-  -- Two records do not stand at one address with length 32.
-  pub climbing-short : lo + 1 < hi → len < 32
-  climbing-short lt = go (eq-or-lt-of-le (z .short))
-    where
-      go : (len ≡ 32) ⊎ (len < 32) → len < 32
-      go (inr h) = h
-      go (inl e) =
-          let n : 32 - len ≡ 0 = omega arith in
-          let at : RunAt 32 t lo hi 0 start = rw n at (z .run-at) in
-          let a = record-within at lo (omega arith) (omega arith) in
-          let b = record-within at (lo + 1) (omega arith) lt in
-          absurd (apart (run-before t lo hi lo (lo + 1) (at .lies .table .order) (omega arith) (omega arith) lt) a b)
-        where
-          apart : Before (routeAt t lo) (routeAt t (lo + 1)) → Within 32 0 start (routeAt t lo)
-              → Within 32 0 start (routeAt t (lo + 1)) → ⊥
-          apart (inl h) a b = omega (arith, a .low, b .high, pow-pos (32 - routeAt t (lo + 1) .len))
-          apart (inr h) a b = omega (arith, a .deep, b .short)
+-- Records that are not a prefix change nothing there.
+entry-skip : (t : List ℕ) (a l n r : ℕ) → r + n ≤ records t → ((i : ℕ) → r ≤ i → i < r + n → routeAt t i .addr ≡ a → routeAt t i .len ≡ l → ⊥)
+    → entry (run t r (records t)) a l ≡ entry (run t (r + n) (records t)) a l
+entry-skip t a l zero r le f = let e : r ≡ r + 0 = omega arith in ap (λ (k : ℕ). entry (run t k (records t)) a l) e
+entry-skip t a l (suc n) r le f =
+    let e : suc r + n ≡ r + suc n = omega arith in
+    ap (λ (u : List Route). entry u a l) (run-first t r (records t) (omega arith))
+    ∙ ap (λ (b : Bool). cond b (via (routeAt t r .hop)) (entry (run t (suc r) (records t)) a l)) (same-false (routeAt t r .addr) (routeAt t r .len) a l (f r (omega arith) (omega arith)))
+    ∙ entry-skip t a l n (suc r) (omega arith) (λ i ge lt. f i (omega arith) (omega arith))
+    ∙ ap (λ (k : ℕ). entry (run t k (records t)) a l) e
 
-  start-of : startOf (32 - len) x ≡ start
-  start-of = start-is (32 - len) start x (z .run-at .lies .aligned) (z .holds)
+module _ {t : List ℕ} {x : ℕ} {hops : List ℕ} {k : ℕ} (z : Climbing t x hops k) where
+  pub climbing-end : k ≤ 0 → hops ≡ row (rung 32 (routes t) x) 0 33
+  climbing-end le =
+      let e : k ≡ 0 = omega arith in
+      row-is (rung 32 (routes t) x) hops (z .size) (λ l up. z .shown l up
+      ∙ ap (λ (u : List Route). numberOf (entry u (startOf (32 - l) x) l)) (ap (λ (j : ℕ). run t j (records t)) e ∙ run-whole t))
 
-  -- The number of the position's own record.
-  own-number : lo < hi → cond (eqb (routeAt t lo .len) len) (routeAt t lo .hop) noHop ≡ numberOf (rung 32 (routes t) x len)
-  own-number lt =
-      let le = z .short in
-      let n : 32 - (32 - len) ≡ len = omega arith in
-      let here : own 32 (32 - len) start (run t lo hi) ≡ rung 32 (routes t) x len =
-      own-entry 32 (32 - len) start (run t lo hi) ∙ ap (entry (run t lo hi) start) n ∙ ap (λ (a : ℕ). entry (run t lo hi) a len) (sym start-of)
-      ∙ z .rest len (omega arith) le in
-      go n here (eqb (routeAt t lo .len) len) refl
-    where
-      go : 32 - (32 - len) ≡ len → own 32 (32 - len) start (run t lo hi) ≡ rung 32 (routes t) x len → (b : Bool) → eqb (routeAt t lo .len) len ≡ b
-          → cond b (routeAt t lo .hop) noHop ≡ numberOf (rung 32 (routes t) x len)
-      go n here true e =
-          ap numberOf (sym (own-hop (z .run-at) {first = lo + 1} (with-own lt (eqb-true (routeAt t lo .len) len e ∙ sym n)) (omega arith)) ∙ here)
-      go n here false e =
-          ap numberOf (sym (own-none (z .run-at) {first = lo} (without (λ l q. eqb-false (routeAt t lo .len) len e (q ∙ n))) refl) ∙ here)
-
-  pub climbing-next : lo + 1 < hi → {r : Span} → Halved t lo hi len x r
-      → Climbing t x (set hops len (cond (eqb (routeAt t lo .len) len) (routeAt t lo .hop) noHop)) (r .lo) (r .hi) (r .start) (len + 1)
-  climbing-next lt {r} h =
-      let short = climbing-short lt in
-      let n : 31 - len ≡ 32 - (len + 1) = omega arith in
-      let v : ℕ = cond (eqb (routeAt t lo .len) len) (routeAt t lo .hop) noHop in
-      record {
-        size = length-set hops len v ∙ z .size;
-        short = omega arith;
-        run-at = rw n at (h .run-at);
-        holds = rw n at (h .holds);
-        shown = λ l lt. shown′ l (eq-or-lt-of-le lt);
-        bare = λ l le up. getD-set-other hops len l v 0 (λ q. omega arith) ∙ z .bare l (omega arith) up;
-        rest = λ l le up. h .same l (omega arith) up ∙ z .rest l (omega arith) up;
-      }
-    where
-      v : ℕ
-      v = cond (eqb (routeAt t lo .len) len) (routeAt t lo .hop) noHop
-
-      shown′ : (l : ℕ) → (suc l ≡ len + 1) ⊎ (suc l < len + 1) → getD (set hops len v) l 0 ≡ numberOf (rung 32 (routes t) x l)
-      shown′ l (inl q) =
-          let e : len ≡ l = omega arith in
-          rw (sym e) (getD-set-same hops len v 0 (omega (arith, z .size, z .short)) ∙ own-number (omega arith))
-      shown′ l (inr p) = getD-set-other hops len l v 0 (λ q. omega arith) ∙ z .shown l (omega arith)
-
-  -- ---- The end.
-
-  -- The lengths passed are right in any list that has these numbers there; the others are the run's.
-  ended : (end : List ℕ) → length end ≡ 33 → ((l : ℕ) → l < len → getD end l 0 ≡ getD hops l 0)
-      → ((l : ℕ) → len ≤ l → l ≤ 32 → getD end l 0 ≡ numberOf (entry (run t lo hi) (startOf (32 - l) x) l)) → end ≡ row (rung 32 (routes t) x) 0 33
-  ended end size low high = row-is (rung 32 (routes t) x) end size (λ l le. go l le (decLt l len))
-    where
-      go : (l : ℕ) → l ≤ 32 → Dec (l < len) → getD end l 0 ≡ numberOf (rung 32 (routes t) x l)
-      go l le (yes lt) = low l lt ∙ z .shown l lt
-      go l le (no ge) = high l (omega arith) le ∙ ap numberOf (z .rest l (omega arith) le)
-
-  pub climbing-none : hi ≤ lo → hops ≡ row (rung 32 (routes t) x) 0 33
-  climbing-none le =
-      ended hops (z .size) (λ l lt. refl)
-      (λ l ge up. z .bare l ge up ∙ ap (λ (u : List Route). numberOf (entry u (startOf (32 - l) x) l)) (sym (run-none t lo hi le)))
-
-  module _ (one : hi ≤ lo + 1) (some : lo < hi) where
-    run-is : run t lo hi ≡ routeAt t lo ∷ []
-    run-is = run-first t lo hi some ∙ ap (λ (u : List Route). routeAt t lo ∷ u) (run-none t (suc lo) hi (omega arith))
-
-    valid : Valid 32 (routeAt t lo)
-    valid = first (rw run-is at (z .run-at .lies .table .valid))
+  module _ {last : ℕ} (is : last + 1 ≡ k) where
+    -- The last record is no prefix of x, nor are those passed over.
+    pub climbing-skip : {r : ℕ} → matches 32 (routeAt t last) x ≡ false → Skipped t last x r → Climbing t x hops r
+    climbing-skip {r} e s =
+        let n : r + (k - r) ≡ k = omega (arith, s .high) in
+        record {
+          size = z .size;
+          high = omega (arith, s .high, z .high);
+          shown = λ l le. z .shown l le ∙ ap numberOf (sym (entry-skip t (startOf (32 - l) x) l (k - r) r (omega (arith, z .high)) (λ i ge lt p q. go i ge lt l le p q (decLt i last))
+              ∙ ap (λ (j : ℕ). entry (run t j (records t)) (startOf (32 - l) x) l) n));
+        }
       where
-        first : All (Valid 32) (routeAt t lo ∷ []) → Valid 32 (routeAt t lo)
-        first (cons v vs) = v
+        go : (i : ℕ) → r ≤ i → i < r + (k - r) → (l : ℕ) → l ≤ 32 → routeAt t i .addr ≡ startOf (32 - l) x → routeAt t i .len ≡ l → Dec (i < last) → ⊥
+        go i ge lt l le p q (yes h) = s .other i ge h l le p q
+        go i ge lt l le p q (no h) =
+            let y : i ≡ last = omega (arith, s .high) in
+            true≢false (sym (start-match 32 (routeAt t last) x (ap (λ (j : ℕ). routeAt t j .addr) (sym y) ∙ p ∙ ap (λ (m : ℕ). startOf (32 - m) x) (sym q ∙ ap (λ (j : ℕ). routeAt t j .len) y))) ∙ e)
 
-    pub last-short : routeAt t lo .len ≤ 32
-    last-short = valid .short
-
-    last-deep : len ≤ routeAt t lo .len
-    last-deep = omega (arith, record-within (z .run-at) lo (omega arith) some .deep, z .short)
-
-    pub climbing-other : matches 32 (routeAt t lo) x ≡ false → hops ≡ row (rung 32 (routes t) x) 0 33
-    climbing-other e =
-        ended hops (z .size) (λ l lt. refl) (λ l ge up. z .bare l ge up ∙ ap numberOf (sym (nothing l)) ∙ ap (λ (u : List Route). numberOf (entry u (startOf (32 - l) x) l)) (sym run-is))
+    -- It is one: its number is set.
+    pub climbing-held : Valid 32 (routeAt t last) → matches 32 (routeAt t last) x ≡ true → Climbing t x (set hops (routeAt t last .len) (routeAt t last .hop)) last
+    climbing-held valid e =
+        record {
+          size = length-set hops (routeAt t last .len) (routeAt t last .hop) ∙ z .size;
+          high = omega (arith, z .high);
+          shown = λ l le. at l le (eqb (routeAt t last .len) l) refl ∙ ap (λ (u : List Route). numberOf (entry u (startOf (32 - l) x) l)) (sym first);
+        }
       where
-        nothing : (l : ℕ) → entry (routeAt t lo ∷ []) (startOf (32 - l) x) l ≡ none
-        nothing l = rw (same-false (routeAt t lo .addr) (routeAt t lo .len) (startOf (32 - l) x) l (λ p q.
-            true≢false (sym (start-match 32 (routeAt t lo) x (rw (sym q) at p)) ∙ e)))
+        first : run t last (records t) ≡ routeAt t last ∷ run t k (records t)
+        first =
+            let y : suc last ≡ k = omega arith in
+            run-first t last (records t) (omega (arith, z .high)) ∙ ap (λ (j : ℕ). routeAt t last ∷ run t j (records t)) y
 
-    pub climbing-last : matches 32 (routeAt t lo) x ≡ true → set hops (routeAt t lo .len) (routeAt t lo .hop) ≡ row (rung 32 (routes t) x) 0 33
-    climbing-last e =
-        ended (set hops (routeAt t lo .len) (routeAt t lo .hop)) (length-set hops (routeAt t lo .len) (routeAt t lo .hop) ∙ z .size)
-        (λ l lt. getD-set-other hops (routeAt t lo .len) l (routeAt t lo .hop) 0 (λ q. omega (arith, last-deep)))
-        (λ l ge up. at l ge up (eqb (routeAt t lo .len) l) refl ∙ ap (λ (u : List Route). numberOf (entry u (startOf (32 - l) x) l)) (sym run-is))
-      where
-        at : (l : ℕ) → len ≤ l → l ≤ 32 → (b : Bool) → eqb (routeAt t lo .len) l ≡ b
-            → getD (set hops (routeAt t lo .len) (routeAt t lo .hop)) l 0 ≡ numberOf (entry (routeAt t lo ∷ []) (startOf (32 - l) x) l)
-        at l ge up true q =
-            let p = eqb-true (routeAt t lo .len) l q in
+        at : (l : ℕ) → l ≤ 32 → (b : Bool) → eqb (routeAt t last .len) l ≡ b
+            → getD (set hops (routeAt t last .len) (routeAt t last .hop)) l 0 ≡ numberOf (entry (routeAt t last ∷ run t k (records t)) (startOf (32 - l) x) l)
+        at l le true q =
+            let p = eqb-true (routeAt t last .len) l q in
             rw (
               sym p,
-              true-same (routeAt t lo .addr) (routeAt t lo .len) (startOf (32 - routeAt t lo .len) x) (routeAt t lo .len)
-                  (sym (match-start 32 (routeAt t lo) x valid e)) refl,
+              true-same (routeAt t last .addr) (routeAt t last .len) (startOf (32 - routeAt t last .len) x) (routeAt t last .len)
+                  (sym (match-start 32 (routeAt t last) x valid e)) refl,
             )
-            (getD-set-same hops (routeAt t lo .len) (routeAt t lo .hop) 0 (omega (arith, z .size, last-short)))
-        at l ge up false q =
-            let p = eqb-false (routeAt t lo .len) l q in
-            rw (same-false (routeAt t lo .addr) (routeAt t lo .len) (startOf (32 - l) x) l (λ a b. p b))
-            (getD-set-other hops (routeAt t lo .len) l (routeAt t lo .hop) 0 (λ y. p (sym y)) ∙ z .bare l ge up)
+            (getD-set-same hops (routeAt t last .len) (routeAt t last .hop) 0 (omega (arith, z .size, valid .short)))
+        at l le false q =
+            let p = eqb-false (routeAt t last .len) l q in
+            rw (same-false (routeAt t last .addr) (routeAt t last .len) (startOf (32 - l) x) l (λ a b. p b))
+            (getD-set-other hops (routeAt t last .len) l (routeAt t last .hop) 0 (λ y. p (sym y)) ∙ z .shown l le)
 
--- What the test of the last record says.
+-- A record of a table is valid.
+pub valid-at : (t : List ℕ) (i : ℕ) → Table 32 (routes t) → i < records t → Valid 32 (routeAt t i)
+valid-at t i table lt =
+    let v = record-within (whole-run 32 table) i (omega arith) lt in
+    record { short = v .short; clean = v .aligned; small = omega (arith, v .high, pow-pos (32 - routeAt t i .len)) }
+
+-- What the test of a record says.
 pub within-matches : (r : Route) (a l x : ℕ) {b : Bool} → a ≡ r .addr → l ≡ r .len → r .len ≤ 32 → within 32 a l x 32 ≡ b → matches 32 r x ≡ b
 within-matches r a l x e q le w = sym (ap (λ (c : Bool). c && matches 32 r x) (le-leb (r .len) 32 le)) ∙ ap₂ (λ (d m : ℕ). within 32 d m x 32) (sym e) (sym q) ∙ w

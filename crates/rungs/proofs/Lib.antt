@@ -1,4 +1,3 @@
--- The laws of rungs: a row of numbers by length and its top; the half of a position that holds an address.
+-- The laws of rungs: a row of numbers by length and its top; which records a climb takes and which it passes over.
 pub mod Rows
-pub mod Halves
 pub mod Climbing

@@ -3,15 +3,14 @@ use Prim.Native.Nat.{ℕ, zero, suc, _-_, _≤_, _<_}
 use mathlib.Core.Path.{_≡_}
 use mathlib.Core.Bool.{cond}
 use mathlib.Core.List.{List, [], _∷_}
+use mathlib.Core.Logic.{_⊎_}
 use lib.Dec.{eqb}
 use lib.ListN.{getD}
-use Rattle.theory.specs.Results.{In, startOf}
+use Rattle.theory.specs.Results.{startOf}
 use Rattle.theory.specs.Routes.{Answer, none, via}
 use Rattle.positions.specs.Runs.{noHop}
-use Rattle.runs.specs.Runs.{run, RunAt}
-use Rattle.steps.specs.Steps.{entry}
+use Rattle.records.specs.Wire.{routeAt}
 use Rattle.rungs.specs.declared.Rungs.{Rungs}
-use Rattle.rungs.specs.declared.Span.{Span}
 
 -- The number of an answer: its hop, or noHop.
 abbrev pub numberOf : Answer → ℕ
@@ -36,8 +35,12 @@ withTop hops = record { hops = hops; top = topFrom hops 32 }
 abbrev pub rungsOf : (ℕ → Answer) → Rungs
 rungsOf f = withTop (row f 0 33)
 
--- The span r is the half that holds x of a position of length len whose run is lo..hi: its run has what that has at the greater lengths for x.
-pub record Halved (t : List ℕ) (lo hi len x : ℕ) (r : Span) : Type 0 where
-  pub run-at : RunAt 32 t (r .lo) (r .hi) (31 - len) (r .start)
-  pub holds : In (31 - len) (r .start) x
-  pub same : (l : ℕ) → len < l → l ≤ 32 → entry (run t (r .lo) (r .hi)) (startOf (32 - l) x) l ≡ entry (run t lo hi) (startOf (32 - l) x) l
+-- Of the first k records, those from r on stand behind the prefix of address m and length d.
+pub record Behind (t : List ℕ) (k m d r : ℕ) : Type 0 where
+  pub high : r ≤ k
+  pub past : (i : ℕ) → r ≤ i → i < k → (m < routeAt t i .addr) ⊎ ((m ≡ routeAt t i .addr) × (d < routeAt t i .len))
+
+-- None of the records r..k is a prefix of x.
+pub record Skipped (t : List ℕ) (k x r : ℕ) : Type 0 where
+  pub high : r ≤ k
+  pub other : (i : ℕ) → r ≤ i → i < k → (l : ℕ) → l ≤ 32 → routeAt t i .addr ≡ startOf (32 - l) x → routeAt t i .len ≡ l → ⊥

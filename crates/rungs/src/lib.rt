@@ -4,33 +4,21 @@ use hops::NO_HOP;
 use records::addr_at;
 use records::hop_at;
 use records::len_at;
-use runs::past_own;
-use runs::right_half;
-use runs::split;
 use words::prefix::contains;
+use words::prefix::masked;
 ghost use mathlib.Core.Path.{_≡_};
 ghost use mathlib.Core.Bool.{cond};
-ghost use Prim.Native.Nat.{_-_, _<_, _≤_};
-ghost use lib.Dec.{eqb};
-ghost use Rattle.theory.specs.Results.{In};
+ghost use Prim.Native.Nat.{_<_, _≤_};
+ghost use lib.Dec.{eqb, ltb};
 ghost use Rattle.theory.specs.Routes.{Table};
-ghost use Rattle.positions.specs.Runs.{noHop};
 ghost use Rattle.records.specs.Wire.{records, routeAt, routes};
-ghost use Rattle.runs.specs.Runs.{RunAt};
 ghost use Rattle.steps.specs.Views.{rung};
-ghost use Rattle.rungs.specs.Rungs.{topFrom, rungsOf, withTop, Halved};
+ghost use Rattle.rungs.specs.Rungs.{topFrom, rungsOf, withTop, Behind, Skipped};
 
 // The hops by length, NO_HOP where there is none; and the greatest length with one, 0 where there is none.
 pub struct Rungs {
     pub hops: [u8; 33],
     pub top: usize,
-}
-
-// The records lo..hi of a prefix, and where it starts.
-struct Span {
-    lo: usize,
-    hi: usize,
-    start: u32,
 }
 
 // The greatest length up to `from` with a hop; 0 where there is none.
@@ -56,66 +44,66 @@ fn with_top(hops: [u8; 33]) -> Rungs
     Rungs { hops, top }
 }
 
-// The hop of record lo if it is of this length.
-fn hop_of_length(table: &[u8], lo: usize, len: u8) -> u8
-    requires { ⌜ lo < records (now table) ⌝ }
-    ensures { λ r. ⌜ r ≡ cond (eqb (routeAt (now (table .entry)) lo .len) len) (routeAt (now (table .entry)) lo .hop) noHop ⌝ }
+// Does the prefix of `addr` and `len` stand behind that of m and d in table order?
+fn past(addr: u32, len: u8, m: u32, d: u8) -> bool
+    ensures { λ r. ⌜ r ≡ cond (eqb addr m) (ltb d len) (ltb m addr) ⌝ }
 {
-    if len_at(table, lo) == len {
-        return hop_at(table, lo);
-    }
-    NO_HOP
+    if addr == m { d < len } else { m < addr }
 }
 
-// The half that holds x of the position of this length at `start`, whose run is lo..hi.
-fn halved(table: &[u8], lo: usize, hi: usize, start: u32, len: u8, x: u32) -> Span
-    requires { ⌜ (len < 32) × RunAt 32 (now table) lo hi (32 - len) start ⌝ }
-    requires { ⌜ In (32 - len) start x ⌝ }
-    ensures { λ r. ⌜ Halved (now (table .entry)) lo hi len x r ⌝ }
+// Of the first k records, where those begin that stand behind the prefix of m and d.
+fn behind(table: &[u8], k: usize, m: u32, d: u8) -> usize
+    requires { ⌜ Table 32 (routes (now table)) × (k ≤ records (now table)) ⌝ }
+    ensures { λ r. ⌜ Behind (now (table .entry)) k m d r ⌝ }
 {
-    let first = past_own(table, lo, hi, len);
-    let right = right_half(start, len);
-    let mid = split(table, first, hi, right);
-    if x < right {
-        Span {
-            lo: first,
-            hi: mid,
-            start,
-        }
-    } else {
-        Span {
-            lo: mid,
-            hi,
-            start: right,
+    let mut from = 0;
+    let mut to = k;
+    while from < to {
+        let at = from + (to - from) / 2;
+        if past(addr_at(table, at), len_at(table, at), m, d) {
+            to = at;
+        } else {
+            from = at + 1;
         }
     }
+    to
 }
 
-// The rungs of an address: bit by bit, until one record or none is left.
+// Of the first k records, those up to which none holds x, where record k stands at `addr`. Left of x no prefix is longer than what x and `addr` have in common.
+fn skipped(table: &[u8], k: usize, addr: u32, x: u32) -> usize
+    requires { ⌜ (Table 32 (routes (now table)) × (k < records (now table))) × (addr ≡ routeAt (now table) k .addr) ⌝ }
+    ensures { λ r. ⌜ Skipped (now (table .entry)) k x r ⌝ }
+{
+    if x < addr {
+        return behind(table, k, x, 32);
+    }
+    let common = u32::leading_zeros(x ^ addr);
+    if common < 32 {
+        let d = common as u8;
+        if addr < masked(x, d + 1) {
+            return behind(table, k, masked(x, d), d);
+        }
+    }
+    k
+}
+
+// The rungs of an address, from the last record on: one that holds it is a rung, and behind one that does not, others are passed over.
 pub fn climb(table: &[u8], x: u32) -> Rungs
     requires { ⌜ Table 32 (routes (now table)) ⌝ }
     ensures { λ r. ⌜ r ≡ rungsOf (rung 32 (routes (now (table .entry))) x) ⌝ }
 {
     let mut hops = [NO_HOP; 33];
-    let mut lo = 0;
-    let mut hi = table.len() / 8;
-    let mut start: u32 = 0;
-    let mut len: u8 = 0;
-    while lo + 1 < hi {
-        hops[len as usize] = hop_of_length(table, lo, len);
-        let below = halved(table, lo, hi, start, len, x);
-        lo = below.lo;
-        hi = below.hi;
-        start = below.start;
-        len += 1;
-    }
-    if hi <= lo {
-        return with_top(hops);
-    }
-    let last = len_at(table, lo);
-    if contains(addr_at(table, lo), last, x, 32) {
-        hops[last as usize] = hop_at(table, lo);
-        return with_top(hops);
+    let mut k = table.len() / 8;
+    while 0 < k {
+        let last = k - 1;
+        let addr = addr_at(table, last);
+        let len = len_at(table, last);
+        if contains(addr, len, x, 32) {
+            hops[len as usize] = hop_at(table, last);
+            k = last;
+        } else {
+            k = skipped(table, last, addr, x);
+        }
     }
     with_top(hops)
 }

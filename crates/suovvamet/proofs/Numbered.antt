@@ -3,7 +3,7 @@
 use mathlib.Core.Path.{_≡_, refl, sym, ap, ap₂, _∙_}
 use mathlib.Core.Bool.{Bool, false}
 use mathlib.Core.List.{List}
-use mathlib.Core.Logic.{_↔_}
+use mathlib.Core.Logic.{_↔_, _⊎_, inl, inr}
 use Prim.Native.Nat.{ℕ, _*_, _≤_, _<_}
 use native.Mathlib.Omega.{arith}
 use lib.IntN.{ℤ}
@@ -47,7 +47,19 @@ use Rattle.chip.specs.Loading.{loadRules, loadedSays}
 use Rattle.chip.specs.declared.Loaded.the-variants.{Refused as NotLoaded}
 use Rattle.chip.proofs.Calls.{loaded-same, load-tests, load-refused}
 use Rattle.suovvamet.specs.Numbers.{formBy, numberOf, indexOf, isSetBy, wordsOf}
-use Rattle.suovvamet.specs.Calls.{RewriteInC, PlainInC, CoversInC, LookupInC, HeldInC, WordsInC, UnroutedInC, SpecialInC, ChipInC}
+use Rattle.plans.specs.Judging.{tablesRules, checkRules, judgedSays}
+use Rattle.plans.specs.Conditions.{TablesCondition, PlanCondition}
+use Rattle.plans.specs.declared.answers.Step.{Step}
+use Rattle.plans.specs.declared.answers.Judged.the-variants.{Refused as NotJudged}
+use Rattle.plans.proofs.Calls.{judged-same}
+use Rattle.plans.proofs.Tested.{check-tests, tables-tests}
+use Rattle.plans.proofs.Refusals.{tables-numbers, check-refused, check-numbers}
+use Rattle.planner.specs.Planning.{plannedSays, chosen}
+use Rattle.planner.specs.declared.Planned.{Planned}
+use Rattle.planner.specs.declared.Planned.the-variants.{Refused as NotPlanned}
+use Rattle.planner.proofs.Answers.{planned-same}
+use Rattle.planner.proofs.Calls.{plan-refused}
+use Rattle.suovvamet.specs.Calls.{CheckPlanInC, PlanInC, RewriteInC, PlainInC, CoversInC, LookupInC, HeldInC, WordsInC, UnroutedInC, SpecialInC, ChipInC}
 
 -- ---- No condition has the number 0.
 table-number : {form : Form} {s : Bool} {t : List ℕ} {n i : ℕ} → TableCondition form s t n i → 1 ≤ n
@@ -341,3 +353,65 @@ module _ (t : List ℕ) (flags : ℕ) (m : List ℕ) {number slots index : ℕ} 
   -- Else it is, with the index, the first that holds.
   pub chip-in-c-refused : (n i : ℕ) → ((1 ≤ n) × (number ≡ n) × (index ≡ i)) ↔ First (LoadCondition (formBy flags) t (length m)) n i
   chip-in-c-refused = numbered (loadedSays (ok .answer)) given-chip refused-chip (λ n i f. load-number (f .0)) (ok .number-is) (ok .index-is)
+
+-- ---- The checker of a plan.
+table-number : {n : ℕ} → ((3 ≤ n) × (n ≤ 8)) ⊎ ((23 ≤ n) × (n ≤ 28)) → 1 ≤ n
+table-number (inl k) = omega (arith, k .0)
+table-number (inr k) = omega (arith, k .0)
+
+plan-number : {n : ℕ} → (((3 ≤ n) × (n ≤ 8)) ⊎ ((23 ≤ n) × (n ≤ 28))) ⊎ (n ≡ 13) → 1 ≤ n
+plan-number (inl k) = table-number k
+plan-number (inr e) = omega arith
+
+module _ (t u : List ℕ) (flags : ℕ) (ss : List Step) {number yes index : ℕ} (ok : CheckPlanInC t u flags ss number yes index) where
+  given-check : ((b : Bool) × (judgedSays (ok .answer) ≡ gives b)) ↔ None (PlanCondition (formBy flags) t u ss)
+  given-check = (
+    λ (b, e). gives-exactly (checkRules (formBy flags) t u ss) (check-tests (formBy flags) t u ss) (ok .judges .word) {b = b} .0 (sym (ok .judges .answer) ∙ e) .0,
+    λ none. (
+      ok .judges .word,
+      ok .judges .answer ∙ gives-exactly (checkRules (formBy flags) t u ss) (check-tests (formBy flags) t u ss) (ok .judges .word) {b = ok .judges .word} .1 (none, refl),
+    ),
+  )
+
+  refused-check : (n i : ℕ) → judgedSays (ok .answer) ≡ refuses n i ↔ First (PlanCondition (formBy flags) t u ss) n i
+  refused-check n i =
+      let exactly = check-refused (formBy flags) t u ss (ok .answer) (ok .judges) n i in
+      (λ e. exactly .0 (judged-same (ok .answer) (NotJudged n i) e), λ f. ap judgedSays (exactly .1 f))
+
+  above-check : (n i : ℕ) → First (PlanCondition (formBy flags) t u ss) n i → 1 ≤ n
+  above-check n i f = plan-number (check-numbers (formBy flags) t u ss (ok .answer) (ok .judges) n i (check-refused (formBy flags) t u ss (ok .answer) (ok .judges) n i .1 f))
+
+  -- The result is 0 exactly when no condition for a refusal holds.
+  pub check-plan-in-c-answered : number ≡ 0 ↔ None (PlanCondition (formBy flags) t u ss)
+  check-plan-in-c-answered = answered (judgedSays (ok .answer)) given-check refused-check above-check (ok .number-is) (ok .index-is)
+
+  -- Else it is, with the index, the first that holds.
+  pub check-plan-in-c-refused : (n i : ℕ) → ((1 ≤ n) × (number ≡ n) × (index ≡ i)) ↔ First (PlanCondition (formBy flags) t u ss) n i
+  check-plan-in-c-refused = numbered (judgedSays (ok .answer)) given-check refused-check above-check (ok .number-is) (ok .index-is)
+
+-- ---- The planner.
+module _ (t u : List ℕ) (flags : ℕ) (room : List Step) {number given count index : ℕ} {room′ : List Step} (ok : PlanInC t u flags room number given count index room′) where
+  abbrev right : Planned
+  right = chosen t u (length room)
+
+  given-plan : ((p : Planned) × (plannedSays (ok .answer) ≡ gives p)) ↔ None (TablesCondition (formBy flags) t u)
+  given-plan = (
+    λ (p, e). gives-exactly (tablesRules (formBy flags) t u) (tables-tests (formBy flags) t u) right {b = p} .0 (sym (ok .plans .answer) ∙ e) .0,
+    λ none. (right, ok .plans .answer ∙ gives-exactly (tablesRules (formBy flags) t u) (tables-tests (formBy flags) t u) right {b = right} .1 (none, refl)),
+  )
+
+  refused-plan : (n i : ℕ) → plannedSays (ok .answer) ≡ refuses n i ↔ First (TablesCondition (formBy flags) t u) n i
+  refused-plan n i =
+      let exactly = plan-refused (formBy flags) t u room (ok .answer) room′ (ok .plans) n i in
+      (λ e. exactly .0 (planned-same (ok .answer) (NotPlanned n i) e), λ f. ap plannedSays (exactly .1 f))
+
+  above-plan : (n i : ℕ) → First (TablesCondition (formBy flags) t u) n i → 1 ≤ n
+  above-plan n i f = table-number (tables-numbers (formBy flags) t u n i (f .0))
+
+  -- The result is 0 exactly when no condition for a refusal holds.
+  pub plan-in-c-answered : number ≡ 0 ↔ None (TablesCondition (formBy flags) t u)
+  plan-in-c-answered = answered (plannedSays (ok .answer)) given-plan refused-plan above-plan (ok .number-is) (ok .index-is)
+
+  -- Else it is, with the index, the first that holds.
+  pub plan-in-c-refused : (n i : ℕ) → ((1 ≤ n) × (number ≡ n) × (index ≡ i)) ↔ First (TablesCondition (formBy flags) t u) n i
+  plan-in-c-refused = numbered (plannedSays (ok .answer)) given-plan refused-plan above-plan (ok .number-is) (ok .index-is)

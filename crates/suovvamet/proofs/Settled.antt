@@ -26,8 +26,15 @@ use Rattle.special.proofs.Calls.{special-unique}
 use Rattle.chip.specs.Loading.{loadedSays}
 use Rattle.chip.specs.declared.Loaded.{Loaded}
 use Rattle.chip.proofs.Calls.{load-settled}
-use Rattle.suovvamet.specs.Numbers.{formBy, numberOf, indexOf, coveredOf, foundOf, hopOf, lengthOf, addressesOf, isSetBy, wordsOf, namedOf, recordOf, slotsUsed}
-use Rattle.suovvamet.specs.Calls.{RewriteInC, PlainInC, CoversInC, LookupInC, HeldInC, WordsInC, UnroutedInC, SpecialInC, ChipInC}
+use Rattle.plans.specs.Judging.{judgedSays}
+use Rattle.plans.specs.declared.answers.Step.{Step}
+use Rattle.plans.specs.declared.answers.Judged.{Judged}
+use Rattle.plans.proofs.Calls.{check-settled}
+use Rattle.planner.specs.Planning.{plannedSays}
+use Rattle.planner.specs.declared.Planned.{Planned}
+use Rattle.planner.proofs.Calls.{plan-settled}
+use Rattle.suovvamet.specs.Numbers.{yesOf, givenOf, stepsGiven, formBy, numberOf, indexOf, coveredOf, foundOf, hopOf, lengthOf, addressesOf, isSetBy, wordsOf, namedOf, recordOf, slotsUsed}
+use Rattle.suovvamet.specs.Calls.{CheckPlanInC, PlanInC, RewriteInC, PlainInC, CoversInC, LookupInC, HeldInC, WordsInC, UnroutedInC, SpecialInC, ChipInC}
 
 -- Parts of two answers that are the same are the same.
 same-part : {R N : Type 0} (part : R → N) {a b : R} {m n : N} → a ≡ b → m ≡ part a → n ≡ part b → m ≡ n
@@ -140,5 +147,29 @@ chip-in-c-settled t flags m {m′ = m′} {m₁ = m₁} a b =
       same-part (λ (r : Loaded). numberOf (loadedSays r)) (s .0) (a .number-is) (b .number-is),
       same-part slotsUsed (s .0) (a .slots-is) (b .slots-is),
       same-part (λ (r : Loaded). indexOf (loadedSays r)) (s .0) (a .index-is) (b .index-is),
+      s .1,
+    )
+
+-- Of the checker of a plan: the number, whether it said yes, and the index.
+pub check-plan-in-c-settled : (t u : List ℕ) (flags : ℕ) (ss : List Step) {number number₁ yes yes₁ index index₁ : ℕ}
+    → CheckPlanInC t u flags ss number yes index → CheckPlanInC t u flags ss number₁ yes₁ index₁
+    → (number ≡ number₁) × (yes ≡ yes₁) × (index ≡ index₁)
+check-plan-in-c-settled t u flags ss a b =
+    let e = check-settled (formBy flags) t u ss (a .answer) (b .answer) (a .judges) (b .judges) in (
+      same-part (λ (r : Judged). numberOf (judgedSays r)) e (a .number-is) (b .number-is),
+      same-part yesOf e (a .yes-is) (b .yes-is),
+      same-part (λ (r : Judged). indexOf (judgedSays r)) e (a .index-is) (b .index-is),
+    )
+
+-- Of the planner: the number, whether there is a plan, its steps, the index and the room.
+pub plan-in-c-settled : (t u : List ℕ) (flags : ℕ) (room : List Step) {number number₁ given given₁ count count₁ index index₁ : ℕ} {room′ room₁ : List Step}
+    → PlanInC t u flags room number given count index room′ → PlanInC t u flags room number₁ given₁ count₁ index₁ room₁
+    → (number ≡ number₁) × (given ≡ given₁) × (count ≡ count₁) × (index ≡ index₁) × (room′ ≡ room₁)
+plan-in-c-settled t u flags room {room′ = room′} {room₁ = room₁} a b =
+    let s = plan-settled (formBy flags) t u room (a .answer) (b .answer) room′ room₁ (a .plans) (b .plans) in (
+      same-part (λ (r : Planned). numberOf (plannedSays r)) (s .0) (a .number-is) (b .number-is),
+      same-part givenOf (s .0) (a .given-is) (b .given-is),
+      same-part stepsGiven (s .0) (a .count-is) (b .count-is),
+      same-part (λ (r : Planned). indexOf (plannedSays r)) (s .0) (a .index-is) (b .index-is),
       s .1,
     )

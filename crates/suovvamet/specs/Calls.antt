@@ -21,7 +21,12 @@ use Rattle.special.specs.Calls.{specialSays, specialReply}
 use Rattle.special.specs.declared.Special.{Special}
 use Rattle.chip.specs.Loading.{loadedSays, Loads}
 use Rattle.chip.specs.declared.Loaded.{Loaded}
-use Rattle.suovvamet.specs.Numbers.{formBy, numberOf, indexOf, coveredOf, foundOf, hopOf, lengthOf, addressesOf, isSetBy, wordsOf, namedOf, recordOf, slotsUsed}
+use Rattle.plans.specs.Judging.{judgedSays, Judges}
+use Rattle.plans.specs.declared.answers.Step.{Step}
+use Rattle.plans.specs.declared.answers.Judged.{Judged}
+use Rattle.planner.specs.Planning.{plannedSays, Plans}
+use Rattle.planner.specs.declared.Planned.{Planned}
+use Rattle.suovvamet.specs.Numbers.{formBy, numberOf, indexOf, coveredOf, foundOf, hopOf, lengthOf, addressesOf, isSetBy, wordsOf, namedOf, recordOf, slotsUsed, yesOf, givenOf, stepsGiven}
 
 -- Of a rewrite: the table t, the output o and the room work were lent; the output is o′ then and the room work′.
 pub record RewriteInC (t : List ℕ) (flags mode default : ℕ) (o work : List ℕ) (number count : ℕ) (change : ℤ) (index : ℕ) (o′ work′ : List ℕ) : Type 0 where
@@ -99,3 +104,20 @@ pub record ChipInC (t : List ℕ) (flags : ℕ) (m : List ℕ) (number slots ind
   pub number-is : number ≡ numberOf (loadedSays answer)
   pub index-is : index ≡ indexOf (loadedSays answer)
   pub slots-is : slots ≡ slotsUsed answer
+
+-- Of the checker of a plan: the installed table t, the new one u and the steps were lent.
+pub record CheckPlanInC (t u : List ℕ) (flags : ℕ) (ss : List Step) (number yes index : ℕ) : Type 0 where
+  pub answer : Judged
+  pub judges : Judges (formBy flags) t u ss answer
+  pub number-is : number ≡ numberOf (judgedSays answer)
+  pub index-is : index ≡ indexOf (judgedSays answer)
+  pub yes-is : yes ≡ yesOf answer
+
+-- Of the planner: the installed table t, the new one u and a room for steps were lent; the room is room′ then.
+pub record PlanInC (t u : List ℕ) (flags : ℕ) (room : List Step) (number given count index : ℕ) (room′ : List Step) : Type 0 where
+  pub answer : Planned
+  pub plans : Plans (formBy flags) t u room answer room′
+  pub number-is : number ≡ numberOf (plannedSays answer)
+  pub index-is : index ≡ indexOf (plannedSays answer)
+  pub given-is : given ≡ givenOf answer
+  pub count-is : count ≡ stepsGiven answer

@@ -15,6 +15,10 @@ use Rattle.special.specs.declared.Special.{Special}
 use Rattle.special.specs.declared.Special.the-variants.{At, Nothing, Refused as NotSearched}
 use Rattle.chip.specs.declared.Loaded.{Loaded}
 use Rattle.chip.specs.declared.Loaded.the-variants.{Slots, Refused as NotLoaded}
+use Rattle.plans.specs.declared.answers.Judged.{Judged}
+use Rattle.plans.specs.declared.answers.Judged.the-variants.{Yes, No, Refused as NotJudged}
+use Rattle.planner.specs.declared.Planned.{Planned}
+use Rattle.planner.specs.declared.Planned.the-variants.{Steps, GaveUp, Refused as NotPlanned}
 use Rattle.calls.specs.declared.Covers.{Covers}
 use Rattle.calls.specs.declared.Covers.the-variants.{Covered, Uncovered, Refused as NotAnswered}
 
@@ -94,3 +98,23 @@ recordOf (NotSearched number index) = 0
 abbrev pub slotsUsed : Loaded → ℕ
 slotsUsed (Slots used) = used
 slotsUsed (NotLoaded number index) = 0
+
+-- ---- Of the checker of a plan: 1 for yes, else 0.
+abbrev pub yesOf : Judged → ℕ
+yesOf Yes = 1
+yesOf No = 0
+yesOf (NotJudged number index) = 0
+
+-- ---- Of the planner.
+
+-- 1 for a plan, else 0.
+abbrev pub givenOf : Planned → ℕ
+givenOf (Steps count) = 1
+givenOf GaveUp = 0
+givenOf (NotPlanned number index) = 0
+
+-- Its steps, 0 where there is none.
+abbrev pub stepsGiven : Planned → ℕ
+stepsGiven (Steps count) = count
+stepsGiven GaveUp = 0
+stepsGiven (NotPlanned number index) = 0

@@ -7,6 +7,9 @@ use chip::Loaded;
 use holes::Listed;
 use lookup::answers::AddressesHeld;
 use lookup::answers::Lookup;
+use planner::Planned;
+use plans::answers::Judged;
+use plans::answers::Step;
 use records::Form;
 use special::Special;
 use workroom::WorkWords;
@@ -18,8 +21,10 @@ ghost use Rattle.calls.specs.Rewriting.{rewrittenSays, countOf, changeOf};
 ghost use Rattle.holes.specs.Listing.{listedSays, listedCount};
 ghost use Rattle.special.specs.Calls.{specialSays};
 ghost use Rattle.chip.specs.Loading.{loadedSays};
-ghost use Rattle.suovvamet.specs.Numbers.{formBy, numberOf, indexOf, coveredOf, foundOf, hopOf, lengthOf, addressesOf, wordsOf, namedOf, recordOf, slotsUsed};
-ghost use Rattle.suovvamet.specs.Calls.{RewriteInC, PlainInC, CoversInC, LookupInC, HeldInC, WordsInC, UnroutedInC, SpecialInC, ChipInC};
+ghost use Rattle.plans.specs.Judging.{judgedSays};
+ghost use Rattle.planner.specs.Planning.{plannedSays};
+ghost use Rattle.suovvamet.specs.Numbers.{formBy, numberOf, indexOf, coveredOf, foundOf, hopOf, lengthOf, addressesOf, wordsOf, namedOf, recordOf, slotsUsed, yesOf, givenOf, stepsGiven};
+ghost use Rattle.suovvamet.specs.Calls.{RewriteInC, PlainInC, CoversInC, LookupInC, HeldInC, WordsInC, UnroutedInC, SpecialInC, ChipInC, CheckPlanInC, PlanInC};
 
 // How a table is read: strictly where the lowest bit of the flags is set. The others are ignored.
 fn form_of(flags: u32) -> Form
@@ -466,4 +471,119 @@ pub extern "C" fn suovvamet_chip_image(
     let refused = loaded_refusal(answer);
     *index = refused.index;
     refused.number
+}
+
+// The parts of the checker's answer.
+fn judged_refusal(r: Judged) -> Refusal
+    ensures { λ f. ⌜ (f .number ≡ numberOf (judgedSays r)) × (f .index ≡ indexOf (judgedSays r)) ⌝ }
+{
+    match r {
+        Judged::Yes => no_refusal(),
+        Judged::No => no_refusal(),
+        Judged::Refused { number, index } => in_numbers(number, index),
+    }
+}
+
+fn judged_yes(r: Judged) -> u32
+    ensures { λ n. ⌜ n ≡ yesOf r ⌝ }
+{
+    match r {
+        Judged::Yes => 1,
+        Judged::No => 0,
+        Judged::Refused {
+            number: _,
+            index: _,
+        } => 0,
+    }
+}
+
+// Hands on the parts of the checker's answer, the number as the result.
+fn tell_judged(r: Judged, yes: &mut u32, index: &mut u64) -> u32
+    ensures { λ n. ⌜ (n ≡ numberOf (judgedSays r)) × (now (yes .exit) ≡ yesOf r) × (now (index .exit) ≡ indexOf (judgedSays r)) ⌝ }
+{
+    *yes = judged_yes(r);
+    let refused = judged_refusal(r);
+    *index = refused.index;
+    refused.number
+}
+
+// The checker of a plan. `yes` is set to 1 for yes, else 0.
+#[no_mangle]
+pub extern "C" fn suovvamet_check_plan(
+    installed: &[u8],
+    new: &[u8],
+    flags: u32,
+    steps: &[Step],
+    yes: &mut u32,
+    index: &mut u64,
+) -> u32
+    ensures { λ n. ⌜ CheckPlanInC (now (installed .entry)) (now (new .entry)) flags (now (steps .entry)) n (now (yes .exit)) (now (index .exit)) ⌝ }
+{
+    let answer = plans::check_plan(installed, new, form_of(flags), steps);
+    tell_judged(answer, yes, index)
+}
+
+// The parts of the planner's answer.
+fn planned_refusal(r: Planned) -> Refusal
+    ensures { λ f. ⌜ (f .number ≡ numberOf (plannedSays r)) × (f .index ≡ indexOf (plannedSays r)) ⌝ }
+{
+    match r {
+        Planned::Steps { count: _ } => no_refusal(),
+        Planned::GaveUp => no_refusal(),
+        Planned::Refused { number, index } => in_numbers(number, index),
+    }
+}
+
+fn planned_given(r: Planned) -> u32
+    ensures { λ n. ⌜ n ≡ givenOf r ⌝ }
+{
+    match r {
+        Planned::Steps { count: _ } => 1,
+        Planned::GaveUp => 0,
+        Planned::Refused {
+            number: _,
+            index: _,
+        } => 0,
+    }
+}
+
+fn planned_count(r: Planned) -> u64
+    ensures { λ n. ⌜ n ≡ stepsGiven r ⌝ }
+{
+    match r {
+        Planned::Steps { count } => count as u64,
+        Planned::GaveUp => 0,
+        Planned::Refused {
+            number: _,
+            index: _,
+        } => 0,
+    }
+}
+
+// Hands on the parts of the planner's answer, the number as the result.
+fn tell_planned(r: Planned, given: &mut u32, count: &mut u64, index: &mut u64) -> u32
+    ensures { λ n. ⌜ (n ≡ numberOf (plannedSays r)) × (now (given .exit) ≡ givenOf r) × (now (count .exit) ≡ stepsGiven r) × (now (index .exit) ≡ indexOf (plannedSays r)) ⌝ }
+{
+    *given = planned_given(r);
+    *count = planned_count(r);
+    let refused = planned_refusal(r);
+    *index = refused.index;
+    refused.number
+}
+
+// The planner. `given` is set to 1 for a plan, else 0, and `count` to its steps.
+#[no_mangle]
+pub extern "C" fn suovvamet_plan(
+    installed: &[u8],
+    new: &[u8],
+    flags: u32,
+    steps: &mut [Step],
+    given: &mut u32,
+    count: &mut u64,
+    index: &mut u64,
+) -> u32
+    ensures { λ n. ⌜ PlanInC (now (installed .entry)) (now (new .entry)) flags (now (steps .entry)) n (now (given .exit)) (now (count .exit)) (now (index .exit)) (now (steps .exit)) ⌝ }
+{
+    let answer = planner::plan(installed, new, form_of(flags), steps);
+    tell_planned(answer, given, count, index)
 }

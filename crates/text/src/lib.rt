@@ -57,7 +57,7 @@ fn put_octet(n: u8, after: u8, at: usize, out: &mut [u8]) -> usize
 }
 
 // A number in decimal, and the line feed.
-fn put_last(n: u64, at: usize, out: &mut [u8]) -> usize
+pub fn put_last(n: u64, at: usize, out: &mut [u8]) -> usize
     requires { ⌜ at + 21 ≤ length (now out) ⌝ }
     ensures { λ r. ⌜ Put (decimal n ++ (10 ∷ [])) at r (now (out .entry)) (now (out .exit)) ⌝ }
     ensures { λ r. ⌜ r ≤ at + 21 ⌝ }
@@ -67,7 +67,7 @@ fn put_last(n: u64, at: usize, out: &mut [u8]) -> usize
 }
 
 // An address as four numbers with dots between them, and a slash.
-fn put_dotted(address: u32, at: usize, out: &mut [u8]) -> usize
+pub fn put_dotted(address: u32, at: usize, out: &mut [u8]) -> usize
     requires { ⌜ at + 16 ≤ length (now out) ⌝ }
     ensures { λ r. ⌜ Put (dotted address ++ (47 ∷ [])) at r (now (out .entry)) (now (out .exit)) ⌝ }
     ensures { λ r. ⌜ r ≤ at + 16 ⌝ }
@@ -79,7 +79,7 @@ fn put_dotted(address: u32, at: usize, out: &mut [u8]) -> usize
 }
 
 // A length and, where `hops` says so, one space and the hop; and the line feed.
-fn put_ending(len: u8, hop: u8, hops: bool, at: usize, out: &mut [u8]) -> usize
+pub fn put_ending(len: u8, hop: u8, hops: bool, at: usize, out: &mut [u8]) -> usize
     requires { ⌜ at + 8 ≤ length (now out) ⌝ }
     ensures { λ r. ⌜ Put (decimal len ++ hopEnd hops hop) at r (now (out .entry)) (now (out .exit)) ⌝ }
     ensures { λ r. ⌜ r ≤ at + 8 ⌝ }

@@ -1,0 +1,2 @@
+-- Laws behind the text of steps.
+pub mod StepLines

@@ -1,0 +1,2 @@
+-- The text of steps.
+pub mod Lines

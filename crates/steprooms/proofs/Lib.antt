@@ -1,0 +1,3 @@
+-- Laws behind the calls over a room of steps.
+pub mod Firsts
+pub mod Filled

@@ -1,0 +1,2 @@
+-- Steps as bytes.
+pub mod Steps

@@ -8,6 +8,8 @@ use replaying::Turn;
 use replaying::cases::case_turn;
 use replaying::join2;
 use replaying::last_line;
+use replaying::ranks::as_ranks;
+use replaying::ranks::read_ranks;
 use replaying::send;
 use replaying::turns_left;
 ghost use mathlib.Core.Path.{_≡_};
@@ -34,11 +36,26 @@ fn turn(table: &mut [u8], output: &mut [u8], work: &mut [u32], at: usize, kept: 
     if got < 16 {
         return last_line(b"case cut short\n", at, kept);
     }
+    let mut bytes = [0u8; 255];
+    let lent = read_ranks(head[0], &mut bytes);
+    if 255 < lent {
+        return last_line(b"case cut short\n", at, kept);
+    }
+    let mut ranks = [0u16; 255];
+    as_ranks(&bytes, &mut ranks);
     let size = join2(head[14], head[15]);
     if io::read_full(STDIN_FILENO, &mut table[..size]) < size {
         return last_line(b"case cut short\n", at, kept);
     }
-    case_turn(&head, &table[..size], output, work, at, kept)
+    case_turn(
+        &head,
+        &table[..size],
+        &ranks[..lent],
+        output,
+        work,
+        at,
+        kept,
+    )
 }
 
 // A proved loop has to end, so the turns are counted down from a number that no input uses up.

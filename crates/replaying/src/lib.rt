@@ -4,6 +4,7 @@
 pub mod cases;
 mod chip_cases;
 mod counted;
+pub mod ranks;
 mod special_cases;
 
 use libc::STDOUT_FILENO;
@@ -40,7 +41,7 @@ pub fn turns_left(turns: u64, more: bool) -> u64
 pub fn call_of(first: u8) -> u8
     ensures { λ r. ⌜ r ≡ callBy first ⌝ }
 {
-    first % 128
+    first % 64
 }
 
 // How the case's table is read: strictly where the first byte has 128 added.

@@ -6,17 +6,19 @@
 #include "platform.h"
 #include "suovvamet.h"
 
-/* A case's first byte is its call, and so much more under the strict choice. */
-enum { STRICT_CASE = 128 };
+/* A case's first byte is its call, so much more where it lends ranks, and so much more under the strict choice. */
+enum { RANKS_CASE = 64, STRICT_CASE = 128 };
 
-enum { HEADER = 16, MOST_BYTES = 65535, MOST_LIST = 262144, EDGE = 64, SHIFTS = 4 };
+enum { HEADER = 16, MOST_BYTES = 65535, MOST_LIST = 262144, MOST_RANKS = 255, EDGE = 64, SHIFTS = 4 };
 
 static uint8_t table_room[EDGE + SHIFTS + MOST_BYTES + EDGE], kept[sizeof table_room], output_room[EDGE + SHIFTS + MOST_LIST + EDGE];
 static uint32_t work_room[EDGE + SHIFTS + SUOVVAMET_MOST_WORK + EDGE];
+static uint16_t rank_room[EDGE + SHIFTS + MOST_RANKS + EDGE], kept_ranks[sizeof rank_room / sizeof rank_room[0]];
 
 /* Where the rooms of this case begin. */
 static uint8_t *table, *output;
 static uint32_t *work;
+static uint16_t *ranks;
 
 /* ---- Printing, gathered into large pieces. */
 static char printed[4096];
@@ -121,7 +123,7 @@ static void promise_words(size_t length, uint32_t flags, int is_set, size_t word
     if (own != SUOVVAMET_ANSWERED) {
         promise(needed.value == 0, "words in a refusal");
         promise(own >= SUOVVAMET_TABLE_LENGTH && own <= SUOVVAMET_ORDER, "words refused by no number of a table");
-        promise(refusal == SUOVVAMET_MODE || refusal == SUOVVAMET_DEFAULT || (refusal == own && at == index.value), "words refused otherwise");
+        promise(refusal == SUOVVAMET_MODE || refusal == SUOVVAMET_DEFAULT || refusal == SUOVVAMET_RANKS || (refusal == own && at == index.value), "words refused otherwise");
         return;
     }
     promise(index.value == 0, "index of an answer");
@@ -171,14 +173,15 @@ static void promise_output(size_t count, size_t room)
 }
 
 /* By the engine over nodes, or by the plain one, which is lent no room. */
-static void rewrite(int plain, size_t length, uint32_t flags, uint32_t mode, uint32_t default_hop, size_t room, size_t words)
+static void rewrite(int plain, size_t length, uint32_t flags, uint32_t mode, uint32_t default_hop, size_t lent, size_t room, size_t words)
 {
     struct guarded count = unset, index = unset, change_room = unset;
     int64_t *change = (int64_t *)&change_room.value;
     fill_output(room);
     uint32_t refusal =
-        plain ? suovvamet_rewrite_plain(table, length, flags, mode, default_hop, output, room, &count.value, change, &index.value)
-              : suovvamet_rewrite(table, length, flags, mode, default_hop, output, room, work, words, &count.value, change, &index.value);
+        plain ? suovvamet_rewrite_plain(table, length, flags, mode, default_hop, ranks, lent, output, room, &count.value, change, &index.value)
+              : suovvamet_rewrite(table, length, flags, mode, default_hop, ranks, lent, output, room, work, words, &count.value, change,
+                                  &index.value);
     promise_guards(&count);
     promise_guards(&change_room);
     if (!plain)
@@ -306,6 +309,30 @@ static uint32_t number(const uint8_t *bytes, int size)
     return n;
 }
 
+/* ---- The ranks of a case: a byte that says how many they are, and a byte each. Where it lends none the room stands there with length 0. */
+static int read_ranks(uint8_t first, size_t *lent)
+{
+    for (size_t i = 0; i < sizeof rank_room / sizeof rank_room[0]; i++)
+        rank_room[i] = (uint16_t)(pattern(i) << 8 | pattern(i + 1));
+    uint8_t count = 0, bytes[MOST_RANKS];
+    if (first % STRICT_CASE >= RANKS_CASE && (platform_read(&count, 1) < 1 || platform_read(bytes, count) < count))
+        return 0;
+    for (size_t i = 0; i < count; i++)
+        ranks[i] = bytes[i];
+    for (size_t i = 0; i < sizeof rank_room / sizeof rank_room[0]; i++)
+        kept_ranks[i] = rank_room[i];
+    *lent = count;
+    return 1;
+}
+
+static int ranks_kept(void)
+{
+    int same = 1;
+    for (size_t i = 0; i < sizeof rank_room / sizeof rank_room[0]; i++)
+        same &= kept_ranks[i] == rank_room[i];
+    return same;
+}
+
 /* The line that ends the run, NULL after the last whole case. */
 static const char *run(void)
 {
@@ -317,12 +344,14 @@ static const char *run(void)
         table = table_room + EDGE + at % SHIFTS;
         output = output_room + EDGE + (at + 1) % SHIFTS;
         work = work_room + EDGE + at % SHIFTS;
+        ranks = rank_room + EDGE + at % SHIFTS;
         size_t length = number(header + 14, 2), around = (size_t)(table - table_room) + length + EDGE;
         for (size_t i = 0; i < around; i++)
             table_room[i] = pattern(i);
-        if (got < HEADER || platform_read(table, length) < length)
+        size_t lent = 0;
+        if (got < HEADER || !read_ranks(header[0], &lent) || platform_read(table, length) < length)
             return "case cut short";
-        uint32_t call = header[0] % STRICT_CASE;
+        uint32_t call = header[0] % RANKS_CASE;
         if (call > 6 && call != 9)
             return "no such call";
         uint32_t flags = header[0] < STRICT_CASE ? 0 : SUOVVAMET_STRICT;
@@ -339,12 +368,12 @@ static const char *run(void)
         for (size_t i = 0; borrows && i < all; i++)
             work_room[i] = filler(i);
         switch (call) {
-        case 0: rewrite(0, length, flags, header[1], header[2], room, words); break;
+        case 0: rewrite(0, length, flags, header[1], header[2], lent, room, words); break;
         case 1: covers(length, flags, number(header + 4, 4), header[3], words); break;
         case 2: lookup(length, flags, number(header + 4, 4)); break;
         case 3: addresses_held(length, flags); break;
         case 4: unrouted(length, flags, words); break;
-        case 5: rewrite(1, length, flags, header[1], header[2], room, 0); break;
+        case 5: rewrite(1, length, flags, header[1], header[2], lent, room, 0); break;
         case 6: chip_image(length, flags, room); break;
         case 9: special_use(length, flags, number(header + 4, 4)); break;
         }
@@ -360,6 +389,7 @@ static const char *run(void)
         for (size_t i = 0; i < around; i++)
             touched |= kept[i] != table_room[i];
         promise(!touched, "table touched");
+        promise(ranks_kept(), "ranks touched");
     }
 }
 

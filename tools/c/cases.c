@@ -123,7 +123,8 @@ static void promise_words(size_t length, uint32_t flags, int is_set, size_t word
     if (own != SUOVVAMET_ANSWERED) {
         promise(needed.value == 0, "words in a refusal");
         promise(own >= SUOVVAMET_TABLE_LENGTH && own <= SUOVVAMET_ORDER, "words refused by no number of a table");
-        promise(refusal == SUOVVAMET_MODE || refusal == SUOVVAMET_DEFAULT || refusal == SUOVVAMET_RANKS || (refusal == own && at == index.value), "words refused otherwise");
+        int sooner = refusal == SUOVVAMET_MODE || refusal == SUOVVAMET_DEFAULT || refusal == SUOVVAMET_RANKS;
+        promise(sooner || (refusal == own && at == index.value), "words refused otherwise");
         return;
     }
     promise(index.value == 0, "index of an answer");

@@ -42,11 +42,12 @@ int main(int argc, char **argv)
     fclose(file);
 
     int is_set = mode == SUOVVAMET_SET || mode == SUOVVAMET_CONSISTENT_SET;
+    static const uint16_t no_ranks[1]; /* the smallest of equally good hops is taken */
     uint64_t words, count, index;
     int64_t change;
     uint32_t refusal = suovvamet_work_words(table, length, 0, is_set, &words, &index); /* never more than SUOVVAMET_MOST_WORK */
     if (refusal == SUOVVAMET_ANSWERED)
-        refusal = suovvamet_rewrite(table, length, 0, mode, 0, output, sizeof output, work, words, &count, &change, &index);
+        refusal = suovvamet_rewrite(table, length, 0, mode, 0, no_ranks, 0, output, sizeof output, work, words, &count, &change, &index);
     if (refusal != SUOVVAMET_ANSWERED) {
         printf("refused %u at %llu\n", (unsigned)refusal, (unsigned long long)index);
         fprintf(stderr, "shrink: %s\n", suovvamet_refusal_text(refusal));

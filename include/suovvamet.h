@@ -11,11 +11,10 @@
  * record that has such bits is refused instead.
  *
  * What the caller owes, in every call:
- *   - a pointer that is followed by a length points to that many elements (bytes of a table, an output or an image, 32-bit words of a work
- *     room), whatever they hold, and is not NULL even where the length is 0;
+ *   - a pointer that is followed by a length points to that many elements (bytes of a table, an output or an image, ranks, 32-bit words of a
+ *     work room), whatever they hold, and is not NULL even where the length is 0: any object of its type serves there;
  *   - each other pointer points to one number, whatever it holds;
- *   - a table, an output and an image may stand at any address; a work room stands at that of a 32-bit word, and a number at that of its type, as C
- *     has them anyway;
+ *   - a table, an output and an image may stand at any address; ranks, a work room and a number stand at that of their type, as C has them anyway;
  *   - no two of what the pointers of a call point to overlap, and nothing else writes there until the call returns.
  * Nothing else is asked: any bytes and any numbers are answered or refused. Lengths are numbers of 64 bits on every processor; a size_t passes
  * as it is.
@@ -25,7 +24,7 @@
  *   - *index is the index of the record that a refusal 5 to 8 or 25 to 28 names, or of the step that 13 names, counted from 0; it is 0 for the other
  *     refusals and for an answer;
  *   - every number that is set through a pointer is set in every case, and a refusal sets all but *index to 0;
- *   - a table is only read; a work room is 0 throughout afterwards, answered or refused; nothing past a length is read or written.
+ *   - a table and ranks are only read; a work room is 0 throughout afterwards, answered or refused; nothing past a length is read or written.
  *
  * A call clears the whole room that it is lent, so it costs by that room too: lend what the table needs, which suovvamet_work_words tells, and
  * not all that there is.
@@ -54,6 +53,7 @@ enum suovvamet_refusal {
     SUOVVAMET_EDITION = 14,       /* the edition is not 5735 or 6890 */
     SUOVVAMET_MODE = 1,           /* the mode is not 1 to 5; by the plain engine: not 1, 4 or 5 */
     SUOVVAMET_DEFAULT = 2,        /* the mode is 5 and the default is above 63 */
+    SUOVVAMET_RANKS = 15,         /* the mode is 4 or 5, and ranks are lent that are not the numbers 0 to 63 each once */
     SUOVVAMET_TABLE_LENGTH = 3,   /* the table's length is not a multiple of 8 */
     SUOVVAMET_RECORDS = 4,        /* the table has more than 1,024 records */
     SUOVVAMET_PREFIX_LENGTH = 5,  /* a record's length is above 32 */
@@ -95,18 +95,25 @@ enum suovvamet_mode {
  * Rewrites the table in a mode: the records of the mode's result stand in the output from its start, *count is their number and *change is
  * that number less the number of the table's records. The bytes of the output after these records stay as they were, and after a refusal
  * all of them. default_hop is read in mode 5 alone. No table that answers every address alike has fewer records than mode 4's result, nor than mode
- * 5's once unrouted addresses have the default; *change is never above 0 in modes 1 to 4 and never above 1 in mode 5. Refusals 1 to 8, 10 and 11.
+ * 5's once unrouted addresses have the default; *change is never above 0 in modes 1 to 4 and never above 1 in mode 5. Refusals 1, 2, 15, 3 to 8, 10
+ * and 11.
+ *
+ * Where several hops are equally good, modes 4 and 5 take the one of lowest rank. ranks[h] is the rank of hop h: 64 numbers, 0 to 63 each once; or
+ * ranks_length is 0, and then the smallest hop is taken, as by ranks that are the hop numbers. How many records there are does not depend on the
+ * ranks. The other modes do not read them.
  */
-uint32_t suovvamet_rewrite(const uint8_t *table, uint64_t table_length, uint32_t flags, uint32_t mode, uint32_t default_hop, uint8_t *output,
-                           uint64_t output_length, uint32_t *work, uint64_t work_length, uint64_t *count, int64_t *change, uint64_t *index);
+uint32_t suovvamet_rewrite(const uint8_t *table, uint64_t table_length, uint32_t flags, uint32_t mode, uint32_t default_hop,
+                           const uint16_t *ranks, uint64_t ranks_length, uint8_t *output, uint64_t output_length, uint32_t *work,
+                           uint64_t work_length, uint64_t *count, int64_t *change, uint64_t *index);
 
 /*
  * The same in modes 1, 4 and 5 by the plain engine, which needs no work room: other modes are refused by 1, and it never refuses by 10. Wherever
  * suovvamet_rewrite, lent any work room, does not refuse by 10, both give the same numbers and the same output in these modes. It takes no
- * memory but stack and, on large tables, more time (docs/PERFORMANCE.md). Refusals 1 to 8 and 11.
+ * memory but stack and, on large tables, more time (docs/PERFORMANCE.md). Refusals 1, 2, 15, 3 to 8 and 11.
  */
 uint32_t suovvamet_rewrite_plain(const uint8_t *table, uint64_t table_length, uint32_t flags, uint32_t mode, uint32_t default_hop,
-                                 uint8_t *output, uint64_t output_length, uint64_t *count, int64_t *change, uint64_t *index);
+                                 const uint16_t *ranks, uint64_t ranks_length, uint8_t *output, uint64_t output_length, uint64_t *count,
+                                 int64_t *change, uint64_t *index);
 
 /*
  * Does the set cover the prefix of this address and length, each of its addresses lying under some member? Then *covered is 1, else 0.
@@ -190,6 +197,7 @@ static inline const char *suovvamet_refusal_text(uint32_t refusal)
     case SUOVVAMET_ANSWERED: return "answered";
     case SUOVVAMET_MODE: return "the mode is not 1 to 5, or not 1, 4 or 5 by the plain engine";
     case SUOVVAMET_DEFAULT: return "the default hop is above 63";
+    case SUOVVAMET_RANKS: return "the ranks are not the numbers 0 to 63 each once";
     case SUOVVAMET_TABLE_LENGTH: return "the table is not made of whole records of 8 bytes";
     case SUOVVAMET_RECORDS: return "the table has more than 1,024 records";
     case SUOVVAMET_PREFIX_LENGTH: return "the record's length is above 32";

@@ -59,6 +59,7 @@ static void say_number(uint32_t number)
 int main(void)
 {
     uint32_t length = receive_table();
+    static const uint16_t no_ranks[1]; /* the smallest of equally good hops is taken */
     uint64_t words, count, index;
     int64_t change;
     /* A rewrite clears all that it is lent, so it is lent what the table needs, where there is as much. */
@@ -66,7 +67,7 @@ int main(void)
     if (refusal == SUOVVAMET_ANSWERED) {
         if (words > 160 * NODES)
             words = 160 * NODES;
-        refusal = suovvamet_rewrite(table, length, 0, MODE, DEFAULT_HOP, output, sizeof output, work, words, &count, &change, &index);
+        refusal = suovvamet_rewrite(table, length, 0, MODE, DEFAULT_HOP, no_ranks, 0, output, sizeof output, work, words, &count, &change, &index);
     }
     if (refusal != SUOVVAMET_ANSWERED) {
         say("gateway: refused ");

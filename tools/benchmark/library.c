@@ -8,6 +8,9 @@
 /* What byte 3 holds for a list of what has no route, and what is added to the mode for the plain engine. */
 enum { LIST = 0, PLAIN = 128 };
 
+/* No ranks are lent. */
+static const uint16_t no_ranks[1];
+
 static uint8_t table[SUOVVAMET_MOST_OUTPUT], output[SUOVVAMET_MOST_UNROUTED];
 static uint32_t work[SUOVVAMET_MOST_WORK];
 
@@ -52,10 +55,10 @@ int main(void)
         if (head[3] == LIST)
             refusal = suovvamet_unrouted(table, length, 0, output, SUOVVAMET_MOST_UNROUTED, &count, &index);
         else if (head[3] >= PLAIN)
-            refusal = suovvamet_rewrite_plain(table, length, 0, head[3] - PLAIN, head[4], output, SUOVVAMET_MOST_OUTPUT, &count, &change, &index);
+            refusal = suovvamet_rewrite_plain(table, length, 0, head[3] - PLAIN, head[4], no_ranks, 0, output, SUOVVAMET_MOST_OUTPUT, &count, &change, &index);
         else
             refusal =
-                suovvamet_rewrite(table, length, 0, head[3], head[4], output, SUOVVAMET_MOST_OUTPUT, work, words, &count, &change, &index);
+                suovvamet_rewrite(table, length, 0, head[3], head[4], no_ranks, 0, output, SUOVVAMET_MOST_OUTPUT, work, words, &count, &change, &index);
     if (refusal != SUOVVAMET_ANSWERED) {
         print("refused ");
         print_number(refusal);

@@ -6,13 +6,17 @@
 #include "platform.h"
 #include "suovvamet.h"
 
-/* A case's first byte is its call, and so much more under the strict choice. */
-enum { STRICT_CASE = 128 };
+/* A case's first byte is its call, so much more where it lends ranks, and so much more under the strict choice. */
+enum { RANKS_CASE = 64, STRICT_CASE = 128 };
 
-enum { HEADER = 16, MOST_BYTES = 65535, MOST_LIST = 262144, MOST_STEPS = 65535, EDGE = 64, SHIFTS = 4 };
+enum { HEADER = 16, MOST_BYTES = 65535, MOST_LIST = 262144, MOST_RANKS = 255, MOST_STEPS = 65535, MOST_LIVE = 412240, CHECKED_STEPS = 32768, EDGE = 64, SHIFTS = 4 };
 
 static uint8_t table_room[EDGE + SHIFTS + MOST_BYTES + EDGE], kept[sizeof table_room], output_room[EDGE + SHIFTS + MOST_LIST + EDGE];
 static uint32_t work_room[EDGE + SHIFTS + SUOVVAMET_MOST_WORK + EDGE];
+static uint16_t rank_room[EDGE + SHIFTS + MOST_RANKS + EDGE], kept_ranks[sizeof rank_room / sizeof rank_room[0]];
+
+/* What stood in the room of a live map before a call. */
+static uint32_t room_before[MOST_LIVE];
 
 static uint8_t new_room[MOST_BYTES], step_bytes[8];
 static struct suovvamet_step step_room[MOST_STEPS];
@@ -20,6 +24,7 @@ static struct suovvamet_step step_room[MOST_STEPS];
 /* Where the rooms of this case begin. */
 static uint8_t *table, *output;
 static uint32_t *work;
+static uint16_t *ranks;
 
 /* ---- Printing, gathered into large pieces. */
 static char printed[4096];
@@ -124,7 +129,8 @@ static void promise_words(size_t length, uint32_t flags, int is_set, size_t word
     if (own != SUOVVAMET_ANSWERED) {
         promise(needed.value == 0, "words in a refusal");
         promise(own >= SUOVVAMET_TABLE_LENGTH && own <= SUOVVAMET_ORDER, "words refused by no number of a table");
-        promise(refusal == SUOVVAMET_MODE || refusal == SUOVVAMET_DEFAULT || (refusal == own && at == index.value), "words refused otherwise");
+        int sooner = refusal == SUOVVAMET_MODE || refusal == SUOVVAMET_RETIRED || refusal == SUOVVAMET_DEFAULT || refusal == SUOVVAMET_RANKS;
+        promise(sooner || (refusal == own && at == index.value), "words refused otherwise");
         return;
     }
     promise(index.value == 0, "index of an answer");
@@ -174,20 +180,21 @@ static void promise_output(size_t count, size_t room)
 }
 
 /* By the engine over nodes, or by the plain one, which is lent no room. */
-static void rewrite(int plain, size_t length, uint32_t flags, uint32_t mode, uint32_t default_hop, size_t room, size_t words)
+static void rewrite(int plain, size_t length, uint32_t flags, uint32_t mode, uint32_t default_hop, size_t lent, size_t room, size_t words)
 {
     struct guarded count = unset, index = unset, change_room = unset;
     int64_t *change = (int64_t *)&change_room.value;
     fill_output(room);
     uint32_t refusal =
-        plain ? suovvamet_rewrite_plain(table, length, flags, mode, default_hop, output, room, &count.value, change, &index.value)
-              : suovvamet_rewrite(table, length, flags, mode, default_hop, output, room, work, words, &count.value, change, &index.value);
+        plain ? suovvamet_rewrite_plain(table, length, flags, mode, default_hop, ranks, lent, output, room, &count.value, change, &index.value)
+              : suovvamet_rewrite(table, length, flags, mode, default_hop, ranks, lent, output, room, work, words, &count.value, change,
+                                  &index.value);
     promise_guards(&count);
     promise_guards(&change_room);
     if (!plain)
-        promise_words(length, flags, mode <= SUOVVAMET_CONSISTENT_SET, words, refusal, index.value);
+        promise_words(length, flags, mode == SUOVVAMET_SET, words, refusal, index.value);
     if (answered(refusal, &index, count.value == 0 && *change == 0)) {
-        print_records((size_t)count.value, mode > SUOVVAMET_CONSISTENT_SET);
+        print_records((size_t)count.value, mode != SUOVVAMET_SET);
         print(*change < 0 ? "change -" : "change ");
         print_number(*change < 0 ? 0 - (uint64_t)*change : (uint64_t)*change);
         print("\n");
@@ -300,6 +307,94 @@ static void special_use(size_t length, uint32_t flags, uint32_t edition)
     }
 }
 
+/* ---- The live map: commands on one room, which is filled with a pattern that is none. */
+enum { COMMAND = 8 };
+static const uint32_t LIVE_FILLER = 2779096485u;
+
+/* Prints a refusal, or says that there is none. */
+static int done(uint32_t refusal)
+{
+    if (refusal == SUOVVAMET_ANSWERED)
+        return 1;
+    print("refused ");
+    print_number(refusal);
+    print(" at 0\n");
+    return 0;
+}
+
+static void live_command(const uint8_t *command, uint32_t ignored, size_t words)
+{
+    uint32_t flags = (command[0] < STRICT_CASE ? 0 : SUOVVAMET_STRICT) | ignored;
+    uint32_t hop = (uint32_t)command[1] << 8 | command[2], length = command[3], address = 0;
+    for (int i = 4; i < COMMAND; i++)
+        address = address << 8 | command[i];
+    struct guarded32 present = unset32, found = unset32, matched = unset32, by = unset32;
+    int stays = 1;
+    for (size_t i = 0; i < words; i++)
+        room_before[i] = work[i];
+    switch (command[0] % STRICT_CASE) {
+    case 0:
+    case 1: {
+        uint32_t refusal =
+            command[0] % STRICT_CASE == 0 ? suovvamet_live_make(work, words) : suovvamet_live_put(work, words, flags, address, length, hop);
+        if (done(refusal)) {
+            print("done\n");
+            stays = 0;
+        }
+        break;
+    }
+    case 2:
+        if (done(suovvamet_live_take(work, words, flags, address, length, &present.value))) {
+            print(present.value ? "done\n" : "absent\n");
+            promise(present.value <= 1, "present is no 0 or 1");
+            stays = present.value == 0;
+        } else
+            promise(present.value == 0, "value in a refusal");
+        promise_guards32(&present);
+        break;
+    case 3: {
+        int zero;
+        uint32_t refusal = suovvamet_live_lookup(work, words, address, &found.value, &by.value, &matched.value);
+        zero = found.value == 0 && by.value == 0 && matched.value == 0;
+        promise_guards32(&found);
+        promise_guards32(&by);
+        promise_guards32(&matched);
+        if (!done(refusal))
+            promise(zero, "value in a refusal");
+        else if (found.value == 1) {
+            print("hop ");
+            print_number(by.value);
+            print(" length ");
+            print_number(matched.value);
+            print("\n");
+        } else {
+            print("no route\n");
+            promise(zero, "value without a route");
+        }
+        break;
+    }
+    case 4:
+        if (address < words)
+            work[address] ^= (uint32_t)1 << length % 32;
+        print("flipped\n");
+        stays = 0;
+        break;
+    default: print("no such command\n");
+    }
+    uint32_t changed = 0;
+    for (size_t i = 0; stays && i < words; i++)
+        changed |= work[i] ^ room_before[i];
+    promise(changed == 0, "room touched");
+}
+
+static void live_map(size_t length, uint32_t ignored, size_t words)
+{
+    for (size_t i = 0; i < words; i++)
+        work[i] = LIVE_FILLER;
+    for (size_t at = 0; at + COMMAND <= length; at += COMMAND)
+        live_command(table + at, ignored, words);
+}
+
 /* ---- Plans: the new table and the steps stand behind the installed table. */
 static int read_new(size_t new_length)
 {
@@ -381,6 +476,30 @@ static uint32_t number(const uint8_t *bytes, int size)
     return n;
 }
 
+/* ---- The ranks of a case: a byte that says how many they are, and a byte each. Where it lends none the room stands there with length 0. */
+static int read_ranks(uint8_t first, size_t *lent)
+{
+    for (size_t i = 0; i < sizeof rank_room / sizeof rank_room[0]; i++)
+        rank_room[i] = (uint16_t)(pattern(i) << 8 | pattern(i + 1));
+    uint8_t count = 0, bytes[MOST_RANKS];
+    if (first % STRICT_CASE >= RANKS_CASE && (platform_read(&count, 1) < 1 || platform_read(bytes, count) < count))
+        return 0;
+    for (size_t i = 0; i < count; i++)
+        ranks[i] = bytes[i];
+    for (size_t i = 0; i < sizeof rank_room / sizeof rank_room[0]; i++)
+        kept_ranks[i] = rank_room[i];
+    *lent = count;
+    return 1;
+}
+
+static int ranks_kept(void)
+{
+    int same = 1;
+    for (size_t i = 0; i < sizeof rank_room / sizeof rank_room[0]; i++)
+        same &= kept_ranks[i] == rank_room[i];
+    return same;
+}
+
 /* The line that ends the run, NULL after the last whole case. */
 static const char *run(void)
 {
@@ -392,13 +511,22 @@ static const char *run(void)
         table = table_room + EDGE + at % SHIFTS;
         output = output_room + EDGE + (at + 1) % SHIFTS;
         work = work_room + EDGE + at % SHIFTS;
-        size_t length = number(header + 14, 2), around = (size_t)(table - table_room) + length + EDGE;
+        ranks = rank_room + EDGE + at % SHIFTS;
+        uint32_t call = header[0] % RANKS_CASE;
+        size_t lent = 0;
+        if (got < HEADER || !read_ranks(header[0], &lent))
+            return "case cut short";
+        size_t length = call == 10 ? COMMAND * (size_t)number(header + 12, 2) : number(header + 14, 2);
+        if (length > MOST_BYTES)
+            return "too many commands";
+        if (call == 7 && number(header + 10, 2) > CHECKED_STEPS)
+            return "too many steps";
+        size_t around = (size_t)(table - table_room) + length + EDGE;
         for (size_t i = 0; i < around; i++)
             table_room[i] = pattern(i);
-        if (got < HEADER || platform_read(table, length) < length)
+        if (platform_read(table, length) < length)
             return "case cut short";
-        uint32_t call = header[0] % STRICT_CASE;
-        if (call > 9)
+        if (call > 10)
             return "no such call";
         size_t new_length = number(header + 8, 2), steps = number(header + 10, 2);
         if ((call == 7 || call == 8) && (!read_new(new_length) || (call == 7 && !read_steps(steps))))
@@ -408,31 +536,32 @@ static const char *run(void)
         size_t words = number(header + 8, 4), room = number(header + 12, 2);
         if (call == 4 && words > MOST_LIST)
             return "output too large";
-        if (call < 4 && words > SUOVVAMET_MOST_WORK)
+        if ((call < 4 && words > SUOVVAMET_MOST_WORK) || (call == 10 && words > MOST_LIVE))
             return "work room too large";
         for (size_t i = 0; i < around; i++)
             kept[i] = table_room[i];
-        int borrows = call <= 1;
+        int borrows = call <= 1 || call == 10;
         size_t before = (size_t)(work - work_room), all = before + words + EDGE;
         for (size_t i = 0; borrows && i < all; i++)
             work_room[i] = filler(i);
         switch (call) {
-        case 0: rewrite(0, length, flags, header[1], header[2], room, words); break;
+        case 0: rewrite(0, length, flags, header[1], header[2], lent, room, words); break;
         case 1: covers(length, flags, number(header + 4, 4), header[3], words); break;
         case 2: lookup(length, flags, number(header + 4, 4)); break;
         case 3: addresses_held(length, flags); break;
         case 4: unrouted(length, flags, words); break;
-        case 5: rewrite(1, length, flags, header[1], header[2], room, 0); break;
+        case 5: rewrite(1, length, flags, header[1], header[2], lent, room, 0); break;
         case 6: chip_image(length, flags, room); break;
         case 7: check_plan(length, new_length, flags, steps); break;
         case 8: plan(length, new_length, flags, steps); break;
         case 9: special_use(length, flags, number(header + 4, 4)); break;
+        case 10: live_map(length, filler(at) & ~(uint32_t)SUOVVAMET_STRICT, words); break;
         }
         uint32_t left = 0, round = 0;
         for (size_t i = 0; borrows && i < all; i++)
             if (i < before || i >= before + words)
                 round |= work_room[i] ^ filler(i);
-            else
+            else if (call != 10)
                 left |= work_room[i];
         promise(left == 0, "work not zero");
         promise(round == 0, "beside the work room touched");
@@ -440,6 +569,7 @@ static const char *run(void)
         for (size_t i = 0; i < around; i++)
             touched |= kept[i] != table_room[i];
         promise(!touched, "table touched");
+        promise(ranks_kept(), "ranks touched");
     }
 }
 

@@ -26,6 +26,9 @@ pub const SPECIAL: u8 = 9;
 /// Added to the call where host bits are refused, not masked.
 pub const STRICT: u8 = 128;
 
+/// Added to the call where ranks are lent.
+pub const RANKED: u8 = 64;
+
 /// The most words of work room that a case asks for: 160 for each of 5,153 nodes.
 pub const MOST_WORK: u32 = 824_480;
 
@@ -36,6 +39,8 @@ pub const MOST_LIST: u32 = 262_144;
 pub struct Case {
     pub call: u8,
     pub strict: bool,
+    /// The ranks that are lent; an empty list is as none.
+    pub ranks: Option<Vec<u8>>,
     pub mode: u8,
     pub default: u8,
     pub query_length: u8,
@@ -53,11 +58,16 @@ pub struct Case {
 
 impl Case {
     pub fn write(&self, to: &mut Vec<u8>) {
-        to.extend([self.call + if self.strict { STRICT } else { 0 }, self.mode, self.default, self.query_length]);
+        let choices = if self.strict { STRICT } else { 0 } + if self.ranks.is_some() { RANKED } else { 0 };
+        to.extend([self.call + choices, self.mode, self.default, self.query_length]);
         to.extend(self.query.to_be_bytes());
         to.extend(self.work.to_be_bytes());
         to.extend(self.room.to_be_bytes());
         to.extend((self.table.len() as u16).to_be_bytes());
+        if let Some(ranks) = &self.ranks {
+            to.push(ranks.len() as u8);
+            to.extend(ranks);
+        }
         to.extend(&self.table);
         to.extend(&self.more);
     }
@@ -69,7 +79,15 @@ impl Case {
         }
         let (head, rest) = from.split_at(16);
         let word = |at: usize| u32::from_be_bytes([head[at], head[at + 1], head[at + 2], head[at + 3]]);
-        let call = head[0] % STRICT;
+        let call = head[0] % RANKED;
+        let (ranks, rest) = match (head[0] & RANKED != 0, rest) {
+            (false, _) => (None, rest),
+            (true, [count, rest @ ..]) if rest.len() >= *count as usize => {
+                let (ranks, rest) = rest.split_at(*count as usize);
+                (Some(ranks.to_vec()), rest)
+            }
+            _ => return Err("case cut short"),
+        };
         let length = (word(12) & 0xFFFF) as usize;
         let more = match call {
             CHECK => (word(8) >> 16) as usize + 8 * (word(8) & 0xFFFF) as usize,
@@ -82,6 +100,7 @@ impl Case {
         let case = Case {
             call,
             strict: head[0] >= STRICT,
+            ranks,
             mode: head[1],
             default: head[2],
             query_length: head[3],
@@ -121,6 +140,9 @@ impl Case {
         };
         if self.strict {
             text.push_str(", strict");
+        }
+        if let Some(ranks) = &self.ranks {
+            let _ = write!(text, ", ranks {ranks:?}");
         }
         let _ = match self.call {
             UNROUTED => writeln!(text, "; {} bytes of output, {} bytes of table", self.work, self.table.len()),

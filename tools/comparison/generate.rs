@@ -312,6 +312,48 @@ fn near_special(random: &mut Random, case: &mut Case, routes: &mut Vec<Route>) {
     routes.truncate(1024);
 }
 
+/// The numbers 0 to 63 in another order; now and then as they are.
+fn shuffled(random: &mut Random) -> Vec<u8> {
+    let mut ranks: Vec<u8> = (0..64).collect();
+    if random.chance(95) {
+        for i in 0..63 {
+            let other = random.within(i, 63);
+            ranks.swap(i, other);
+        }
+    }
+    ranks
+}
+
+/// A list that is not of the form of ranks.
+fn unlawful(random: &mut Random) -> Vec<u8> {
+    let mut ranks = shuffled(random);
+    let (at, other) = (random.below(63), random.below(63));
+    match random.below(6) {
+        0 => ranks[at] = ranks[at + 1],
+        1 => ranks[other] = random.pick(&[64, 65, 255]),
+        2 => ranks.truncate(random.within(1, 63)),
+        3 => ranks = vec![0; random.pick(&[1, 63, 64, 255])],
+        4 => ranks.push(random.pick(&[0, 63, 64])),
+        _ => ranks = (1..=64).collect(),
+    }
+    ranks
+}
+
+/// Ranks for a call: lent to some rewrites, where modes 4 and 5 need them of their form, and standing there, not read, in some of the other calls.
+fn lend_ranks(random: &mut Random, case: &mut Case) {
+    let reads = case.call == REWRITE && (case.mode == 4 || case.mode == 5);
+    case.ranks = match random.below(100) {
+        0..=9 => Some(Vec::new()),
+        10..=49 if case.call == REWRITE => Some(shuffled(random)),
+        50..=69 if case.call == REWRITE && !reads => Some(unlawful(random)),
+        10..=14 => Some(unlawful(random)),
+        _ => None,
+    };
+    if reads && case.ranks.as_ref().is_some_and(|ranks| !ranks.is_empty() && ranks.len() != 64) {
+        case.ranks = None;
+    }
+}
+
 /// Sets host bits in some of the records, or in none or all.
 pub fn loosen(random: &mut Random, table: &mut [u8]) {
     let loosened = random.pick(&[0, 10, 50, 100]);
@@ -380,7 +422,7 @@ fn make_room(random: &mut Random, case: &mut Case, rooms: usize) {
 }
 
 pub fn blank(call: u8, mode: u8) -> Case {
-    Case { call, strict: false, mode, default: 0, query_length: 0, query: 0, work: 0, room: 0, table: Vec::new(), more: Vec::new() }
+    Case { call, strict: false, ranks: None, mode, default: 0, query_length: 0, query: 0, work: 0, room: 0, table: Vec::new(), more: Vec::new() }
 }
 
 /// A call on an accepted table. What `rooms` says of a room that the call is not lent is passed over.
@@ -412,6 +454,7 @@ fn whole(random: &mut Random, call: u8, mode: u8, shape: usize, rooms: usize) ->
     if !case.strict {
         loosen(random, &mut case.table);
     }
+    lend_ranks(random, &mut case);
     make_room(random, &mut case, rooms);
     let rooms = if call == LOOKUP || call == HELD || call == SPECIAL { "none lent" } else { ROOMS[rooms] };
     Made { case, shape: SHAPES[shape], rooms, damage: None }
@@ -420,7 +463,7 @@ fn whole(random: &mut Random, call: u8, mode: u8, shape: usize, rooms: usize) ->
 /// The numbers that a call can give.
 pub fn numbers(call: u8) -> &'static [u8] {
     match call {
-        REWRITE => &[1, 2, 3, 4, 5, 6, 7, 8, 10, 11],
+        REWRITE => &[1, 2, 15, 3, 4, 5, 6, 7, 8, 10, 11],
         COVER => &[3, 4, 5, 6, 7, 8, 9, 10],
         UNROUTED => &[3, 4, 5, 6, 7, 8, 11],
         CHIP => &[3, 4, 5, 6, 7, 8, 12],
@@ -442,8 +485,8 @@ pub fn pairs(call: u8) -> Vec<(u8, u8, Order)> {
     let mut pairs = Vec::new();
     for (i, &first) in numbers(call).iter().enumerate() {
         for &second in &numbers(call)[i + 1..] {
-            if (first, second) == (1, 2) {
-                continue; // one needs a mode that is not 1 to 5, the other mode 5
+            if first == 1 && (second == 2 || second == 15) {
+                continue; // one needs a mode that is not 1 to 5, the other mode 4 or 5
             }
             pairs.push((first, second, Order::Same));
             if (5..=8).contains(&first) && (5..=8).contains(&second) {
@@ -496,6 +539,7 @@ fn damaged(random: &mut Random, call: u8, first: u8, second: u8, order: Order, s
     let mode = match call {
         REWRITE if has(1) => random.pick(&[0, 6, 255]),
         REWRITE if has(2) => 5,
+        REWRITE if has(15) => random.pick(&[4, 5]),
         REWRITE => random.within(1, 5) as u8,
         _ => random.pick(&[0, 1, 6, 255]),
     };
@@ -524,6 +568,11 @@ fn damaged(random: &mut Random, call: u8, first: u8, second: u8, order: Order, s
     if !case.strict {
         loosen(random, &mut case.table);
     }
+    if has(15) {
+        case.ranks = Some(unlawful(random));
+    } else {
+        lend_ranks(random, &mut case);
+    }
     ask(random, &mut case, &routes);
     if call == SPECIAL {
         case.query = if has(14) { random.pick(&[0, 1, 5734, 5736, 6889, 6891, u32::MAX]) } else { random.pick(&[5735, 6890]) };
@@ -542,7 +591,7 @@ fn damaged(random: &mut Random, call: u8, first: u8, second: u8, order: Order, s
                 case.work = if random.chance(70) { case.work - 1 } else { 0 };
             }
         }
-    } else if has(1) || has(2) || has(4) || has(9) {
+    } else if has(1) || has(2) || has(15) || has(4) || has(9) {
         // The need of work room or output is not defined here, or does not matter: none, or plenty.
         case.work = if has(10) { 0 } else { 16_384 };
         case.room = if has(11) { 0 } else { 8 * (count as u16 + 1) };
@@ -764,6 +813,22 @@ pub fn fixed() -> Vec<Made> {
     }
     for (mode, default) in [(5, 63), (5, 64), (5, 255), (4, 64), (3, 255)] {
         list.push(edge(REWRITE, mode, default, 0, &table));
+    }
+    // Ranks: each order of three hops, the first and the last alone moved, lists that are none; a list in every mode and in every other call.
+    let side_by_side = table_of(&prefixes("10.0.0.0/10>0 10.64.0.0/10>1 10.128.0.0/9>2 11.0.0.0/9>62 11.128.0.0/9>63"));
+    let turned = |by: u8| (0..64).map(|hop| (hop + by) % 64).collect::<Vec<u8>>();
+    let lists = [Vec::new(), turned(0), turned(1), turned(2), turned(62), turned(63), (0..64).rev().collect(), vec![0; 64], turned(0)[..63].to_vec()];
+    for ranks in lists.into_iter().chain([[&turned(0)[..], &[64]].concat(), [&turned(0)[..63], &[64]].concat(), vec![0; 255]]) {
+        for mode in [1, 3, 4, 5] {
+            let mut made = edge(REWRITE, mode, 62, 0, if mode == 1 { &set } else { &side_by_side });
+            made.case.ranks = Some(ranks.clone());
+            list.push(made);
+        }
+    }
+    for (call, table) in [(COVER, &set), (LOOKUP, &table), (HELD, &table), (UNROUTED, &table), (CHIP, &table), (SPECIAL, &table)] {
+        let mut made = edge(call, 0, 0, 8, table);
+        made.case.ranks = Some(vec![7; 9]);
+        list.push(made);
     }
     for length in [0, 1, 31, 32, 33, 255] {
         list.push(edge(COVER, 0, 0, length, &set));

@@ -65,6 +65,21 @@ fn matched_by_crate(routes: &[Route], slots: &[Route]) -> bool {
     oracle::lookups(routes, &asked).into_iter().eq(asked.iter().map(first_match))
 }
 
+/// The crate's rewrite. Under ranks it is given each hop's rank for the hop, so that the smallest number is the lowest rank, and the ranks that come out
+/// are put back.
+fn rewritten_by_crate(case: &Case, routes: &[Route]) -> (Vec<Route>, i64) {
+    match case.ranks.as_deref() {
+        Some(ranks @ [_, ..]) if case.mode >= 4 => {
+            let ranked: Vec<Route> = routes.iter().map(|&(address, length, hop)| (address, length, ranks[hop as usize])).collect();
+            let default = if case.mode == 5 { ranks[case.default as usize] } else { 0 };
+            let (out, change) = oracle::rewrite(case.mode, default, &ranked);
+            let hop = |rank: u8| ranks.iter().position(|&of| of == rank).expect("each rank is there") as u8;
+            (out.into_iter().map(|(address, length, rank)| (address, length, hop(rank))).collect(), change)
+        }
+        _ => oracle::rewrite(case.mode, case.default, routes),
+    }
+}
+
 /// How often the crate is asked about one plan, at most.
 const MOST_ASKED: usize = 20_000;
 
@@ -93,7 +108,7 @@ fn followed_by_crate(old: &[Route], new: &[Route], steps: &[plans::Step], good: 
     good == (table == goal) || every > 1 && !good
 }
 
-/// The answer that is expected: refusals 1 to 9, 12 to 14 and 23 to 28, the list of what has no route, the chip's image and plans by the model, all else by
+/// The answer that is expected: refusals 1 to 9, 12 to 15 and 23 to 28, the list of what has no route, the chip's image and plans by the model, all else by
 /// the crate, which is asked about those all the same.
 fn expected(case: &Case) -> Answer {
     if case.call == CHECK || case.call == PLAN {
@@ -118,7 +133,7 @@ fn expected(case: &Case) -> Answer {
     match case.call {
         REWRITE if work_short() => Answer::Refused(10, 0),
         REWRITE | PLAIN => {
-            let (out, change) = oracle::rewrite(case.mode, case.default, &routes);
+            let (out, change) = rewritten_by_crate(case, &routes);
             if (case.room as usize) < 8 * out.len() {
                 Answer::Refused(11, 0)
             } else {
@@ -248,6 +263,12 @@ impl Counts {
             (false, false) => "masked, with none",
         };
         self.add(format!("reading  {reading}"));
+        let ranks = match &made.case.ranks {
+            None => "none lent",
+            Some(ranks) if ranks.is_empty() => "an empty list",
+            Some(_) => "lent",
+        };
+        self.add(format!("ranks    {ranks}"));
         self.add(format!("shape    {}", made.shape));
         self.add(format!("rooms    {}", made.rooms));
         if let Some(damage) = made.damage.as_ref().filter(|damage| damage.second != 0) {

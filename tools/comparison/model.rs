@@ -65,10 +65,16 @@ pub enum Fault {
     TakesFirst,
     UnchangedPut,
     NeverTooMany,
+    HighestRank,
+    RankAsHop,
+    RanksIgnored,
+    RanksReadInMode3,
+    RankTwiceTaken,
+    FewRanksTaken,
 }
 
 /// Each planted mistake and what it does wrong.
-pub const FAULTS: [(Fault, &str); 55] = [
+pub const FAULTS: [(Fault, &str); 61] = [
     (Fault::LargestHop, "modes 4, 5: the largest hop of a set instead of the smallest"),
     (Fault::HoleIsEmptySet, "mode 4: a hole taken as an empty set"),
     (Fault::AlwaysSmallest, "modes 4, 5: the smallest hop even where the hop above is in the set"),
@@ -124,6 +130,12 @@ pub const FAULTS: [(Fault, &str); 55] = [
     (Fault::TakesFirst, "plan: takes before puts"),
     (Fault::UnchangedPut, "plan: a record put that does not change"),
     (Fault::NeverTooMany, "plan: given where the prefixes are more than 1,024"),
+    (Fault::HighestRank, "ranks: the hop of highest rank chosen"),
+    (Fault::RankAsHop, "ranks: read as the hops in the order of their ranks"),
+    (Fault::RanksIgnored, "ranks: the smallest hop chosen all the same"),
+    (Fault::RanksReadInMode3, "number 15: given in mode 3"),
+    (Fault::RankTwiceTaken, "number 15: not given where a number is there twice"),
+    (Fault::FewRanksTaken, "number 15: not given where there are fewer than 64"),
 ];
 
 /// The first `length` bits set.
@@ -174,7 +186,34 @@ fn bad_record(record: &[u8], before: Option<&[u8]>, is_map: bool, strict: bool, 
     None
 }
 
-/// The routes of an accepted call's table, or the refusal by a number of 1 to 9 or 14.
+/// Ranks as they may be lent: none, or the numbers 0 to 63 each once.
+fn lawful(ranks: &[u8], fault: Fault) -> bool {
+    let mut sorted = ranks.to_vec();
+    sorted.sort();
+    match fault {
+        Fault::RankTwiceTaken => ranks.is_empty() || ranks.len() == 64 && sorted[63] < 64,
+        Fault::FewRanksTaken => ranks.len() <= 64 && sorted.iter().all(|&rank| rank < 64) && sorted.windows(2).all(|two| two[0] < two[1]),
+        _ => ranks.is_empty() || sorted.into_iter().eq(0..64),
+    }
+}
+
+/// The hop of a set that is chosen: the one of lowest rank, and the smallest where no ranks are lent.
+fn chosen(set: u64, ranks: &[u8], fault: Fault) -> u8 {
+    let hops = (0..64u8).filter(|&hop| set >> hop & 1 == 1);
+    let rank = |&hop: &u8| match fault {
+        Fault::RanksIgnored => hop,
+        Fault::RankAsHop => ranks.iter().position(|&rank| rank == hop).map_or(hop, |at| at as u8),
+        _ => ranks.get(hop as usize).copied().unwrap_or(hop),
+    };
+    let hop = match fault {
+        Fault::LargestHop => hops.last(),
+        Fault::HighestRank if !ranks.is_empty() => hops.max_by_key(rank),
+        _ => hops.min_by_key(rank),
+    };
+    hop.expect("a set has a hop")
+}
+
+/// The routes of an accepted call's table, or the refusal by a number of 1 to 9, 14 or 15.
 pub fn accepted(case: &Case, fault: Fault) -> Result<Vec<Route>, (u8, usize)> {
     if case.call == REWRITE || case.call == PLAIN {
         let known = match case.call {
@@ -186,6 +225,10 @@ pub fn accepted(case: &Case, fault: Fault) -> Result<Vec<Route>, (u8, usize)> {
         }
         if (case.mode == 5 || fault == Fault::DefaultAlwaysRead) && case.default > 63 {
             return Err((2, 0));
+        }
+        let read = case.mode >= 4 || case.mode == 3 && fault == Fault::RanksReadInMode3;
+        if read && !lawful(case.ranks.as_deref().unwrap_or(&[]), fault) {
+            return Err((15, 0));
         }
     }
     if case.call == SPECIAL && ranges(case.query, fault).is_none() {
@@ -280,7 +323,8 @@ impl<'a> Position<'a> {
     /// The two halves, or none where no route lies below: there every address has the hop of this position.
     fn halves(&self) -> Option<(Self, Self)> {
         let below = self.below();
-        if below.is_empty() {
+        // Below a whole address there is nothing; only a planted fault leaves routes there.
+        if below.is_empty() || self.length == 32 {
             return None;
         }
         let upper = self.address | 1 << (31 - self.length);
@@ -341,7 +385,7 @@ fn sets(position: Position, default: Option<u8>, fault: Fault) -> Sets {
     }
 }
 
-fn assign(sets: &Sets, address: u32, length: u32, above: Option<u8>, fault: Fault, out: &mut Vec<Route>) {
+fn assign(sets: &Sets, address: u32, length: u32, above: Option<u8>, ranks: &[u8], fault: Fault, out: &mut Vec<Route>) {
     let here = match (sets.set, above) {
         (None, _) => None,
         (Some(_), Some(hop)) if fault == Fault::NodeEdgeInherits && length % 5 == 0 => Some(hop),
@@ -349,14 +393,14 @@ fn assign(sets: &Sets, address: u32, length: u32, above: Option<u8>, fault: Faul
             Some(hop)
         }
         (Some(set), _) => {
-            let hop = if fault == Fault::LargestHop { 63 - set.leading_zeros() } else { set.trailing_zeros() } as u8;
+            let hop = chosen(set, ranks, fault);
             out.push((address, length as u8, hop));
             Some(hop)
         }
     };
     if let Some(halves) = &sets.halves {
-        assign(&halves.0, address, length + 1, here, fault, out);
-        assign(&halves.1, address | 1 << (31 - length), length + 1, here, fault, out);
+        assign(&halves.0, address, length + 1, here, ranks, fault, out);
+        assign(&halves.1, address | 1 << (31 - length), length + 1, here, ranks, fault, out);
     }
 }
 
@@ -369,10 +413,10 @@ fn nearest_above<'a>(routes: &'a [Route], route: &Route) -> Option<&'a Route> {
     routes.iter().filter(|other| lies_in(route, other)).max_by_key(|other| other.1)
 }
 
-fn rewritten(mode: u8, default: u8, routes: &[Route], fault: Fault) -> Vec<Route> {
+fn rewritten(mode: u8, default: u8, ranks: &[u8], routes: &[Route], fault: Fault) -> Vec<Route> {
     let mut out = Vec::new();
     match mode {
-        1 if fault == Fault::NoMerge => return rewritten(2, default, routes, Fault::None),
+        1 if fault == Fault::NoMerge => return rewritten(2, default, ranks, routes, Fault::None),
         1 => {
             Position::root(routes).maximal_covered(&mut out);
             if fault == Fault::MergeUnaligned {
@@ -411,7 +455,7 @@ fn rewritten(mode: u8, default: u8, routes: &[Route], fault: Fault) -> Vec<Route
         _ => {
             let default = if fault == Fault::DefaultIsZero { 0 } else { default };
             let sets = sets(Position::root(routes), if mode == 5 { Some(default) } else { None }, fault);
-            assign(&sets, 0, 0, None, fault, &mut out);
+            assign(&sets, 0, 0, None, ranks, fault, &mut out);
         }
     }
     out
@@ -567,7 +611,7 @@ pub fn answer(case: &Case, fault: Fault) -> Answer {
     let work_short = || (case.work as usize) < 160 * nodes(&routes, fault);
     match case.call {
         REWRITE | PLAIN => {
-            let out = rewritten(case.mode, case.default, &routes, fault);
+            let out = rewritten(case.mode, case.default, case.ranks.as_deref().unwrap_or(&[]), &routes, fault);
             let output_short = (case.room as usize) < 8 * out.len();
             if fault == Fault::OutputBeforeWork && output_short {
                 return Answer::Refused(11, 0);

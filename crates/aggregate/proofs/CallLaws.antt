@@ -8,6 +8,7 @@ use native.Mathlib.Omega.{arith}
 use lib.Dec.{eqb, leb}
 use lib.ListN.{length}
 use borrow.Author.Tests.{leb-true, le-leb, lt-leb}
+use Rattle.theory.specs.Ranks.{isRanking}
 use Rattle.theory.specs.Results.{startOf, throughout}
 use Rattle.theory.specs.Routes.{held, All, Aligned, Valid}
 use Rattle.theory.proofs.Maximal.{throughout-agree}
@@ -29,50 +30,56 @@ use Rattle.gather.proofs.GatherLaws.{root-run, root-node}
 use Rattle.calls.specs.Covering.{coverRules, coveredBy, coverReply}
 use Rattle.calls.specs.Rewriting.{resultOf, takesSet, rewriteRules, replyBy, rewriteReply}
 use Rattle.calls.specs.Ending.{lastReply}
-use Rattle.calls.proofs.Ending.{refused-mode, refused-default, refused-table, last-decide, checked-lawful}
+use Rattle.calls.proofs.Ending.{refused-mode, refused-default, refused-ranks, refused-table, last-decide, checked-lawful}
 use Rattle.aggregate.specs.Walks.{whole, Ready}
 
 -- ---- The rewrite.
 
-module _ (form : Form) (t : List ℕ) (mode default room words : ℕ) where
+module _ (form : Form) (t : List ℕ) (mode default : ℕ) (ranks : List ℕ) (room words : ℕ) where
   abbrev known : Bool
   known = leb 1 mode && leb mode 5
 
   -- The rules of the rooms.
   abbrev rooms : List Rule
-  rooms = rule 10 0 (leb (160 * nodes 32 (routes t)) words) ∷ rule 11 0 (leb (8 * length (resultOf t mode default)) room) ∷ []
+  rooms = rule 10 0 (leb (160 * nodes 32 (routes t)) words) ∷ rule 11 0 (leb (8 * length (resultOf t mode default ranks)) room) ∷ []
 
   -- Number 1.
-  pub not-a-mode : (leb 1 mode && leb mode 5) ≡ false → rewriteReply form t mode default room words ≡ refuses 1 0
+  pub not-a-mode : (leb 1 mode && leb mode 5) ≡ false → rewriteReply form t mode default ranks room words ≡ refuses 1 0
   unfolding replyBy rewriteRules
-  not-a-mode e = refused-mode known form t mode default rooms (resultOf t mode default) e
+  not-a-mode e = refused-mode known form t mode default ranks rooms (resultOf t mode default ranks) e
 
   module _ (is : (leb 1 mode && leb mode 5) ≡ true) where
     -- Number 2.
-    pub not-a-hop : (not (eqb mode 5) || leb default 63) ≡ false → rewriteReply form t mode default room words ≡ refuses 2 0
+    pub not-a-hop : (not (eqb mode 5) || leb default 63) ≡ false → rewriteReply form t mode default ranks room words ≡ refuses 2 0
     unfolding replyBy rewriteRules
-    not-a-hop e = refused-default known form t mode default rooms (resultOf t mode default) is e
+    not-a-hop e = refused-default known form t mode default ranks rooms (resultOf t mode default ranks) is e
 
     module _ (ok : (not (eqb mode 5) || leb default 63) ≡ true) where
-      -- Numbers 3 to 8.
-      pub not-a-table : {n i : ℕ} → checkReply form (takesSet mode) t ≡ refuses n i → rewriteReply form t mode default room words ≡ refuses n i
+      -- Number 15.
+      pub not-a-ranking : (not (leb 4 mode) || isRanking 64 ranks) ≡ false → rewriteReply form t mode default ranks room words ≡ refuses 15 0
       unfolding replyBy rewriteRules
-      not-a-table e = refused-table known form t mode default rooms (resultOf t mode default) is ok e
+      not-a-ranking e = refused-ranks known form t mode default ranks rooms (resultOf t mode default ranks) is ok e
 
-      module _ {k : ℕ} (valid : checkReply form (takesSet mode) t ≡ gives k) where
-        -- Past the table's rules the rooms decide.
-        past-table : rewriteReply form t mode default room words
-            ≡ judge (rule 10 0 (leb (160 * nodes 32 (routes t)) words) ∷ rule 11 0 (leb (8 * length (resultOf t mode default)) room) ∷ []) (resultOf t mode default)
+      module _ (ranked : (not (leb 4 mode) || isRanking 64 ranks) ≡ true) where
+        -- Numbers 3 to 8.
+        pub not-a-table : {n i : ℕ} → checkReply form (takesSet mode) t ≡ refuses n i → rewriteReply form t mode default ranks room words ≡ refuses n i
         unfolding replyBy rewriteRules
-        past-table = last-decide known form t mode default rooms (resultOf t mode default) is ok valid
+        not-a-table e = refused-table known form t mode default ranks rooms (resultOf t mode default ranks) is ok ranked e
 
-        -- Number 10.
-        pub short-room : words < 160 * nodes 32 (routes t) → rewriteReply form t mode default room words ≡ refuses 10 0
-        short-room h = past-table ∙ broken-here _ 10 0 _ (lt-leb (160 * nodes 32 (routes t)) words h)
+        module _ {k : ℕ} (valid : checkReply form (takesSet mode) t ≡ gives k) where
+          -- Past the table's rules the rooms decide.
+          past-table : rewriteReply form t mode default ranks room words
+              ≡ judge (rule 10 0 (leb (160 * nodes 32 (routes t)) words) ∷ rule 11 0 (leb (8 * length (resultOf t mode default ranks)) room) ∷ []) (resultOf t mode default ranks)
+          unfolding replyBy rewriteRules
+          past-table = last-decide known form t mode default ranks rooms (resultOf t mode default ranks) is ok ranked valid
 
-        -- Past it only the output's room does.
-        pub only-output : 160 * nodes 32 (routes t) ≤ words → rewriteReply form t mode default room words ≡ lastReply t mode default room
-        only-output h = past-table ∙ kept-next _ 10 0 _ (le-leb (160 * nodes 32 (routes t)) words h)
+          -- Number 10.
+          pub short-room : words < 160 * nodes 32 (routes t) → rewriteReply form t mode default ranks room words ≡ refuses 10 0
+          short-room h = past-table ∙ broken-here _ 10 0 _ (lt-leb (160 * nodes 32 (routes t)) words h)
+
+          -- Past it only the output's room does.
+          pub only-output : 160 * nodes 32 (routes t) ≤ words → rewriteReply form t mode default ranks room words ≡ lastReply t mode default ranks room
+          only-output h = past-table ∙ kept-next _ 10 0 _ (le-leb (160 * nodes 32 (routes t)) words h)
 
 -- Rule 1 says that the mode is one of the five.
 pub mode-range : (mode : ℕ) → (leb 1 mode && leb mode 5) ≡ true → (1 ≤ mode) × (mode ≤ 5)

@@ -10,12 +10,11 @@ use native.Mathlib.Omega.{arith}
 use lib.Dec.{eqb}
 use lib.ListN.{length, drop}
 use borrow.Author.Tests.{lt-ltb, eqb-true, eqb-false}
-use Rattle.theory.specs.Results.{ortc, result, smallest}
+use Rattle.theory.specs.Results.{ortc, result}
 use Rattle.theory.specs.Ranks.{lowest}
 use Rattle.theory.specs.Routes.{Route, held, Answer, none, via, answer, orDefault, filled, Valid, All, Table}
 use Rattle.theory.proofs.Agree.{ortc-agree}
-use Rattle.theory.proofs.Chosen.{smallest-chooses}
-use Rattle.theory.proofs.Ranks.{lowest-chooses, unranked-result}
+use Rattle.theory.proofs.Ranks.{lowest-chooses}
 use Rattle.theory.proofs.Lengths.{most-of, result-length}
 use Rattle.records.specs.Wire.{records, routes, bytesOf}
 use Rattle.records.proofs.Reading.{length-routes}
@@ -38,43 +37,42 @@ use Rattle.aggregate.specs.Walks.{whole, wideResult}
 
 -- ---- From wide addresses to those of the wire.
 
-module _ (t : List ℕ) (mode fill : ℕ) (valid : All (Valid 32) (routes t)) where
-  -- What the mode makes of the table at wide addresses without ranks is, narrowed, its result.
-  pub wide-is : narrowed spare (wideResult (lowest []) t mode fill) ≡ resultOf t mode fill
+module _ (t : List ℕ) (mode fill : ℕ) (ranks : List ℕ) (valid : All (Valid 32) (routes t)) where
+  -- What the mode makes of the table at wide addresses is, narrowed, its result.
+  pub wide-is : narrowed spare (wideResult (lowest ranks) t mode fill) ≡ resultOf t mode fill ranks
   unfolding wideResult resultOf
   wide-is =
-      ap (λ (u : List Route). narrowed spare (result (lowest []) wide (modeOf mode fill) u)) (root-run t)
-      ∙ result-narrow (lowest []) (lowest-chooses []) 32 spare (modeOf mode fill) valid
-      ∙ unranked-result 32 (modeOf mode fill) (routes t)
+      ap (λ (u : List Route). narrowed spare (result (lowest ranks) wide (modeOf mode fill) u)) (root-run t)
+      ∙ result-narrow (lowest ranks) (lowest-chooses ranks) 32 spare (modeOf mode fill) valid
 
   -- So it has as many routes,
-  pub wide-length : length (wideResult (lowest []) t mode fill) ≡ length (resultOf t mode fill)
-  wide-length = sym (length-narrow spare (wideResult (lowest []) t mode fill)) ∙ ap length wide-is
+  pub wide-length : length (wideResult (lowest ranks) t mode fill) ≡ length (resultOf t mode fill ranks)
+  wide-length = sym (length-narrow spare (wideResult (lowest ranks) t mode fill)) ∙ ap length wide-is
 
   -- and the same bytes on the wire.
-  pub wide-bytes : wireOf (wideResult (lowest []) t mode fill) ≡ bytesOf (resultOf t mode fill)
+  pub wide-bytes : wireOf (wideResult (lowest ranks) t mode fill) ≡ bytesOf (resultOf t mode fill ranks)
   wide-bytes = ap bytesOf wide-is
 
-  module _ {k : ℕ} {o o′ : List ℕ} (wrote : Wrote (wideResult (lowest []) t mode fill) 0 k o o′) where
+  module _ {k : ℕ} {o o′ : List ℕ} (wrote : Wrote (wideResult (lowest ranks) t mode fill) 0 k o o′) where
     -- A walk counts the records of the result, whatever room there is,
-    pub written-count : k ≡ length (resultOf t mode fill)
+    pub written-count : k ≡ length (resultOf t mode fill ranks)
     written-count = wrote-count wrote ∙ wide-length
 
     -- and writes them to the start of the output, where they fit.
-    pub written-bytes : 8 * k ≤ length o → o′ ≡ bytesOf (resultOf t mode fill) ++ drop (8 * k) o
+    pub written-bytes : 8 * k ≤ length o → o′ ≡ bytesOf (resultOf t mode fill ranks) ++ drop (8 * k) o
     written-bytes fits =
         let e : k * 8 ≡ 8 * k = omega arith in
         wrote-whole wrote (omega arith) .0 ∙ rw (wide-bytes, e)
 
 -- It counts at most one record more than the table has.
-pub written-most : (t : List ℕ) (mode fill : ℕ) → Table 32 (routes t) → {k : ℕ} {o o′ : List ℕ} → Wrote (wideResult (lowest []) t mode fill) 0 k o o′
+pub written-most : (t : List ℕ) (mode fill : ℕ) (ranks : List ℕ) → Table 32 (routes t) → {k : ℕ} {o o′ : List ℕ} → Wrote (wideResult (lowest ranks) t mode fill) 0 k o o′
     → k ≤ records t + 1
 unfolding resultOf
-written-most t mode fill table wrote =
+written-most t mode fill ranks table wrote =
     omega (
       arith,
-      written-count t mode fill (table .valid) wrote,
-      result-length smallest smallest-chooses 32 (modeOf mode fill) table,
+      written-count t mode fill ranks (table .valid) wrote,
+      result-length (lowest ranks) (lowest-chooses ranks) 32 (modeOf mode fill) table,
       most-of (modeOf mode fill) (length (routes t)),
       length-routes t,
     )

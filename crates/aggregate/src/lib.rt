@@ -8,6 +8,7 @@ use calls::Rewritten;
 use calls::engine::fill_of;
 use calls::engine::most_records;
 use calls::engine::no_hop;
+use calls::engine::no_ranks;
 use cover::query::covers_in_aggregate;
 use nodecount::count_nodes;
 use records::Form;
@@ -54,6 +55,7 @@ fn rewrite_checked(
     table: &[u8],
     mode: u32,
     fill: u8,
+    ranks: &[u16],
     before: usize,
     output: &mut [u8],
     work: &mut [u32],
@@ -64,13 +66,12 @@ fn rewrite_checked(
     requires { ⌜ Fills mode fill ⌝ }
     requires { ⌜ before ≡ records (now table) ⌝ }
     requires { ⌜ 160 * nodesBelow 7 0 (whole (now table)) ≤ length (now work) ⌝ }
-    ensures { λ r. ⌜ Finished (now (table .entry)) mode fill (now (output .entry)) r (now (output .exit)) ⌝ }
+    ensures { λ r. ⌜ Finished (now (table .entry)) mode fill (now (ranks .entry)) (now (output .entry)) r (now (output .exit)) ⌝ }
 {
     let top = prepare(table, mode, fill, work);
-    let ranks = [0u16; 0];
     if output.len() / 8 < most_records(mode, before) {
         let mut nothing = [0u8; 0];
-        let count = write(table, mode, fill, &ranks, work, top, &mut nothing);
+        let count = write(table, mode, fill, ranks, work, top, &mut nothing);
         if output.len() / 8 < count {
             return Rewritten::Refused {
                 number: 11,
@@ -78,7 +79,7 @@ fn rewrite_checked(
             };
         }
     }
-    let written = write(table, mode, fill, &ranks, work, top, output);
+    let written = write(table, mode, fill, ranks, work, top, output);
     Rewritten::Records {
         count: written,
         change: (written as i64) - (before as i64),
@@ -91,10 +92,11 @@ fn rewrite_in(
     form: Form,
     mode: u32,
     default: u32,
+    ranks: &[u16],
     output: &mut [u8],
     work: &mut [u32],
 ) -> Rewritten
-    ensures { λ r. ⌜ RewritesIn form (now (table .entry)) mode default (now (output .entry)) (length (now (work .entry))) r (now (output .exit)) ⌝ }
+    ensures { λ r. ⌜ RewritesIn form (now (table .entry)) mode default (now (ranks .entry)) (now (output .entry)) (length (now (work .entry))) r (now (output .exit)) ⌝ }
 {
     if no_mode(mode) {
         return Rewritten::Refused {
@@ -108,6 +110,12 @@ fn rewrite_in(
             index: 0,
         };
     }
+    if no_ranks(mode, ranks) {
+        return Rewritten::Refused {
+            number: 15,
+            index: 0,
+        };
+    }
     match check_table(table, form, mode <= 2) {
         Checked::Refused { number, index } => Rewritten::Refused { number, index },
         Checked::Valid(records) => {
@@ -117,24 +125,33 @@ fn rewrite_in(
                     index: 0,
                 };
             }
-            rewrite_checked(table, mode, fill_of(mode, default), records, output, work)
+            rewrite_checked(
+                table,
+                mode,
+                fill_of(mode, default),
+                ranks,
+                records,
+                output,
+                work,
+            )
         }
     }
 }
 
 // Rewrites a table, read by the form, in a mode, 1 to 5, into the output: the number of records written from its start, and how many more they are than the
-// table's; or a refusal. Mode 5 gives the default to what has no route. The room is zero throughout afterwards.
+// table's; or a refusal. Mode 5 gives the default to what has no route; modes 4 and 5 choose by the ranks, without any the smallest hop. The room is zero throughout afterwards.
 pub fn rewrite(
     table: &[u8],
     form: Form,
     mode: u32,
     default: u32,
+    ranks: &[u16],
     output: &mut [u8],
     work: &mut [u32],
 ) -> Rewritten
-    ensures { λ r. ⌜ Rewrites form (now (table .entry)) mode default (now (output .entry)) (length (now (work .entry))) r (now (output .exit)) (now (work .exit)) ⌝ }
+    ensures { λ r. ⌜ Rewrites form (now (table .entry)) mode default (now (ranks .entry)) (now (output .entry)) (length (now (work .entry))) r (now (output .exit)) (now (work .exit)) ⌝ }
 {
-    let answer = rewrite_in(table, form, mode, default, output, work);
+    let answer = rewrite_in(table, form, mode, default, ranks, output, work);
     clear(work);
     answer
 }

@@ -1,5 +1,5 @@
 // Rewrites one table again and again, by either engine, or lists what has no route in it, so that the time of a call can be measured (tools/bench).
-// Host bits are masked.
+// Host bits are masked, and no ranks are lent.
 //
 // Reads from standard input 8 bytes and then a table, at most 8,200 bytes of it. Numbers stand most significant byte first.
 //
@@ -67,25 +67,49 @@ fn repeat(
     table: &[u8],
     mode: u32,
     default: u32,
+    ranks: &[u16],
     output: &mut [u8],
     work: &mut [u32],
 ) -> Rewritten {
     let mut left = more;
     while 0 < left {
-        rewrite(table, Form { strict: false }, mode, default, output, work);
+        rewrite(
+            table,
+            Form { strict: false },
+            mode,
+            default,
+            ranks,
+            output,
+            work,
+        );
         left -= 1;
     }
-    rewrite(table, Form { strict: false }, mode, default, output, work)
+    rewrite(
+        table,
+        Form { strict: false },
+        mode,
+        default,
+        ranks,
+        output,
+        work,
+    )
 }
 
 // The same by the plain engine.
-fn repeat_plain(more: u32, table: &[u8], mode: u32, default: u32, output: &mut [u8]) -> Rewritten {
+fn repeat_plain(
+    more: u32,
+    table: &[u8],
+    mode: u32,
+    default: u32,
+    ranks: &[u16],
+    output: &mut [u8],
+) -> Rewritten {
     let mut left = more;
     while 0 < left {
-        plain::rewrite(table, Form { strict: false }, mode, default, output);
+        plain::rewrite(table, Form { strict: false }, mode, default, ranks, output);
         left -= 1;
     }
-    plain::rewrite(table, Form { strict: false }, mode, default, output)
+    plain::rewrite(table, Form { strict: false }, mode, default, ranks, output)
 }
 
 // How many words are lent of those asked for, where there are so many.
@@ -102,12 +126,21 @@ fn repeat_in(
     table: &[u8],
     mode: u32,
     default: u32,
+    ranks: &[u16],
     output: &mut [u8],
     asked: u32,
     work: &mut [u32],
 ) -> Rewritten {
     let words = lent(asked, work.len());
-    repeat(more, table, mode, default, output, &mut work[..words])
+    repeat(
+        more,
+        table,
+        mode,
+        default,
+        ranks,
+        output,
+        &mut work[..words],
+    )
 }
 
 // Lists what has no route so many times and once more, and says the last answer.
@@ -143,6 +176,7 @@ fn room() -> [u32; 824480] {
 fn run(times: u32, mode: u8, default: u8, asked: u32, table: &[u8]) {
     let mut output = [0u8; 8200];
     let mut work = room();
+    let ranks = [0u16; 0];
     if times == 0 {
         print(b"not run\n");
         return;
@@ -157,6 +191,7 @@ fn run(times: u32, mode: u8, default: u8, asked: u32, table: &[u8]) {
             table,
             (mode - 128) as u32,
             default as u32,
+            &ranks,
             &mut output,
         );
         print_answer(answer, table.len() / 8);
@@ -167,6 +202,7 @@ fn run(times: u32, mode: u8, default: u8, asked: u32, table: &[u8]) {
         table,
         mode as u32,
         default as u32,
+        &ranks,
         &mut output,
         asked,
         &mut work,

@@ -21,64 +21,64 @@ use Rattle.calls.specs.Rewriting.{takesSet, rewriteRules, Rewrites}
 use Rattle.calls.proofs.Engines.{by-output-bytes, by-output-accepted, again-by, again-answerable, drop-by, fill-by, set-by}
 use Rattle.calls.proofs.Refusals.{rewrite-guarded, answerable-exactly}
 
--- ---- Two tables t and s, rewritten without refusal in outputs and rooms of their own.
-module _ (form : Form) (t : List ℕ) (bytes : Bytes t) (o : List ℕ) (words count : ℕ) (change : ℤ) (o′ w′ : List ℕ)
+-- ---- Two tables t and s, rewritten under the same ranks without refusal, in outputs and rooms of their own.
+module _ (form : Form) (ranks : List ℕ) (t : List ℕ) (bytes : Bytes t) (o : List ℕ) (words count : ℕ) (change : ℤ) (o′ w′ : List ℕ)
     (s : List ℕ) (small : Bytes s) (p : List ℕ) (space number : ℕ) (other : ℤ) (p′ v′ : List ℕ) where
   -- The rules by which each is rewritten.
   abbrev one : ℕ → ℕ → List Rule
-  one mode d = rewriteRules form t mode d (length o) words
+  one mode d = rewriteRules form t mode d ranks (length o) words
 
   abbrev two : ℕ → ℕ → List Rule
-  two mode e = rewriteRules form s mode e (length p) space
+  two mode e = rewriteRules form s mode e ranks (length p) space
 
   -- Mode 4: exactly when they send all addresses the same way, no route included.
-  pub same-bytes-drop : (d e : ℕ) → Rewrites form t 4 d o words (Records count change) o′ w′ → Rewrites form s 4 e p space (Records number other) p′ v′
+  pub same-bytes-drop : (d e : ℕ) → Rewrites form t 4 d ranks o words (Records count change) o′ w′ → Rewrites form s 4 e ranks p space (Records number other) p′ v′
       → take (8 * count) o′ ≡ take (8 * number) p′ ↔ Alike 32 (answer 32 (routes t)) (answer 32 (routes s))
   same-bytes-drop d e a b =
-      drop-by form (one 4 d) t bytes o count change o′ (two 4 e) s small p number other p′ d e
-      (rewrite-guarded form t 4 d (length o) words) (a .inner) (rewrite-guarded form s 4 e (length p) space) (b .inner)
+      drop-by form ranks (one 4 d) t bytes o count change o′ (two 4 e) s small p number other p′ d e
+      (rewrite-guarded form t 4 d ranks (length o) words) (a .inner) (rewrite-guarded form s 4 e ranks (length p) space) (b .inner)
 
   -- Mode 5, at one default: exactly when they do once unrouted addresses have the default.
-  pub same-bytes-fill : (d : ℕ) → Rewrites form t 5 d o words (Records count change) o′ w′ → Rewrites form s 5 d p space (Records number other) p′ v′
+  pub same-bytes-fill : (d : ℕ) → Rewrites form t 5 d ranks o words (Records count change) o′ w′ → Rewrites form s 5 d ranks p space (Records number other) p′ v′
       → take (8 * count) o′ ≡ take (8 * number) p′ ↔ Alike 32 (filled d (answer 32 (routes t))) (filled d (answer 32 (routes s)))
   same-bytes-fill d a b =
-      fill-by form (one 5 d) t bytes o count change o′ (two 5 d) s small p number other p′ d
-      (rewrite-guarded form t 5 d (length o) words) (a .inner) (rewrite-guarded form s 5 d (length p) space) (b .inner)
+      fill-by form ranks (one 5 d) t bytes o count change o′ (two 5 d) s small p number other p′ d
+      (rewrite-guarded form t 5 d ranks (length o) words) (a .inner) (rewrite-guarded form s 5 d ranks (length p) space) (b .inner)
 
   -- Mode 1: exactly when they hold the same addresses.
-  pub same-bytes-set : (d e : ℕ) → Rewrites form t 1 d o words (Records count change) o′ w′ → Rewrites form s 1 e p space (Records number other) p′ v′
+  pub same-bytes-set : (d e : ℕ) → Rewrites form t 1 d ranks o words (Records count change) o′ w′ → Rewrites form s 1 e ranks p space (Records number other) p′ v′
       → take (8 * count) o′ ≡ take (8 * number) p′ ↔ ((x : ℕ) → x < 2 ^ 32 → held 32 (routes t) x ≡ held 32 (routes s) x)
   same-bytes-set d e a b =
-      set-by form (one 1 d) t bytes o count change o′ (two 1 e) s small p number other p′ d e
-      (rewrite-guarded form t 1 d (length o) words) (a .inner) (rewrite-guarded form s 1 e (length p) space) (b .inner)
+      set-by form ranks (one 1 d) t bytes o count change o′ (two 1 e) s small p number other p′ d e
+      (rewrite-guarded form t 1 d ranks (length o) words) (a .inner) (rewrite-guarded form s 1 e ranks (length p) space) (b .inner)
 
 -- ---- A table t, rewritten without refusal.
-module _ (form : Form) (t : List ℕ) (bytes : Bytes t) (mode default : ℕ) (o : List ℕ) (words count : ℕ) (change : ℤ) (o′ w′ : List ℕ)
-    (ok : Rewrites form t mode default o words (Records count change) o′ w′) where
+module _ (form : Form) (t : List ℕ) (bytes : Bytes t) (mode default : ℕ) (ranks o : List ℕ) (words count : ℕ) (change : ℤ) (o′ w′ : List ℕ)
+    (ok : Rewrites form t mode default ranks o words (Records count change) o′ w′) where
   abbrev rules : List Rule
-  rules = rewriteRules form t mode default (length o) words
+  rules = rewriteRules form t mode default ranks (length o) words
 
-  guarded : Guarded form rules t mode default (length o)
-  guarded = rewrite-guarded form t mode default (length o) words
+  guarded : Guarded form rules t mode default ranks (length o)
+  guarded = rewrite-guarded form t mode default ranks (length o) words
 
   -- The written records are bytes.
   pub output-bytes : Bytes (take (8 * count) o′)
-  output-bytes = by-output-bytes form rules t mode default o guarded (Records count change) o′ (ok .inner) count change refl bytes
+  output-bytes = by-output-bytes form rules t mode default ranks o guarded (Records count change) o′ (ok .inner) count change refl bytes
 
   -- They are an accepted table again, under either choice on host bits, where they are at most 1,024.
   pub output-accepted : count ≤ 1024 → (other : Form) → Accepted other (takesSet mode) (take (8 * count) o′)
-  output-accepted = by-output-accepted form rules t mode default o guarded (Records count change) o′ (ok .inner) count change refl bytes
+  output-accepted = by-output-accepted form rules t mode default ranks o guarded (Records count change) o′ (ok .inner) count change refl bytes
 
   -- Rewritten again without refusal, they are given back with change 0: as many records, and the same bytes from the output's start.
-  pub rewrite-again : (p : List ℕ) (space : ℕ) (r : Rewritten) (p′ v′ : List ℕ) → Rewrites form (take (8 * count) o′) mode default p space r p′ v′
+  pub rewrite-again : (p : List ℕ) (space : ℕ) (r : Rewritten) (p′ v′ : List ℕ) → Rewrites form (take (8 * count) o′) mode default ranks p space r p′ v′
       → (number : ℕ) (other : ℤ) → r ≡ Records number other → (r ≡ Records count (pos 0)) × (take (8 * count) p′ ≡ take (8 * count) o′)
   rewrite-again p space r p′ v′ b =
-      again-by form rules t mode default o guarded count change o′ (ok .inner) bytes
-      (rewriteRules form (take (8 * count) o′) mode default (length p) space) p (rewrite-guarded form (take (8 * count) o′) mode default (length p) space) r p′ (b .inner)
+      again-by form rules t mode default ranks o guarded count change o′ (ok .inner) bytes
+      (rewriteRules form (take (8 * count) o′) mode default ranks (length p) space) p (rewrite-guarded form (take (8 * count) o′) mode default ranks (length p) space) r p′ (b .inner)
 
   -- And they are not refused where they are at most 1,024, the room is enough for their nodes and the output for them.
   pub again-answered : count ≤ 1024 → (p : List ℕ) (space : ℕ) → 8 * count ≤ length p → 160 * nodes 32 (routes (take (8 * count) o′)) ≤ space
-      → None (RewriteCondition form (take (8 * count) o′) mode default (length p) space)
+      → None (RewriteCondition form (take (8 * count) o′) mode default ranks (length p) space)
   again-answered few p space fits room =
-      answerable-exactly form (take (8 * count) o′) mode default (length p) space .1
-      (again-answerable form rules t mode default o guarded (Records count change) o′ (ok .inner) count change refl bytes few (length p) fits, room)
+      answerable-exactly form (take (8 * count) o′) mode default ranks (length p) space .1
+      (again-answerable form rules t mode default ranks o guarded (Records count change) o′ (ok .inner) count change refl bytes few (length p) fits, room)

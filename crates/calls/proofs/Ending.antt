@@ -1,4 +1,4 @@
--- Laws for the proof of any engine's rewrite: the rules 1 to 8 judged one after the other, the mode and the default, what a table that was checked is good
+-- Laws for the proof of any engine's rewrite: the rules 1, 2, 15 and 3 to 8 judged one after the other, the mode and the default, what a table that was checked is good
 -- for, the most records of a result, and the end of a rewrite. Assumes nothing.
 use Prim.Native.Nat.{ℕ, zero, suc, _+_, _-_, _*_, _/_, _^_, _≤_, _<_}
 use mathlib.Core.Path.{_≡_, refl, sym, ap, _∙_}
@@ -14,9 +14,10 @@ use mir.Syntax.{w64}
 use mir.Val.{SFits, toZ, ofZ}
 use mir.ValLaws.{toZ-pos, toZ-ofZ}
 use borrow.Author.Tests.{eqb-true, eqb-false, leb-true, leb-false, le-leb, lt-leb, le-ltb, lt-ltb, eq-eqb}
-use Rattle.theory.specs.Results.{smallest, Mode, aggregateSet, aggregateConsistentSet, aggregateConsistentMap, aggregateMapDrop, aggregateMapFill}
+use Rattle.theory.specs.Results.{Mode, aggregateSet, aggregateConsistentSet, aggregateConsistentMap, aggregateMapDrop, aggregateMapFill}
+use Rattle.theory.specs.Ranks.{lowest, isRanking}
 use Rattle.theory.specs.Routes.{Route, Table}
-use Rattle.theory.proofs.Chosen.{smallest-chooses}
+use Rattle.theory.proofs.Ranks.{lowest-chooses}
 use Rattle.theory.proofs.Lengths.{mostOf, result-length}
 use Rattle.refusals.specs.Rules.{Rule, gives, refuses, judge}
 use Rattle.refusals.proofs.Judged.{gives-any, kept-next, broken-here, all-next, some-here}
@@ -34,38 +35,46 @@ use Rattle.calls.specs.Ending.{lastReply, Finished}
 use Rattle.calls.specs.Rewriting.{modeOf, resultOf, takesSet, replyBy, writtenOf, outputOf, RewritesBy}
 use Rattle.calls.proofs.Tested.{rulesWith}
 
--- ---- The rules 1 to 8, where `known` says whether the engine has the mode and `last` are the rules past the table's.
-module _ (known : Bool) (form : Form) (t : List ℕ) (mode default : ℕ) (last : List Rule) {A : Type 0} (a : A) where
+-- ---- The rules 1, 2, 15 and 3 to 8, where `known` says whether the engine has the mode and `last` are the rules past the table's.
+module _ (known : Bool) (form : Form) (t : List ℕ) (mode default : ℕ) (ranks : List ℕ) (last : List Rule) {A : Type 0} (a : A) where
   -- Number 1.
   pub refused-mode : known ≡ false
-      → judge (rulesWith known form t mode default last) a ≡ refuses 1 0
+      → judge (rulesWith known form t mode default ranks last) a ≡ refuses 1 0
   refused-mode e = broken-here a 1 0 _ e
 
   module _ (is : known ≡ true) where
     -- Number 2.
     pub refused-default : (not (eqb mode 5) || leb default 63) ≡ false
-        → judge (rulesWith known form t mode default last) a ≡ refuses 2 0
+        → judge (rulesWith known form t mode default ranks last) a ≡ refuses 2 0
     refused-default e = kept-next a 1 0 _ is ∙ broken-here a 2 0 _ e
 
     module _ (ok : (not (eqb mode 5) || leb default 63) ≡ true) where
-      -- Numbers 3 to 8.
-      pub refused-table : {n i : ℕ} → checkReply form (takesSet mode) t ≡ refuses n i
-          → judge (rulesWith known form t mode default last) a ≡ refuses n i
-      refused-table {n} {i} e = kept-next a 1 0 _ is ∙ kept-next a 2 0 _ ok ∙ some-here a (records t) n i (tableRules form (takesSet mode) t) last e
+      -- Number 15.
+      pub refused-ranks : (not (leb 4 mode) || isRanking 64 ranks) ≡ false
+          → judge (rulesWith known form t mode default ranks last) a ≡ refuses 15 0
+      refused-ranks e = kept-next a 1 0 _ is ∙ kept-next a 2 0 _ ok ∙ broken-here a 15 0 _ e
 
-      -- Past the table's rules the last decide.
-      pub last-decide : {k : ℕ} → checkReply form (takesSet mode) t ≡ gives k
-          → judge (rulesWith known form t mode default last) a ≡ judge last a
-      last-decide valid = kept-next a 1 0 _ is ∙ kept-next a 2 0 _ ok ∙ all-next a (records t) (tableRules form (takesSet mode) t) last valid
+      module _ (ranked : (not (leb 4 mode) || isRanking 64 ranks) ≡ true) where
+        -- Numbers 3 to 8.
+        pub refused-table : {n i : ℕ} → checkReply form (takesSet mode) t ≡ refuses n i
+            → judge (rulesWith known form t mode default ranks last) a ≡ refuses n i
+        refused-table {n} {i} e =
+            kept-next a 1 0 _ is ∙ kept-next a 2 0 _ ok ∙ kept-next a 15 0 _ ranked ∙ some-here a (records t) n i (tableRules form (takesSet mode) t) last e
 
-module _ (rules : List Rule) (t : List ℕ) (mode default : ℕ) (o : List ℕ) where
+        -- Past the table's rules the last decide.
+        pub last-decide : {k : ℕ} → checkReply form (takesSet mode) t ≡ gives k
+            → judge (rulesWith known form t mode default ranks last) a ≡ judge last a
+        last-decide valid =
+            kept-next a 1 0 _ is ∙ kept-next a 2 0 _ ok ∙ kept-next a 15 0 _ ranked ∙ all-next a (records t) (tableRules form (takesSet mode) t) last valid
+
+module _ (rules : List Rule) (t : List ℕ) (mode default : ℕ) (ranks o : List ℕ) where
   -- A refusal leaves the output.
-  pub refused-by : {n i : ℕ} → replyBy rules t mode default ≡ refuses n i → RewritesBy rules t mode default o (Refused n i) o
+  pub refused-by : {n i : ℕ} → replyBy rules t mode default ranks ≡ refuses n i → RewritesBy rules t mode default ranks o (Refused n i) o
   refused-by e = record { answer = sym (ap (writtenOf (records t)) e); output = sym (ap (outputOf o) e) }
 
   -- What is finished by the last rule is what the whole statement asks.
-  pub finished-by : {fill : ℕ} {r : Rewritten} {o′ : List ℕ} → replyBy rules t mode default ≡ lastReply t mode fill (length o)
-      → Finished t mode fill o r o′ → RewritesBy rules t mode default o r o′
+  pub finished-by : {fill : ℕ} {r : Rewritten} {o′ : List ℕ} → replyBy rules t mode default ranks ≡ lastReply t mode fill ranks (length o)
+      → Finished t mode fill ranks o r o′ → RewritesBy rules t mode default ranks o r o′
   finished-by e f =
       record { answer = f .answer ∙ sym (ap (writtenOf (records t)) e); output = f .output ∙ sym (ap (outputOf o) e) }
 
@@ -95,10 +104,10 @@ same-mode mode fill default range same =
     mode-is (λ m. m ≡ modeOf mode default) mode fill range (λ e. rw e) (λ e. rw e) (λ e. rw e) (λ e. rw e) (λ e. rw (e, same e))
 
 -- So a fill that is the default in mode 5 has the default's result.
-pub same-last : (t : List ℕ) (mode fill default room : ℕ) → (1 ≤ mode) × (mode ≤ 5) → (mode ≡ 5 → fill ≡ default)
-    → lastReply t mode default room ≡ lastReply t mode fill room
+pub same-last : (t : List ℕ) (mode fill default : ℕ) (ranks : List ℕ) (room : ℕ) → (1 ≤ mode) × (mode ≤ 5) → (mode ≡ 5 → fill ≡ default)
+    → lastReply t mode default ranks room ≡ lastReply t mode fill ranks room
 unfolding resultOf
-same-last t mode fill default room range same = rw (same-mode mode fill default range same)
+same-last t mode fill default ranks room range same = rw (same-mode mode fill default range same)
 
 -- Above is not at most.
 pub above-not : (m n : ℕ) → ltb m n ≡ not (leb n m)
@@ -129,11 +138,11 @@ module _ (form : Form) (s : Bool) (t : List ℕ) (k : ℕ) (valid : checkReply f
 -- ---- The end of a rewrite.
 
 -- The result has no more records than the table, in mode 5 no more than one more.
-pub result-most : (t : List ℕ) (mode fill : ℕ) {before most : ℕ} → (1 ≤ mode) × (mode ≤ 5) → Table 32 (routes t) → before ≡ records t
-    → (mode ≡ 5 → most ≡ before + 1) × ((mode ≡ 5 → ⊥) → most ≡ before) → length (resultOf t mode fill) ≤ most
+pub result-most : (t : List ℕ) (mode fill : ℕ) (ranks : List ℕ) {before most : ℕ} → (1 ≤ mode) × (mode ≤ 5) → Table 32 (routes t) → before ≡ records t
+    → (mode ≡ 5 → most ≡ before + 1) × ((mode ≡ 5 → ⊥) → most ≡ before) → length (resultOf t mode fill ranks) ≤ most
 unfolding resultOf
-result-most t mode fill {most = most} range table count at =
-    le-trans (result-length smallest smallest-chooses 32 (modeOf mode fill) table)
+result-most t mode fill ranks {most = most} range table count at =
+    le-trans (result-length (lowest ranks) (lowest-chooses ranks) 32 (modeOf mode fill) table)
     (mode-is (λ m. mostOf m (length (routes t)) ≤ most) mode fill range (λ e. as-many (λ five. omega arith)) (λ e. as-many (λ five. omega arith))
     (λ e. as-many (λ five. omega arith)) (λ e. as-many (λ five. omega arith)) (λ e. omega (arith, length-routes t, at .0 e)))
   where
@@ -166,19 +175,19 @@ laid-output rs o =
     let e : 0 + length (bytesOf rs) ≡ 8 * length rs = omega arith in
     ap (λ (k : ℕ). bytesOf rs ++ drop k o) e
 
-module _ (t : List ℕ) (mode fill : ℕ) (o : List ℕ) where
+module _ (t : List ℕ) (mode fill : ℕ) (ranks o : List ℕ) where
   -- Number 11: the output has no room for so many records.
-  pub finished-refused : length o / 8 < length (resultOf t mode fill) → Finished t mode fill o (Refused 11 0) o
+  pub finished-refused : length o / 8 < length (resultOf t mode fill ranks) → Finished t mode fill ranks o (Refused 11 0) o
   finished-refused h =
-      let e : lastReply t mode fill (length o) ≡ refuses 11 0 = broken-here _ 11 0 _ (lt-leb (8 * length (resultOf t mode fill)) (length o) (omega arith)) in
+      let e : lastReply t mode fill ranks (length o) ≡ refuses 11 0 = broken-here _ 11 0 _ (lt-leb (8 * length (resultOf t mode fill ranks)) (length o) (omega arith)) in
       record { answer = sym (ap (writtenOf (records t)) e); output = sym (ap (outputOf o) e) }
 
   -- It has, and they are written.
-  pub finished-written : {k : ℕ} {change : ℤ} {o′ : List ℕ} → k ≡ length (resultOf t mode fill) → k ≤ length o / 8 → change ≡ pos k -ℤ pos (records t)
-      → o′ ≡ bytesOf (resultOf t mode fill) ++ drop (8 * k) o → Finished t mode fill o (Records k change) o′
+  pub finished-written : {k : ℕ} {change : ℤ} {o′ : List ℕ} → k ≡ length (resultOf t mode fill ranks) → k ≤ length o / 8 → change ≡ pos k -ℤ pos (records t)
+      → o′ ≡ bytesOf (resultOf t mode fill ranks) ++ drop (8 * k) o → Finished t mode fill ranks o (Records k change) o′
   unfolding judge
   finished-written {k} {change} {o′} count fits differ wrote =
-      let e : lastReply t mode fill (length o) ≡ gives (resultOf t mode fill) = rw (le-leb (8 * length (resultOf t mode fill)) (length o) (omega arith)) in
+      let e : lastReply t mode fill ranks (length o) ≡ gives (resultOf t mode fill ranks) = rw (le-leb (8 * length (resultOf t mode fill ranks)) (length o) (omega arith)) in
       record {
         answer = rw (differ, count) (sym (ap (writtenOf (records t)) e));
         output = wrote ∙ rw count (sym (ap (outputOf o) e));

@@ -7,9 +7,9 @@ use Prim.Native.Nat.{ℕ, zero, suc, _*_, _≤_}
 use native.Mathlib.Omega.{arith}
 use lib.IntN.{ℤ}
 use lib.ListN.{length, take}
-use Rattle.theory.specs.Results.{smallest}
+use Rattle.theory.specs.Ranks.{lowest}
 use Rattle.theory.specs.Reach.{reach, reachAfter}
-use Rattle.theory.proofs.Chosen.{smallest-chooses}
+use Rattle.theory.proofs.Ranks.{lowest-chooses}
 use Rattle.theory.proofs.Lengths.{mostOf, result-length}
 use Rattle.theory.proofs.Reach.{keeps-reach}
 use Rattle.refusals.specs.Rules.{Rule}
@@ -38,23 +38,23 @@ adds-none (suc (suc (suc (suc zero)))) default n l m = (refl, refl)
 adds-none (suc (suc (suc (suc (suc k))))) default n l m = absurd (omega arith)
 
 -- ---- A table t, rewritten by an engine; a is the answer of addresses held for it, and b for the records written.
-module _ (form : Form) (rules : List Rule) (t : List ℕ) (mode default : ℕ) (o : List ℕ) (guarded : Guarded form rules t mode default (length o))
-    (count : ℕ) (change : ℤ) (o′ : List ℕ) (ok : RewritesBy rules t mode default o (Records count change) o′) (bytes : Bytes t) where
+module _ (form : Form) (rules : List Rule) (t : List ℕ) (mode default : ℕ) (ranks o : List ℕ) (guarded : Guarded form rules t mode default ranks (length o))
+    (count : ℕ) (change : ℤ) (o′ : List ℕ) (ok : RewritesBy rules t mode default ranks o (Records count change) o′) (bytes : Bytes t) where
   -- The records written are an accepted map where they are at most 1,024, as they are in modes 1 to 4.
   pub by-map-accepted : count ≤ 1024 → Accepted form false (take (8 * count) o′)
   by-map-accepted few =
       accepted-map form (takesSet mode) (take (8 * count) o′)
-      (by-output-accepted form rules t mode default o guarded (Records count change) o′ ok count change refl bytes few form)
+      (by-output-accepted form rules t mode default ranks o guarded (Records count change) o′ ok count change refl bytes few form)
 
   pub by-few : mode ≤ 4 → count ≤ 1024
   unfolding resultOf
   by-few m =
-      let f = by-answerable form rules t mode default o guarded (Records count change) o′ ok count change refl in
-      let table = by-lawful form rules t mode default o guarded (Records count change) o′ ok count change refl bytes .table in
+      let f = by-answerable form rules t mode default ranks o guarded (Records count change) o′ ok count change refl in
+      let table = by-lawful form rules t mode default ranks o guarded (Records count change) o′ ok count change refl bytes .table in
       omega (
         arith,
-        by-counted form rules t mode default o guarded (Records count change) o′ ok count change refl,
-        result-length smallest smallest-chooses 32 (modeOf mode default) table,
+        by-counted form rules t mode default ranks o guarded (Records count change) o′ ok count change refl,
+        result-length (lowest ranks) (lowest-chooses ranks) 32 (modeOf mode default) table,
         adds-none mode default (length (routes t)) (f .known-mode .0) m .0,
         length-routes t,
         f .accepted .few,
@@ -63,13 +63,13 @@ module _ (form : Form) (rules : List Rule) (t : List ℕ) (mode default : ℕ) (
   reach-written : reach 32 (routes (take (8 * count) o′)) ≡ reachAfter 32 (modeOf mode default) (reach 32 (routes t))
   reach-written =
       keeps-reach 32 (modeOf mode default) (routes t) (routes (take (8 * count) o′))
-      (by-keeps form rules t mode default o guarded (Records count change) o′ ok count change refl bytes)
+      (by-keeps form rules t mode default ranks o guarded (Records count change) o′ ok count change refl bytes)
 
   module _ (a b : AddressesHeld) (before : heldSays a ≡ heldReply form t) (after : heldSays b ≡ heldReply form (take (8 * count) o′)) where
     -- Modes 1 to 4: the table is counted, and what is written has the same answer.
     pub held-kept-by : mode ≤ 4 → (a ≡ Count (reach 32 (routes t))) × (b ≡ a)
     held-kept-by m =
-        let f = by-answerable form rules t mode default o guarded (Records count change) o′ ok count change refl in
+        let f = by-answerable form rules t mode default ranks o guarded (Records count change) o′ ok count change refl in
         let p : a ≡ Count (reach 32 (routes t)) = held-count-exactly form t a before _ .1 (accepted-map form (takesSet mode) t (f .accepted), refl) in
         let same = reach-written ∙ adds-none mode default (reach 32 (routes t)) (f .known-mode .0) m .1 in
         (p, held-count-exactly form (take (8 * count) o′) b after _ .1 (by-map-accepted (by-few m), same) ∙ sym p)
@@ -81,17 +81,17 @@ module _ (form : Form) (rules : List Rule) (t : List ℕ) (mode default : ℕ) (
         (accepted, reach-written ∙ ap (λ (m : ℕ). reachAfter 32 (modeOf m default) (reach 32 (routes t))) five)
 
 -- ---- The same of the engine over nodes.
-module _ (form : Form) (t : List ℕ) (bytes : Bytes t) (mode default : ℕ) (o : List ℕ) (words count : ℕ) (change : ℤ) (o′ w′ : List ℕ)
-    (ok : Rewrites form t mode default o words (Records count change) o′ w′)
+module _ (form : Form) (t : List ℕ) (bytes : Bytes t) (mode default : ℕ) (ranks o : List ℕ) (words count : ℕ) (change : ℤ) (o′ w′ : List ℕ)
+    (ok : Rewrites form t mode default ranks o words (Records count change) o′ w′)
     (a b : AddressesHeld) (before : heldSays a ≡ heldReply form t) (after : heldSays b ≡ heldReply form (take (8 * count) o′)) where
   abbrev rules : List Rule
-  rules = rewriteRules form t mode default (length o) words
+  rules = rewriteRules form t mode default ranks (length o) words
 
-  guarded : Guarded form rules t mode default (length o)
-  guarded = rewrite-guarded form t mode default (length o) words
+  guarded : Guarded form rules t mode default ranks (length o)
+  guarded = rewrite-guarded form t mode default ranks (length o) words
 
   pub held-kept : mode ≤ 4 → (a ≡ Count (reach 32 (routes t))) × (b ≡ a)
-  held-kept = held-kept-by form rules t mode default o guarded count change o′ (ok .inner) bytes a b before after
+  held-kept = held-kept-by form rules t mode default ranks o guarded count change o′ (ok .inner) bytes a b before after
 
   pub held-fill : mode ≡ 5 → Accepted form false (take (8 * count) o′) → b ≡ Count 4294967296
-  held-fill = held-fill-by form rules t mode default o guarded count change o′ (ok .inner) bytes a b before after
+  held-fill = held-fill-by form rules t mode default ranks o guarded count change o′ (ok .inner) bytes a b before after

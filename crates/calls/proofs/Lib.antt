@@ -1,6 +1,6 @@
 -- The laws of the calls. Settled: no second answer satisfies a statement. Refusals, Results, Demand3: the three demands, of the engine over nodes. Engines:
 -- the demands of any engine. Held: addresses held before and after a rewrite. Shortest: no table that says the same is shorter than what modes 1, 4 and 5
--- write. Marked: document 01's marked cases. Wrong: its wrong rewrites. Enough: rooms that are always enough. Masking: host bits. Tested says how the rules
+-- write. Ranks: what ranks decide. Marked: document 01's marked cases. Wrong: its wrong rewrites. Enough: rooms that are always enough. Masking: host bits. Tested says how the rules
 -- stand for the conditions, Ending how an engine's answer comes to meet its statement.
 pub mod Settled
 pub mod Tested
@@ -11,6 +11,7 @@ pub mod Enough
 pub mod Demand3
 pub mod Held
 pub mod Shortest
+pub mod Ranks
 pub mod Marked
 pub mod Wrong
 pub mod Ending

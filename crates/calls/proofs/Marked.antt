@@ -1,7 +1,8 @@
 -- The worked routes of document 01 that are marked, as calls: one theorem over the theory's table of cases, for every output of at least 8,200 bytes and
--- every room of at least 16,384 words. Assumes nothing.
+-- every room of at least 16,384 words, without ranks. Assumes nothing.
 use mathlib.Core.Path.{_≡_, refl, ap, ap₂, _∙_}
 use mathlib.Core.List.{List, [], _∷_, _++_}
+use mathlib.Core.Logic.{inl}
 use Prim.Native.Nat.{ℕ, zero, suc, _*_, _≤_}
 use native.Mathlib.Omega.{arith}
 use lib.Dec.{T, leb, leb→le}
@@ -9,7 +10,8 @@ use lib.IntN.{ℤ, pos, negsuc, _-ℤ_}
 use lib.ListN.{length, drop}
 use Rattle.theory.specs.Routes.{Route, nil}
 use Rattle.theory.specs.Results.{Mode, aggregateSet, aggregateConsistentSet, aggregateConsistentMap, aggregateMapDrop, aggregateMapFill, smallest, result}
-use Rattle.theory.proofs.Chosen.{smallest-chooses}
+use Rattle.theory.specs.Ranks.{lowest, Ranking}
+use Rattle.theory.proofs.Ranks.{lowest-chooses, unranked-result}
 use Rattle.theory.proofs.Quick.{ortcOf, setsOf}
 use Rattle.theory.proofs.Computed.{set-computed, drop-computed}
 use Rattle.theory.proofs.Cases.{route, Case, cases, Answered, worked}
@@ -84,7 +86,7 @@ changes =
 abbrev pub CaseAnswered : Case → ℤ → Type 0
 CaseAnswered c change =
     (form : Form) (o : List ℕ) (words : ℕ) (r : Rewritten) (o′ w′ : List ℕ) → 8200 ≤ length o → 16384 ≤ words
-    → Rewrites form (bytesOf (c .table)) (numberOf (c .mode)) (defaultOf (c .mode)) o words r o′ w′
+    → Rewrites form (bytesOf (c .table)) (numberOf (c .mode)) (defaultOf (c .mode)) [] o words r o′ w′
     → (r ≡ Records (length (c .expected)) change) × (o′ ≡ bytesOf (c .expected) ++ drop (8 * length (c .expected)) o)
 
 -- P holds of each case with its change, and there are as many.
@@ -109,7 +111,7 @@ Ready c change =
 case-answered : (c : Case) (change : ℤ) → Ready c change → result smallest 32 (c .mode) (c .table) ≡ c .expected → CaseAnswered c change
 unfolding resultOf
 case-answered c change k e form o words r o′ w′ long wide ok =
-    let f = rewrite-result form t mode default o words r o′ w′ ok none in (
+    let f = rewrite-result form t mode default [] o words r o′ w′ ok none in (
       f .0 ∙ ap₂ Records size (ap₂ (λ (a b : ℕ). pos a -ℤ pos b) size (records-bytes (c .table)) ∙ k .5),
       f .1 ∙ ap (λ (rs : List Route). bytesOf rs ++ drop (8 * length rs) o) made,
     )
@@ -123,18 +125,19 @@ case-answered c change k e form o words r o′ w′ long wide ok =
     t : List ℕ
     t = bytesOf (c .table)
 
-    made : result smallest 32 (modeOf mode default) (routes t) ≡ c .expected
-    made = ap₂ (result smallest 32) (mode-back (c .mode)) (k .2) ∙ e
+    made : result (lowest []) 32 (modeOf mode default) (routes t) ≡ c .expected
+    made = ap₂ (result (lowest []) 32) (mode-back (c .mode)) (k .2) ∙ unranked-result 32 (c .mode) (c .table) ∙ e
 
-    size : length (result smallest 32 (modeOf mode default) (routes t)) ≡ length (c .expected)
+    size : length (result (lowest []) 32 (modeOf mode default) (routes t)) ≡ length (c .expected)
     size = ap (λ (rs : List Route). length rs) made
 
-    none : None (RewriteCondition form t mode default (length o) words)
+    none : None (RewriteCondition form t mode default [] (length o) words)
     none =
-        answerable-exactly form t mode default (length o) words .1 (
+        answerable-exactly form t mode default [] (length o) words .1 (
           record {
             known-mode = number-known (c .mode);
             small-default = λ q. leb→le (defaultOf (c .mode)) 63 (k .0);
+            lawful-ranks = λ h. inl refl;
             accepted = accepted-any form (takesSet mode) t (accepted strictly (takesSet mode) t 0 (k .1));
             enough-output = omega (arith, leb→le (8 * length (c .expected)) 8200 (k .4), size);
           },
@@ -155,34 +158,36 @@ each-answered (c ∷ cs) (d ∷ ds) k a = (case-answered c d (k .0) (a .0), each
 pub marked : Each CaseAnswered cases changes
 marked = each-answered cases changes ready worked
 
--- ---- The empty table in modes 1 to 4: 160 words and no output suffice.
-empty-result : (mode default : ℕ) → 1 ≤ mode → mode ≤ 4 → resultOf [] mode default ≡ []
+-- ---- The empty table in modes 1 to 4, under any lawful ranks: 160 words and no output suffice.
+empty-result : (mode default : ℕ) (ranks : List ℕ) → 1 ≤ mode → mode ≤ 4 → resultOf [] mode default ranks ≡ []
 unfolding resultOf result routes routesFrom ortcOf setsOf
-empty-result zero d low high = absurd (omega arith)
-empty-result (suc zero) d low high = set-computed smallest smallest-chooses 32 nil
-empty-result (suc (suc zero)) d low high = refl
-empty-result (suc (suc (suc zero))) d low high = refl
-empty-result (suc (suc (suc (suc zero)))) d low high = drop-computed smallest smallest-chooses 32 nil
-empty-result (suc (suc (suc (suc (suc n))))) d low high = absurd (omega arith)
+empty-result zero d ranks low high = absurd (omega arith)
+empty-result (suc zero) d ranks low high = set-computed (lowest ranks) (lowest-chooses ranks) 32 nil
+empty-result (suc (suc zero)) d ranks low high = refl
+empty-result (suc (suc (suc zero))) d ranks low high = refl
+empty-result (suc (suc (suc (suc zero)))) d ranks low high = drop-computed (lowest ranks) (lowest-chooses ranks) 32 nil
+empty-result (suc (suc (suc (suc (suc n))))) d ranks low high = absurd (omega arith)
 
 -- It is answered with no record and change 0.
-pub empty-answered : (form : Form) (mode default : ℕ) (o : List ℕ) (words : ℕ) (r : Rewritten) (o′ w′ : List ℕ) → 1 ≤ mode → mode ≤ 4 → 160 ≤ words
-    → Rewrites form [] mode default o words r o′ w′ → (r ≡ Records 0 (pos 0)) × (o′ ≡ o)
+pub empty-answered : (form : Form) (mode default : ℕ) (ranks o : List ℕ) (words : ℕ) (r : Rewritten) (o′ w′ : List ℕ) → 1 ≤ mode → mode ≤ 4
+    → (4 ≤ mode → Ranking 64 ranks) → 160 ≤ words
+    → Rewrites form [] mode default ranks o words r o′ w′ → (r ≡ Records 0 (pos 0)) × (o′ ≡ o)
 unfolding resultOf bytesOf
-empty-answered form mode default o words r o′ w′ low high enough ok =
-    let f = rewrite-result form [] mode default o words r o′ w′ ok none in (
-      f .0 ∙ ap (λ (rs : List Route). Records (length rs) (pos (length rs) -ℤ pos 0)) (empty-result mode default low high),
-      f .1 ∙ ap (λ (rs : List Route). bytesOf rs ++ drop (8 * length rs) o) (empty-result mode default low high),
+empty-answered form mode default ranks o words r o′ w′ low high ranked enough ok =
+    let f = rewrite-result form [] mode default ranks o words r o′ w′ ok none in (
+      f .0 ∙ ap (λ (rs : List Route). Records (length rs) (pos (length rs) -ℤ pos 0)) (empty-result mode default ranks low high),
+      f .1 ∙ ap (λ (rs : List Route). bytesOf rs ++ drop (8 * length rs) o) (empty-result mode default ranks low high),
     )
   where
-    none : None (RewriteCondition form [] mode default (length o) words)
+    none : None (RewriteCondition form [] mode default ranks (length o) words)
     none =
-        answerable-exactly form [] mode default (length o) words .1 (
+        answerable-exactly form [] mode default ranks (length o) words .1 (
           record {
             known-mode = (low, omega arith);
             small-default = λ e. absurd (omega arith);
+            lawful-ranks = ranked;
             accepted = accepted-exactly form (takesSet mode) [] .1 (empty-table form (takesSet mode));
-            enough-output = rw (empty-result mode default low high) (omega arith);
+            enough-output = rw (empty-result mode default ranks low high) (omega arith);
           },
           rw empty-nodes enough,
         )

@@ -6,7 +6,8 @@ use mathlib.Core.List.{List, [], _∷_, _++_}
 use Prim.Native.Nat.{ℕ, _*_, _/_}
 use lib.Dec.{eqb, leb}
 use lib.ListN.{length}
-use Rattle.theory.specs.Results.{result, smallest}
+use Rattle.theory.specs.Results.{result}
+use Rattle.theory.specs.Ranks.{lowest, isRanking}
 use Rattle.refusals.specs.Rules.{Rule, rule, judge}
 use Rattle.refusals.proofs.Waived.{waived, waived-append, waived-judge, waived-answer}
 use Rattle.records.specs.Wire.{records, routes, Bytes, maskedBytes}
@@ -25,27 +26,31 @@ use Rattle.calls.specs.Rewriting.{modeOf, resultOf, takesSet, rewriteRul
 use Rattle.calls.proofs.Settled.{rewritten-same, covers-same, rewrite-settled}
 
 -- ---- The strict choice. A rewrite by any engine's rules, and by the same with number 6 waived.
-module _ (rules : List Rule) (t : List ℕ) (mode default : ℕ) (o : List ℕ) (r : Rewritten) (o′ : List ℕ) (one : RewritesBy rules t mode default o r o′) where
+module _ (rules : List Rule) (t : List ℕ) (mode default : ℕ) (ranks o : List ℕ) (r : Rewritten) (o′ : List ℕ) (one : RewritesBy rules t mode default ranks o r o′) where
   -- What is not refused by 6 satisfies the other's statement.
-  pub by-waived : ((i : ℕ) → r ≡ Refused 6 i → ⊥) → RewritesBy (waived 6 rules) t mode default o r o′
+  pub by-waived : ((i : ℕ) → r ≡ Refused 6 i → ⊥) → RewritesBy (waived 6 rules) t mode default ranks o r o′
   unfolding replyBy
   by-waived h = record { answer = one .answer ∙ ap (writtenOf (records t)) (sym same); output = one .output ∙ ap (outputOf o) (sym same) }
     where
-      same : judge (waived 6 rules) (resultOf t mode default) ≡ judge rules (resultOf t mode default)
+      same : judge (waived 6 rules) (resultOf t mode default ranks) ≡ judge rules (resultOf t mode default ranks)
       same =
-          waived-judge 6 rules (resultOf t mode default)
+          waived-judge 6 rules (resultOf t mode default ranks)
           (λ i e. h i (rewritten-same r (Refused 6 i) (one .answer ∙ ap (writtenOf (records t)) e)))
 
 -- The default is the strict choice with number 6 waived.
 module _ (t : List ℕ) where
-  rewrite-waived : (mode default room words : ℕ) → waived 6 (rewriteRules strictly t mode default room words) ≡ rewriteRules byDefault t mode default room words
+  rewrite-waived : (mode default : ℕ) (ranks : List ℕ) (room words : ℕ) → waived 6 (rewriteRules strictly t mode default ranks room words) ≡ rewriteRules byDefault t mode default ranks room words
   unfolding rewriteRules
-  rewrite-waived mode default room words =
-      ap (λ (l : List Rule). rule 1 0 (leb 1 mode && leb mode 5) ∷ rule 2 0 (not (eqb mode 5) || leb default 63) ∷ l)
+  rewrite-waived mode default ranks room words =
+      ap (λ (l : List Rule).
+      rule 1 0 (leb 1 mode && leb mode 5)
+      ∷ rule 2 0 (not (eqb mode 5) || leb default 63)
+      ∷ rule 15 0 (not (leb 4 mode) || isRanking 64 ranks)
+      ∷ l)
       (waived-append 6 (tableRules strictly (takesSet mode) t) behind ∙ ap (λ (l : List Rule). l ++ behind) (strict-waived (takesSet mode) t))
     where
       behind : List Rule
-      behind = rule 10 0 (leb (160 * nodes 32 (routes t)) words) ∷ rule 11 0 (leb (8 * length (resultOf t mode default)) room) ∷ []
+      behind = rule 10 0 (leb (160 * nodes 32 (routes t)) words) ∷ rule 11 0 (leb (8 * length (resultOf t mode default ranks)) room) ∷ []
 
   cover-waived : (len words : ℕ) → waived 6 (coverRules strictly t len words) ≡ coverRules byDefault t len words
   unfolding coverRules
@@ -56,15 +61,15 @@ module _ (t : List ℕ) where
       last = rule 9 0 (leb len 32) ∷ rule 10 0 (leb (160 * nodes 32 (routes t)) words) ∷ []
 
   -- A rewrite that is not refused by 6 under the strict choice is the default's: the answer, the output and the room.
-  pub rewrite-carried : (mode default : ℕ) (o : List ℕ) (words : ℕ) (r q : Rewritten) (o′ p′ w′ v′ : List ℕ)
-      → Rewrites strictly t mode default o words r o′ w′ → Rewrites byDefault t mode default o words q p′ v′
+  pub rewrite-carried : (mode default : ℕ) (ranks o : List ℕ) (words : ℕ) (r q : Rewritten) (o′ p′ w′ v′ : List ℕ)
+      → Rewrites strictly t mode default ranks o words r o′ w′ → Rewrites byDefault t mode default ranks o words q p′ v′
       → ((i : ℕ) → r ≡ Refused 6 i → ⊥) → (q ≡ r) × (p′ ≡ o′) × (v′ ≡ w′)
-  rewrite-carried mode default o words r q o′ p′ w′ v′ one other h =
-      rewrite-settled byDefault t mode default o words q r p′ o′ v′ w′ other
+  rewrite-carried mode default ranks o words r q o′ p′ w′ v′ one other h =
+      rewrite-settled byDefault t mode default ranks o words q r p′ o′ v′ w′ other
       (record {
         inner =
-            subst (λ (rules : List Rule). RewritesBy rules t mode default o r o′) (rewrite-waived mode default (length o) words)
-            (by-waived (rewriteRules strictly t mode default (length o) words) t mode default o r o′ (one .inner) h);
+            subst (λ (rules : List Rule). RewritesBy rules t mode default ranks o r o′) (rewrite-waived mode default ranks (length o) words)
+            (by-waived (rewriteRules strictly t mode default ranks (length o) words) t mode default ranks o r o′ (one .inner) h);
         zero = one .zero;
       })
 
@@ -84,21 +89,21 @@ module _ (form : Form) (s : Bool) (t : List ℕ) (bytes : Bytes t) (ok : Accepte
   same-records : records (maskedBytes t) ≡ records t
   same-records = ap (λ (n : ℕ). n / 8) (masked-length form s t bytes ok)
 
-  same-result : (mode default : ℕ) → resultOf (maskedBytes t) mode default ≡ resultOf t mode default
+  same-result : (mode default : ℕ) (ranks : List ℕ) → resultOf (maskedBytes t) mode default ranks ≡ resultOf t mode default ranks
   unfolding resultOf
-  same-result mode default = ap (result smallest 32 (modeOf mode default)) (masked-routes form s t bytes ok)
+  same-result mode default ranks = ap (result (lowest ranks) 32 (modeOf mode default)) (masked-routes form s t bytes ok)
 
   -- A rewrite of them has the right reply for the table by default,
-  pub rewrite-masked : (mode default room words : ℕ) → rewriteReply other (maskedBytes t) mode default room words ≡ rewriteReply byDefault t mode default room words
+  pub rewrite-masked : (mode default : ℕ) (ranks : List ℕ) (room words : ℕ) → rewriteReply other (maskedBytes t) mode default ranks room words ≡ rewriteReply byDefault t mode default ranks room words
   unfolding replyBy rewriteRules
-  rewrite-masked mode default room words =
-      rw (masked-rules form s t bytes ok other (takesSet mode), masked-routes form s t bytes ok, same-result mode default)
+  rewrite-masked mode default ranks room words =
+      rw (masked-rules form s t bytes ok other (takesSet mode), masked-routes form s t bytes ok, same-result mode default ranks)
 
   -- and so satisfies its statement, and no other answer does: in every mode the same answer, output and room.
-  pub rewrites-masked : (mode default : ℕ) (o : List ℕ) (words : ℕ) (r : Rewritten) (o′ w′ : List ℕ)
-      → Rewrites other (maskedBytes t) mode default o words r o′ w′ → Rewrites byDefault t mode default o words r o′ w′
-  rewrites-masked mode default o words r o′ w′ a =
-      let same = rewrite-masked mode default (length o) words in
+  pub rewrites-masked : (mode default : ℕ) (ranks o : List ℕ) (words : ℕ) (r : Rewritten) (o′ w′ : List ℕ)
+      → Rewrites other (maskedBytes t) mode default ranks o words r o′ w′ → Rewrites byDefault t mode default ranks o words r o′ w′
+  rewrites-masked mode default ranks o words r o′ w′ a =
+      let same = rewrite-masked mode default ranks (length o) words in
       record {
         inner =
             record {

@@ -8,7 +8,8 @@ use Prim.Native.Nat.{ℕ, _-_, _*_, _^_, _<_}
 use lib.IntN.{ℤ, pos, _-ℤ_}
 use lib.ListN.{length, take, drop}
 use Rattle.theory.specs.Routes.{Table, held}
-use Rattle.theory.specs.Results.{smallest, result, In, startOf}
+use Rattle.theory.specs.Results.{result, In, startOf}
+use Rattle.theory.specs.Ranks.{lowest}
 use Rattle.theory.specs.Demands.{Keeps}
 use Rattle.theory.proofs.Maximal.{throughout-each}
 use Rattle.refusals.specs.Rules.{Rule}
@@ -27,60 +28,60 @@ use Rattle.calls.proofs.Engines.{by-records, by-length, by-written, by-
 use Rattle.calls.proofs.Refusals.{rewrite-guarded, reply-gives, rewrite-accepted, covers-answered}
 use Rattle.calls.proofs.Settled.{rewritten-same, covers-same}
 
-module _ (form : Form) (t : List ℕ) (mode default : ℕ) (o : List ℕ) (words : ℕ) where
+module _ (form : Form) (t : List ℕ) (mode default : ℕ) (ranks o : List ℕ) (words : ℕ) where
   abbrev rules : List Rule
-  rules = rewriteRules form t mode default (length o) words
+  rules = rewriteRules form t mode default ranks (length o) words
 
-  guarded : Guarded form rules t mode default (length o)
-  guarded = rewrite-guarded form t mode default (length o) words
+  guarded : Guarded form rules t mode default ranks (length o)
+  guarded = rewrite-guarded form t mode default ranks (length o) words
 
-  module _ (r : Rewritten) (o′ w′ : List ℕ) (ok : Rewrites form t mode default o words r o′ w′) where
+  module _ (r : Rewritten) (o′ w′ : List ℕ) (ok : Rewrites form t mode default ranks o words r o′ w′) where
     -- Where no condition holds the answer is the number of the result's records and the change, and the output has them from its start.
-    pub rewrite-result : None (RewriteCondition form t mode default (length o) words)
-        → (r ≡ Records (length (result smallest 32 (modeOf mode default) (routes t)))
-        (pos (length (result smallest 32 (modeOf mode default) (routes t))) -ℤ pos (records t)))
-        × (o′ ≡ bytesOf (result smallest 32 (modeOf mode default) (routes t))
-        ++ drop (8 * length (result smallest 32 (modeOf mode default) (routes t))) o)
+    pub rewrite-result : None (RewriteCondition form t mode default ranks (length o) words)
+        → (r ≡ Records (length (result (lowest ranks) 32 (modeOf mode default) (routes t)))
+        (pos (length (result (lowest ranks) 32 (modeOf mode default) (routes t))) -ℤ pos (records t)))
+        × (o′ ≡ bytesOf (result (lowest ranks) 32 (modeOf mode default) (routes t))
+        ++ drop (8 * length (result (lowest ranks) 32 (modeOf mode default) (routes t))) o)
     unfolding resultOf
     rewrite-result none =
-        let e = reply-gives form t mode default o words .1 (none, refl) in (
+        let e = reply-gives form t mode default ranks o words .1 (none, refl) in (
           rewritten-same r (Records _ _) (ok .inner .answer ∙ ap (writtenOf (records t)) e),
           ok .inner .output ∙ ap (outputOf o) e,
         )
 
     -- The same by the answer: it has records only where no condition holds, and then it is that one.
     pub rewrite-records : (count : ℕ) (change : ℤ) → r ≡ Records count change
-        → None (RewriteCondition form t mode default (length o) words) × (count ≡ length (resultOf t mode default))
-        × (change ≡ pos (length (resultOf t mode default)) -ℤ pos (records t))
-        × (o′ ≡ bytesOf (resultOf t mode default) ++ drop (8 * length (resultOf t mode default)) o)
+        → None (RewriteCondition form t mode default ranks (length o) words) × (count ≡ length (resultOf t mode default ranks))
+        × (change ≡ pos (length (resultOf t mode default ranks)) -ℤ pos (records t))
+        × (o′ ≡ bytesOf (resultOf t mode default ranks) ++ drop (8 * length (resultOf t mode default ranks)) o)
     rewrite-records count change e =
-        let f = by-records form rules t mode default o guarded r o′ (ok .inner) count change e in
-        (rewrite-accepted form t mode default o words r o′ w′ ok .0 (count, (change, e)), f .1, f .2, f .3)
+        let f = by-records form rules t mode default ranks o guarded r o′ (ok .inner) count change e in
+        (rewrite-accepted form t mode default ranks o words r o′ w′ ok .0 (count, (change, e)), f .1, f .2, f .3)
 
     -- Answered or refused, the output keeps its length.
     pub rewrite-length : length o′ ≡ length o
-    rewrite-length = by-length form rules t mode default o guarded r o′ (ok .inner)
+    rewrite-length = by-length form rules t mode default ranks o guarded r o′ (ok .inner)
 
     -- The records are written from the output's start.
-    pub rewrite-written : (count : ℕ) (change : ℤ) → r ≡ Records count change → take (8 * count) o′ ≡ bytesOf (resultOf t mode default)
-    rewrite-written = by-written form rules t mode default o guarded r o′ (ok .inner)
+    pub rewrite-written : (count : ℕ) (change : ℤ) → r ≡ Records count change → take (8 * count) o′ ≡ bytesOf (resultOf t mode default ranks)
+    rewrite-written = by-written form rules t mode default ranks o guarded r o′ (ok .inner)
 
     module _ (bytes : Bytes t) (count : ℕ) (change : ℤ) (answered : r ≡ Records count change) where
       -- The table of bytes is one of routes, with hops in range.
       pub rewrite-lawful : Lawful (takesSet mode) (routes t)
-      rewrite-lawful = by-lawful form rules t mode default o guarded r o′ (ok .inner) count change answered bytes
+      rewrite-lawful = by-lawful form rules t mode default ranks o guarded r o′ (ok .inner) count change answered bytes
 
       -- So is the result.
-      pub rewrite-table : Table 32 (resultOf t mode default)
-      rewrite-table = by-table form rules t mode default o guarded r o′ (ok .inner) count change answered bytes
+      pub rewrite-table : Table 32 (resultOf t mode default ranks)
+      rewrite-table = by-table form rules t mode default ranks o guarded r o′ (ok .inner) count change answered bytes
 
       -- What is written reads back as the result.
-      pub rewrite-reads : routes (take (8 * count) o′) ≡ result smallest 32 (modeOf mode default) (routes t)
-      rewrite-reads = by-reads form rules t mode default o guarded r o′ (ok .inner) count change answered bytes
+      pub rewrite-reads : routes (take (8 * count) o′) ≡ result (lowest ranks) 32 (modeOf mode default) (routes t)
+      rewrite-reads = by-reads form rules t mode default ranks o guarded r o′ (ok .inner) count change answered bytes
 
       -- And says of each address what is demanded of its mode: the sets hold it alike, the maps answer it alike, fill gives the unrouted the default.
       pub rewrite-keeps : (x : ℕ) → x < 2 ^ 32 → Keeps 32 (modeOf mode default) (routes t) (routes (take (8 * count) o′)) x
-      rewrite-keeps = by-keeps form rules t mode default o guarded r o′ (ok .inner) count change answered bytes
+      rewrite-keeps = by-keeps form rules t mode default ranks o guarded r o′ (ok .inner) count change answered bytes
 
 -- ---- The cover query.
 module _ (form : Form) (t : List ℕ) (address len words : ℕ) (r : Covers) (w′ : List ℕ) (ok : Queried form t address len words r w′) where

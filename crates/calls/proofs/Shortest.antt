@@ -13,9 +13,10 @@ use lib.IntN.{ℤ, pos, negsuc, _-ℤ_}
 use lib.ListN.{length, take}
 use lib.Signed.{_≤ℤ_, leZ-yes}
 use Rattle.theory.specs.Routes.{Route, Table, Member, held, answer, filled, Alike}
-use Rattle.theory.specs.Results.{smallest, unhopped, Mode, aggregateSet, aggregateConsistentSet, aggregateConsistentMap, aggregateMapDrop, aggregateMapFill}
+use Rattle.theory.specs.Results.{unhopped, Mode, aggregateSet, aggregateConsistentSet, aggregateConsistentMap, aggregateMapDrop, aggregateMapFill}
+use Rattle.theory.specs.Ranks.{lowest}
 use Rattle.theory.specs.Shortest.{Shortens, of-set, of-drop, of-fill, Serves, NoFewer}
-use Rattle.theory.proofs.Chosen.{smallest-chooses}
+use Rattle.theory.proofs.Ranks.{lowest-chooses}
 use Rattle.theory.proofs.Lengths.{mostOf, result-length}
 use Rattle.theory.proofs.OnlyShortest.{set-prefixes, set-only}
 use Rattle.theory.proofs.Routed.{unhopped-bare}
@@ -64,29 +65,29 @@ most-change aggregateMapDrop a b le = difference a b (omega arith)
 most-change (aggregateMapFill d) a b le = difference a b (omega arith)
 
 -- Answered or refused, the change of a rewrite is at most its mode's most: 0 in modes 1 to 4, and 1 in mode 5.
-pub change-by : (form : Form) (rules : List Rule) (t : List ℕ) (mode default : ℕ) (o : List ℕ) → Guarded form rules t mode default (length o) → (r : Rewritten) (o′ : List ℕ)
-    → RewritesBy rules t mode default o r o′ → Bytes t → changeOf r ≤ℤ mostChange (modeOf mode default)
+pub change-by : (form : Form) (rules : List Rule) (t : List ℕ) (mode default : ℕ) (ranks o : List ℕ) → Guarded form rules t mode default ranks (length o) → (r : Rewritten) (o′ : List ℕ)
+    → RewritesBy rules t mode default ranks o r o′ → Bytes t → changeOf r ≤ℤ mostChange (modeOf mode default)
 unfolding resultOf
-change-by form rules t mode default o guarded r o′ ok bytes = go r refl
+change-by form rules t mode default ranks o guarded r o′ ok bytes = go r refl
   where
     go : (q : Rewritten) → r ≡ q → changeOf q ≤ℤ mostChange (modeOf mode default)
     go (Refused number index) e = most-change (modeOf mode default) 0 0 (omega arith)
     go (Records count change) e =
-        let f = by-records form rules t mode default o guarded r o′ ok count change e in
-        let table = by-lawful form rules t mode default o guarded r o′ ok count change e bytes .table in
-        rw (f .2) (most-change (modeOf mode default) _ (records t) (rw length-routes at (result-length smallest smallest-chooses 32 (modeOf mode default) table)))
+        let f = by-records form rules t mode default ranks o guarded r o′ ok count change e in
+        let table = by-lawful form rules t mode default ranks o guarded r o′ ok count change e bytes .table in
+        rw (f .2) (most-change (modeOf mode default) _ (records t) (rw length-routes at (result-length (lowest ranks) (lowest-chooses ranks) 32 (modeOf mode default) table)))
 
 -- ---- A table t, rewritten by an engine without refusal.
-module _ (form : Form) (rules : List Rule) (t : List ℕ) (mode default : ℕ) (o : List ℕ) (guarded : Guarded form rules t mode default (length o))
-    (count : ℕ) (change : ℤ) (o′ : List ℕ) (ok : RewritesBy rules t mode default o (Records count change) o′) (short : Shortens (modeOf mode default)) where
+module _ (form : Form) (rules : List Rule) (t : List ℕ) (mode default : ℕ) (ranks o : List ℕ) (guarded : Guarded form rules t mode default ranks (length o))
+    (count : ℕ) (change : ℤ) (o′ : List ℕ) (ok : RewritesBy rules t mode default ranks o (Records count change) o′) (short : Shortens (modeOf mode default)) where
   -- No valid routes that say of each address what the result must are fewer than the records written.
   pub shortest-by : NoFewer 32 (modeOf mode default) (routes t) count
   unfolding resultOf
   shortest-by u serves =
       omega (
         arith,
-        by-counted form rules t mode default o guarded (Records count change) o′ ok count change refl,
-        result-shortest smallest smallest-chooses 32 short (routes t) u serves,
+        by-counted form rules t mode default ranks o guarded (Records count change) o′ ok count change refl,
+        result-shortest (lowest ranks) (lowest-chooses ranks) 32 short (routes t) u serves,
       )
 
   -- So no accepted table that does has fewer records.
@@ -100,24 +101,24 @@ module _ (form : Form) (rules : List Rule) (t : List ℕ) (mode default : ℕ) (
       )
 
 -- ---- A set's table t, rewritten by an engine in mode 1 without refusal: no other set table is as short.
-module _ (form : Form) (rules : List Rule) (t : List ℕ) (d : ℕ) (o : List ℕ) (guarded : Guarded form rules t 1 d (length o))
-    (count : ℕ) (change : ℤ) (o′ : List ℕ) (ok : RewritesBy rules t 1 d o (Records count change) o′) where
-  few-enough : (u : List Route) → length u ≤ count → length u ≤ length (resultOf t 1 d)
-  few-enough u few = omega (arith, by-counted form rules t 1 d o guarded (Records count change) o′ ok count change refl)
+module _ (form : Form) (rules : List Rule) (t : List ℕ) (d : ℕ) (ranks o : List ℕ) (guarded : Guarded form rules t 1 d ranks (length o))
+    (count : ℕ) (change : ℤ) (o′ : List ℕ) (ok : RewritesBy rules t 1 d ranks o (Records count change) o′) where
+  few-enough : (u : List Route) → length u ≤ count → length u ≤ length (resultOf t 1 d ranks)
+  few-enough u few = omega (arith, by-counted form rules t 1 d ranks o guarded (Records count change) o′ ok count change refl)
 
   -- Routes of the same addresses, in any order and with any hops, that are as few as the records written have just their prefixes.
   pub only-by : Bytes t → (u : List Route) → Serves 32 aggregateSet (routes t) u → length u ≤ count
       → (r : Route) → Member r (unhopped u) ↔ Member r (routes (take (8 * count) o′))
   unfolding resultOf
   only-by bytes u serves few r =
-      rw (by-reads form rules t 1 d o guarded (Records count change) o′ ok count change refl bytes)
-      (set-prefixes smallest 32 (routes t) serves (unfold resultOf in few-enough u few) r)
+      rw (by-reads form rules t 1 d ranks o guarded (Records count change) o′ ok count change refl bytes)
+      (set-prefixes (lowest ranks) 32 (routes t) serves (unfold resultOf in few-enough u few) r)
 
   -- A table of them has these prefixes in the same order.
   only-result : (u : List Route) → Table 32 u → ((x : ℕ) → x < 2 ^ 32 → held 32 u x ≡ held 32 (routes t) x) → length u ≤ count
-      → unhopped u ≡ resultOf t 1 d
+      → unhopped u ≡ resultOf t 1 d ranks
   unfolding resultOf
-  only-result u table same few = set-only smallest 32 (routes t) table same (unfold resultOf in few-enough u few)
+  only-result u table same few = set-only (lowest ranks) 32 (routes t) table same (unfold resultOf in few-enough u few)
 
   module _ (other : Form) (u : List ℕ) (small : Bytes u) (accepted : Accepted other true u) (same : (x : ℕ) → x < 2 ^ 32 → held 32 (routes u) x ≡ held 32 (routes t) x)
       (few : records u ≤ count) where
@@ -127,7 +128,7 @@ module _ (form : Form) (rules : List Rule) (t : List ℕ) (d : ℕ) (o : List �
     only-written-by =
         let lawful = lawful-routes other true u small accepted in
         ap bytesOf (sym (unhopped-bare (set-hops (lawful .hops))) ∙ only-result (routes u) (lawful .table) same (omega (arith, length-routes u)))
-        ∙ sym (by-written form rules t 1 d o guarded (Records count change) o′ ok count change refl)
+        ∙ sym (by-written form rules t 1 d ranks o guarded (Records count change) o′ ok count change refl)
 
     -- and these are its own bytes where the strict choice accepts it.
     pub only-bytes-by : other .strict ≡ true → u ≡ take (8 * count) o′
@@ -135,53 +136,53 @@ module _ (form : Form) (rules : List Rule) (t : List ℕ) (d : ℕ) (o : List �
         sym (bytes-routes (records u) (records u) true u small (not-refused strictly true u (records u) (subst (λ (f : Form). Accepted f true u) (is-strict other strict) accepted)))
         ∙ only-written-by
 
--- ---- The engine over nodes: a table t, rewritten in whatever output and room.
-module _ (form : Form) (t : List ℕ) (bytes : Bytes t) (o : List ℕ) (words : ℕ) (o′ w′ : List ℕ) where
+-- ---- The engine over nodes: a table t, rewritten under whatever ranks, in whatever output and room.
+module _ (form : Form) (t : List ℕ) (bytes : Bytes t) (ranks o : List ℕ) (words : ℕ) (o′ w′ : List ℕ) where
   -- The change is at most its mode's most, answered or refused.
-  pub rewrite-change : (mode default : ℕ) (r : Rewritten) → Rewrites form t mode default o words r o′ w′ → changeOf r ≤ℤ mostChange (modeOf mode default)
+  pub rewrite-change : (mode default : ℕ) (r : Rewritten) → Rewrites form t mode default ranks o words r o′ w′ → changeOf r ≤ℤ mostChange (modeOf mode default)
   rewrite-change mode default r ok =
-      change-by form (rewriteRules form t mode default (length o) words) t mode default o (rewrite-guarded form t mode default (length o) words) r o′ (ok .inner) bytes
+      change-by form (rewriteRules form t mode default ranks (length o) words) t mode default ranks o (rewrite-guarded form t mode default ranks (length o) words) r o′ (ok .inner) bytes
 
   -- So mode 4's is never above 0,
-  pub drop-change : (d : ℕ) (r : Rewritten) → Rewrites form t 4 d o words r o′ w′ → changeOf r ≤ℤ pos 0
+  pub drop-change : (d : ℕ) (r : Rewritten) → Rewrites form t 4 d ranks o words r o′ w′ → changeOf r ≤ℤ pos 0
   drop-change d = rewrite-change 4 d
 
   -- and mode 5's never above 1.
-  pub fill-change : (d : ℕ) (r : Rewritten) → Rewrites form t 5 d o words r o′ w′ → changeOf r ≤ℤ pos 1
+  pub fill-change : (d : ℕ) (r : Rewritten) → Rewrites form t 5 d ranks o words r o′ w′ → changeOf r ≤ℤ pos 1
   fill-change d = rewrite-change 5 d
 
   module _ (count : ℕ) (change : ℤ) where
     -- Modes 1, 4 and 5: no valid routes that say of each address what the result must are fewer than the records written.
-    pub rewrite-shortest : (mode default : ℕ) → Rewrites form t mode default o words (Records count change) o′ w′ → Shortens (modeOf mode default)
+    pub rewrite-shortest : (mode default : ℕ) → Rewrites form t mode default ranks o words (Records count change) o′ w′ → Shortens (modeOf mode default)
         → NoFewer 32 (modeOf mode default) (routes t) count
     rewrite-shortest mode default ok =
-        shortest-by form (rewriteRules form t mode default (length o) words) t mode default o (rewrite-guarded form t mode default (length o) words) count change o′
+        shortest-by form (rewriteRules form t mode default ranks (length o) words) t mode default ranks o (rewrite-guarded form t mode default ranks (length o) words) count change o′
         (ok .inner)
 
-    none-shorter : (mode default : ℕ) → Rewrites form t mode default o words (Records count change) o′ w′ → Shortens (modeOf mode default)
+    none-shorter : (mode default : ℕ) → Rewrites form t mode default ranks o words (Records count change) o′ w′ → Shortens (modeOf mode default)
         → NoneShorter mode default t count
     none-shorter mode default ok =
-        none-shorter-by form (rewriteRules form t mode default (length o) words) t mode default o (rewrite-guarded form t mode default (length o) words) count change o′
+        none-shorter-by form (rewriteRules form t mode default ranks (length o) words) t mode default ranks o (rewrite-guarded form t mode default ranks (length o) words) count change o′
         (ok .inner)
 
     -- ---- The same of tables u that are accepted by some form, of a set or of a map.
     module _ (other : Form) (isSet : Bool) (u : List ℕ) (small : Bytes u) (accepted : Accepted other isSet u) (d : ℕ) where
       -- Mode 4: none with the same answer at every address, no route included, has fewer records.
-      pub drop-shortest : Rewrites form t 4 d o words (Records count change) o′ w′ → Alike 32 (answer 32 (routes u)) (answer 32 (routes t)) → count ≤ records u
+      pub drop-shortest : Rewrites form t 4 d ranks o words (Records count change) o′ w′ → Alike 32 (answer 32 (routes u)) (answer 32 (routes t)) → count ≤ records u
       drop-shortest ok same = none-shorter 4 d ok of-drop u (record { bytes = small; form = other; isSet = isSet; accepted = accepted; keeps = same })
 
       -- Mode 5: none that itself routes every address as the filled input does has fewer.
-      pub fill-shortest : Rewrites form t 5 d o words (Records count change) o′ w′ → Alike 32 (answer 32 (routes u)) (filled d (answer 32 (routes t)))
+      pub fill-shortest : Rewrites form t 5 d ranks o words (Records count change) o′ w′ → Alike 32 (answer 32 (routes u)) (filled d (answer 32 (routes t)))
           → count ≤ records u
       fill-shortest ok same = none-shorter 5 d ok (of-fill d) u (record { bytes = small; form = other; isSet = isSet; accepted = accepted; keeps = same })
 
       -- Mode 1: none that holds the same addresses has fewer.
-      pub set-shortest : Rewrites form t 1 d o words (Records count change) o′ w′ → ((x : ℕ) → x < 2 ^ 32 → held 32 (routes u) x ≡ held 32 (routes t) x)
+      pub set-shortest : Rewrites form t 1 d ranks o words (Records count change) o′ w′ → ((x : ℕ) → x < 2 ^ 32 → held 32 (routes u) x ≡ held 32 (routes t) x)
           → count ≤ records u
       set-shortest ok same = none-shorter 1 d ok of-set u (record { bytes = small; form = other; isSet = isSet; accepted = accepted; keeps = same })
 
     -- Mode 1: and a set that has as many is the one written: its records without host bits are the bytes written, byte for byte.
-    pub set-alone : (d : ℕ) → Rewrites form t 1 d o words (Records count change) o′ w′ → (other : Form) (u : List ℕ) → Bytes u → Accepted other true u
+    pub set-alone : (d : ℕ) → Rewrites form t 1 d ranks o words (Records count change) o′ w′ → (other : Form) (u : List ℕ) → Bytes u → Accepted other true u
         → ((x : ℕ) → x < 2 ^ 32 → held 32 (routes u) x ≡ held 32 (routes t) x) → records u ≤ count → bytesOf (routes u) ≡ take (8 * count) o′
     set-alone d ok =
-        only-written-by form (rewriteRules form t 1 d (length o) words) t d o (rewrite-guarded form t 1 d (length o) words) count change o′ (ok .inner)
+        only-written-by form (rewriteRules form t 1 d ranks (length o) words) t d ranks o (rewrite-guarded form t 1 d ranks (length o) words) count change o′ (ok .inner)

@@ -1,7 +1,7 @@
 -- The rules of a rewrite and of the cover query test document 01's conditions, and stand in the order of the checks. Assumes nothing.
 use Prim.{tt}
-use mathlib.Core.Path.{_≡_, refl}
-use mathlib.Core.Bool.{Bool, true, false, not, _||_, _&&_}
+use mathlib.Core.Path.{_≡_, refl, sym, _∙_}
+use mathlib.Core.Bool.{Bool, true, false, true≢false, not, _||_, _&&_}
 use mathlib.Core.List.{List, [], _∷_, _++_}
 use mathlib.Core.Logic.{inl, inr, _↔_}
 use Prim.Native.Nat.{ℕ, _*_, _≤_, _<_}
@@ -9,6 +9,8 @@ use native.Mathlib.Omega.{arith}
 use lib.Dec.{eqb, leb}
 use lib.ListN.{length}
 use borrow.Author.Tests.{eqb-true, eq-eqb, leb-true, leb-false, le-leb, lt-leb}
+use Rattle.theory.specs.Ranks.{Ranking, isRanking}
+use Rattle.theory.proofs.Ranks.{ranking-tested}
 use Rattle.refusals.specs.Rules.{Rule, rule}
 use Rattle.refusals.specs.Order.{rank}
 use Rattle.refusals.proofs.Judged.{Broken}
@@ -19,11 +21,11 @@ use Rattle.table.specs.Conditions.{TableCondition}
 use Rattle.table.specs.TableRules.{tableRules}
 use Rattle.table.proofs.Tested.{table-tests, table-ranked}
 use Rattle.nodecount.specs.Nodes.{nodes}
-use Rattle.calls.specs.Conditions.{RewriteCondition, no-mode, large-default, of-table, short-work, short-output, CoverCondition, of-set, long-query, short-room}
+use Rattle.calls.specs.Conditions.{RewriteCondition, no-mode, large-default, bad-ranks, of-table, short-work, short-output, CoverCondition, of-set, long-query, short-room}
 use Rattle.calls.specs.Covering.{coverRules}
 use Rattle.calls.specs.Rewriting.{resultOf, takesSet, rewriteRules}
 
--- ---- Rules 1 and 2.
+-- ---- Rules 1, 2 and 15.
 mode-refuted : (mode : ℕ) → (leb 1 mode && leb mode 5) ≡ false → (1 ≤ mode) × (mode ≤ 5) → ⊥
 mode-refuted mode e h = let z : _≡_ {A = ℕ} 0 1 = cc (le-leb 1 mode (h .0), le-leb mode 5 (h .1)) in omega arith
 
@@ -45,20 +47,38 @@ default-refuted mode default e = go (eqb mode 5) refl e
 default-failed : (mode default : ℕ) → mode ≡ 5 → 63 < default → (not (eqb mode 5) || leb default 63) ≡ false
 default-failed mode default e h = rw (eq-eqb mode 5 e, lt-leb default 63 h)
 
--- ---- The rules of any engine: 1 and 2, the table's, then its last. `known` says whether it has the mode.
-abbrev pub rulesWith : Bool → Form → List ℕ → ℕ → ℕ → List Rule → List Rule
-rulesWith known form t mode default last =
-    rule 1 0 known ∷ rule 2 0 (not (eqb mode 5) || leb default 63) ∷ tableRules form (takesSet mode) t ++ last
+ranks-refuted : (mode : ℕ) (ranks : List ℕ) → (not (leb 4 mode) || isRanking 64 ranks) ≡ false → (4 ≤ mode) × (Ranking 64 ranks → ⊥)
+ranks-refuted mode ranks e = go (leb 4 mode) refl e
+  where
+    go : (p : Bool) → leb 4 mode ≡ p → (not p || isRanking 64 ranks) ≡ false → (4 ≤ mode) × (Ranking 64 ranks → ⊥)
+    go true f e = (leb-true 4 mode f, λ r. absurd (true≢false (sym (ranking-tested 64 ranks .1 r) ∙ e)))
+    go false f e = absurd (true≢false e)
 
-module _ (known : Bool) (form : Form) (t : List ℕ) (mode default : ℕ) (last : List Rule) where
+ranks-failed : (mode : ℕ) (ranks : List ℕ) → 4 ≤ mode → (Ranking 64 ranks → ⊥) → (not (leb 4 mode) || isRanking 64 ranks) ≡ false
+ranks-failed mode ranks h no-ranking = rw (le-leb 4 mode h) (go (isRanking 64 ranks) refl)
+  where
+    go : (b : Bool) → isRanking 64 ranks ≡ b → b ≡ false
+    go true e = absurd (no-ranking (ranking-tested 64 ranks .0 e))
+    go false e = refl
+
+-- ---- The rules of any engine: 1, 2 and 15, the table's, then its last. `known` says whether it has the mode.
+abbrev pub rulesWith : Bool → Form → List ℕ → ℕ → ℕ → List ℕ → List Rule → List Rule
+rulesWith known form t mode default ranks last =
+    rule 1 0 known
+    ∷ rule 2 0 (not (eqb mode 5) || leb default 63)
+    ∷ rule 15 0 (not (leb 4 mode) || isRanking 64 ranks)
+    ∷ tableRules form (takesSet mode) t
+    ++ last
+
+module _ (known : Bool) (form : Form) (t : List ℕ) (mode default : ℕ) (ranks : List ℕ) (last : List Rule) where
   abbrev table : List Rule
   table = tableRules form (takesSet mode) t
 
   abbrev front : List Rule
-  front = rule 1 0 known ∷ rule 2 0 (not (eqb mode 5) || leb default 63) ∷ []
+  front = rule 1 0 known ∷ rule 2 0 (not (eqb mode 5) || leb default 63) ∷ rule 15 0 (not (leb 4 mode) || isRanking 64 ranks) ∷ []
 
   -- They stand in the order of the checks where the last do.
-  pub ranked-with : (q : ℕ) → 7 ≤ q → Ranked 7 q last → Ranked 1 q (rulesWith known form t mode default last)
+  pub ranked-with : (q : ℕ) → 7 ≤ q → Ranked 7 q last → Ranked 1 q (rulesWith known form t mode default ranks last)
   unfolding rank
   ranked-with q le ranked =
       ranked-append 1 4 q front (table ++ last) (omega arith) (omega arith) (singles 1 4 front refl .1)
@@ -66,62 +86,73 @@ module _ (known : Bool) (form : Form) (t : List ℕ) (mode default : ℕ) (last 
 
   -- What each that is broken stands for.
   pub broken-with : (Holds : ℕ → ℕ → Type 0) → (known ≡ false → Holds 1 0) → (mode ≡ 5 → 63 < default → Holds 2 0)
+      → (4 ≤ mode → (Ranking 64 ranks → ⊥) → Holds 15 0)
       → ((n i : ℕ) → TableCondition form (takesSet mode) t n i → Holds n i) → ((n i : ℕ) → Broken last n i → Holds n i)
-      → (n i : ℕ) → Broken (rulesWith known form t mode default last) n i → Holds n i
-  broken-with Holds one two of-records behind =
+      → (n i : ℕ) → Broken (rulesWith known form t mode default ranks last) n i → Holds n i
+  broken-with Holds one two fifteen of-records behind =
       sound-append Holds front (table ++ last)
-      (sound-each Holds front (one, (λ e. let f = default-refuted mode default e in two (f .0) (f .1), tt)))
+      (sound-each Holds front (
+        one,
+        (
+          λ e. let f = default-refuted mode default e in two (f .0) (f .1),
+          (λ e. let f = ranks-refuted mode ranks e in fifteen (f .0) (f .1), tt),
+        ),
+      ))
       (sound-append Holds table last (λ n i b. of-records n i (table-tests form (takesSet mode) t n i .0 b)) behind)
 
   -- And back.
-  pub breaks-mode : known ≡ false → Broken (rulesWith known form t mode default last) 1 0
+  pub breaks-mode : known ≡ false → Broken (rulesWith known form t mode default ranks last) 1 0
   breaks-mode e = inl (e, refl, refl)
 
-  pub breaks-default : mode ≡ 5 → 63 < default → Broken (rulesWith known form t mode default last) 2 0
+  pub breaks-default : mode ≡ 5 → 63 < default → Broken (rulesWith known form t mode default ranks last) 2 0
   breaks-default e h = inr (inl (default-failed mode default e h, refl, refl))
 
-  pub breaks-table : (n i : ℕ) → TableCondition form (takesSet mode) t n i → Broken (rulesWith known form t mode default last) n i
-  breaks-table n i c = inr (inr (broken-left table last n i (table-tests form (takesSet mode) t n i .1 c)))
+  pub breaks-ranks : 4 ≤ mode → (Ranking 64 ranks → ⊥) → Broken (rulesWith known form t mode default ranks last) 15 0
+  breaks-ranks h f = inr (inr (inl (ranks-failed mode ranks h f, refl, refl)))
 
-  pub breaks-last : (n i : ℕ) → Broken last n i → Broken (rulesWith known form t mode default last) n i
-  breaks-last n i b = inr (inr (broken-right table last n i b))
+  pub breaks-table : (n i : ℕ) → TableCondition form (takesSet mode) t n i → Broken (rulesWith known form t mode default ranks last) n i
+  breaks-table n i c = inr (inr (inr (broken-left table last n i (table-tests form (takesSet mode) t n i .1 c))))
+
+  pub breaks-last : (n i : ℕ) → Broken last n i → Broken (rulesWith known form t mode default ranks last) n i
+  breaks-last n i b = inr (inr (inr (broken-right table last n i b)))
 
 -- ---- The rules of a rewrite.
-module _ (form : Form) (t : List ℕ) (mode default room words : ℕ) where
+module _ (form : Form) (t : List ℕ) (mode default : ℕ) (ranks : List ℕ) (room words : ℕ) where
   abbrev Holds : ℕ → ℕ → Type 0
-  Holds = RewriteCondition form t mode default room words
+  Holds = RewriteCondition form t mode default ranks room words
 
   abbrev known : Bool
   known = leb 1 mode && leb mode 5
 
   abbrev behind : List Rule
-  behind = rule 10 0 (leb (160 * nodes 32 (routes t)) words) ∷ rule 11 0 (leb (8 * length (resultOf t mode default)) room) ∷ []
+  behind = rule 10 0 (leb (160 * nodes 32 (routes t)) words) ∷ rule 11 0 (leb (8 * length (resultOf t mode default ranks)) room) ∷ []
 
   -- They stand in the order of the checks.
-  pub rewrite-ranked : Ranked 1 11 (rewriteRules form t mode default room words)
+  pub rewrite-ranked : Ranked 1 11 (rewriteRules form t mode default ranks room words)
   unfolding rewriteRules rank
-  rewrite-ranked = ranked-with known form t mode default behind 11 (omega arith) (singles 7 11 behind refl .1)
+  rewrite-ranked = ranked-with known form t mode default ranks behind 11 (omega arith) (singles 7 11 behind refl .1)
 
-  rewrite-broken : (n i : ℕ) → Broken (rewriteRules form t mode default room words) n i → Holds n i
+  rewrite-broken : (n i : ℕ) → Broken (rewriteRules form t mode default ranks room words) n i → Holds n i
   unfolding rewriteRules
   rewrite-broken =
-      broken-with known form t mode default behind Holds (λ e. no-mode (mode-refuted mode e)) large-default (λ n i c. of-table c)
+      broken-with known form t mode default ranks behind Holds (λ e. no-mode (mode-refuted mode e)) large-default bad-ranks (λ n i c. of-table c)
       (sound-each Holds behind (
         λ e. short-work (leb-false (160 * nodes 32 (routes t)) words e),
-        (λ e. short-output (leb-false (8 * length (resultOf t mode default)) room e), tt),
+        (λ e. short-output (leb-false (8 * length (resultOf t mode default ranks)) room e), tt),
       ))
 
-  rewrite-breaks : (n i : ℕ) → Holds n i → Broken (rewriteRules form t mode default room words) n i
+  rewrite-breaks : (n i : ℕ) → Holds n i → Broken (rewriteRules form t mode default ranks room words) n i
   unfolding rewriteRules
-  rewrite-breaks n i (no-mode f) = breaks-mode known form t mode default behind (mode-failed mode f)
-  rewrite-breaks n i (large-default e h) = breaks-default known form t mode default behind e h
-  rewrite-breaks n i (of-table c) = breaks-table known form t mode default behind n i c
-  rewrite-breaks n i (short-work h) = breaks-last known form t mode default behind n i (inl (lt-leb (160 * nodes 32 (routes t)) words h, refl, refl))
+  rewrite-breaks n i (no-mode f) = breaks-mode known form t mode default ranks behind (mode-failed mode f)
+  rewrite-breaks n i (large-default e h) = breaks-default known form t mode default ranks behind e h
+  rewrite-breaks n i (bad-ranks h f) = breaks-ranks known form t mode default ranks behind h f
+  rewrite-breaks n i (of-table c) = breaks-table known form t mode default ranks behind n i c
+  rewrite-breaks n i (short-work h) = breaks-last known form t mode default ranks behind n i (inl (lt-leb (160 * nodes 32 (routes t)) words h, refl, refl))
   rewrite-breaks n i (short-output h) =
-      breaks-last known form t mode default behind n i (inr (inl (lt-leb (8 * length (resultOf t mode default)) room h, refl, refl)))
+      breaks-last known form t mode default ranks behind n i (inr (inl (lt-leb (8 * length (resultOf t mode default ranks)) room h, refl, refl)))
 
   -- They test the conditions of a rewrite.
-  pub rewrite-tests : (n i : ℕ) → Broken (rewriteRules form t mode default room words) n i ↔ RewriteCondition form t mode default room words n i
+  pub rewrite-tests : (n i : ℕ) → Broken (rewriteRules form t mode default ranks room words) n i ↔ RewriteCondition form t mode default ranks room words n i
   rewrite-tests n i = (rewrite-broken n i, rewrite-breaks n i)
 
 -- ---- The rules of the cover query.

@@ -67,21 +67,21 @@ module _ (form : Form) (o : List ℕ) (words : ℕ) (long : 8200 ≤ length o) (
       ap₂ (λ (n : ℕ) (l : List ℕ). take (8 * n) l) (ap countOf (f .0)) (f .1)
       ∙ take-at (bytesOf rs) (drop (8 * length rs) o) (8 * length rs) (length-bytes rs)
 
-  case-2 : Rewrites form halves 1 0 o words r o′ w′ → take (8 * countOf r) o′ ≡ 10 ∷ 0 ∷ 0 ∷ 0 ∷ 8 ∷ 0 ∷ 0 ∷ 0 ∷ []
+  case-2 : Rewrites form halves 1 0 [] o words r o′ w′ → take (8 * countOf r) o′ ≡ 10 ∷ 0 ∷ 0 ∷ 0 ∷ 8 ∷ 0 ∷ 0 ∷ 0 ∷ []
   unfolding cases changes route bytesOf
   case-2 ok = written (route 10 0 0 0 8 0 ∷ []) (negsuc 0) (marked .1 .0 form o words r o′ w′ long wide ok)
 
-  case-5 : Rewrites form everything 1 0 o words r o′ w′ → take (8 * countOf r) o′ ≡ 0 ∷ 0 ∷ 0 ∷ 0 ∷ 0 ∷ 0 ∷ 0 ∷ 0 ∷ []
+  case-5 : Rewrites form everything 1 0 [] o words r o′ w′ → take (8 * countOf r) o′ ≡ 0 ∷ 0 ∷ 0 ∷ 0 ∷ 0 ∷ 0 ∷ 0 ∷ 0 ∷ []
   unfolding cases changes route bytesOf
   case-5 ok = written (route 0 0 0 0 0 0 ∷ []) (negsuc 0) (marked .1 .1 .1 .1 .1 .0 form o words r o′ w′ long wide ok)
 
-  case-11 : Rewrites form apart 4 0 o words r o′ w′ → take (8 * countOf r) o′ ≡ 10 ∷ 0 ∷ 0 ∷ 0 ∷ 8 ∷ 1 ∷ 0 ∷ 0 ∷ 10 ∷ 128 ∷ 0 ∷ 0 ∷ 9 ∷ 2 ∷ 0 ∷ 0 ∷ []
+  case-11 : Rewrites form apart 4 0 [] o words r o′ w′ → take (8 * countOf r) o′ ≡ 10 ∷ 0 ∷ 0 ∷ 0 ∷ 8 ∷ 1 ∷ 0 ∷ 0 ∷ 10 ∷ 128 ∷ 0 ∷ 0 ∷ 9 ∷ 2 ∷ 0 ∷ 0 ∷ []
   unfolding cases changes route bytesOf
   case-11 ok =
       written (route 10 0 0 0 8 1 ∷ route 10 128 0 0 9 2 ∷ []) (pos 0) (marked .1 .1 .1 .1 .1 .1 .1 .1 .1 .0 form o words r o′ w′ long wide ok)
 
   -- One that refuses everything: the halves are not refused.
-  pub refuser-wrong : (number index : ℕ) → r ≡ Refused number index → Rewrites form halves 1 0 o words r o′ w′ → ⊥
+  pub refuser-wrong : (number index : ℕ) → r ≡ Refused number index → Rewrites form halves 1 0 [] o words r o′ w′ → ⊥
   unfolding cases changes route bytesOf
   refuser-wrong number index e ok =
       let f = marked .1 .0 form o words r o′ w′ long wide ok .0 in
@@ -89,14 +89,14 @@ module _ (form : Form) (o : List ℕ) (words : ℕ) (long : 8200 ≤ length o) (
       omega arith
 
   -- One that copies its input: the halves in mode 1; and in mode 4 a table whose result has as many records.
-  pub copier-wrong : Rewrites form halves 1 0 o words r o′ w′ → take (8 * countOf r) o′ ≡ halves → ⊥
+  pub copier-wrong : Rewrites form halves 1 0 [] o words r o′ w′ → take (8 * countOf r) o′ ≡ halves → ⊥
   copier-wrong ok e = let z : _≡_ {A = ℕ} 8 9 = ap (λ (l : List ℕ). getD l 4 0) (sym (case-2 ok) ∙ e) in omega arith
 
-  pub copier-wrong-map : Rewrites form apart 4 0 o words r o′ w′ → take (8 * countOf r) o′ ≡ apart → ⊥
+  pub copier-wrong-map : Rewrites form apart 4 0 [] o words r o′ w′ → take (8 * countOf r) o′ ≡ apart → ⊥
   copier-wrong-map ok e = let z : _≡_ {A = ℕ} 8 9 = ap (λ (l : List ℕ). getD l 4 0) (sym (case-11 ok) ∙ e) in omega arith
 
   -- One that rewrites the root's positions and copies the deeper nodes: both halves lie below the root.
-  pub deep-copier-wrong : Rewrites form halves 1 0 o words r o′ w′ → CopiesDeep (routes halves) (routes (take (8 * countOf r) o′)) → ⊥
+  pub deep-copier-wrong : Rewrites form halves 1 0 [] o words r o′ w′ → CopiesDeep (routes halves) (routes (take (8 * countOf r) o′)) → ⊥
   unfolding routes routesFrom rawAt routeAt route
   deep-copier-wrong ok copies =
       let merged : routes (take (8 * countOf r) o′) ≡ route 10 0 0 0 8 0 ∷ [] = ap routes (case-2 ok) in
@@ -106,7 +106,7 @@ module _ (form : Form) (o : List ℕ) (words : ℕ) (long : 8200 ≤ length o) (
 
 -- One that always gives the same table: the same records are wrong for the halves or for everything.
 pub constant-wrong : (form : Form) (o : List ℕ) (words : ℕ) → 8200 ≤ length o → 16384 ≤ words → (r r₁ : Rewritten) (o′ w′ o₁ w₁ : List ℕ)
-    → Rewrites form halves 1 0 o words r o′ w′ → Rewrites form everything 1 0 o words r₁ o₁ w₁ → take (8 * countOf r) o′ ≡ take (8 * countOf r₁) o₁ → ⊥
+    → Rewrites form halves 1 0 [] o words r o′ w′ → Rewrites form everything 1 0 [] o words r₁ o₁ w₁ → take (8 * countOf r) o′ ≡ take (8 * countOf r₁) o₁ → ⊥
 constant-wrong form o words long wide r r₁ o′ w′ o₁ w₁ a b e =
     let z : _≡_ {A = ℕ} 10 0 =
     ap (λ (l : List ℕ). getD l 0 0) (sym (case-2 form o words long wide r o′ w′ a) ∙ e ∙ case-5 form o words long wide r₁ o₁ w₁ b) in
@@ -120,19 +120,19 @@ alike x lt =
     ∙ ap (λ (t : List Route). answer 32 t x) (worked .1 .1 .1 .1 .1 .1 .1 .1 .0)
 
 pub copier-against-alike : (form : Form) (o : List ℕ) (words count : ℕ) (change : ℤ) (o′ w′ p : List ℕ) (space number : ℕ) (other : ℤ) (p′ v′ : List ℕ)
-    → Rewrites form shadowed 4 0 o words (Records count change) o′ w′ → Rewrites form plain 4 0 p space (Records number other) p′ v′
+    → Rewrites form shadowed 4 0 [] o words (Records count change) o′ w′ → Rewrites form plain 4 0 [] p space (Records number other) p′ v′
     → take (8 * count) o′ ≡ shadowed → take (8 * number) p′ ≡ plain → ⊥
 copier-against-alike form o words count change o′ w′ p space number other p′ v′ a b copied copied-too =
     let same =
-    same-bytes-drop form shadowed (all-bytes shadowed refl) o words count change o′ w′ plain (all-bytes plain refl) p space number other p′ v′ 0 0 a b .1 alike in
+    same-bytes-drop form [] shadowed (all-bytes shadowed refl) o words count change o′ w′ plain (all-bytes plain refl) p space number other p′ v′ 0 0 a b .1 alike in
     let z : _≡_ {A = ℕ} 24 8 = ap (λ (l : List ℕ). length l) (sym copied ∙ same ∙ copied-too) in
     omega arith
 
 -- An invented change: any but records out minus records in.
-pub change-invented : (form : Form) (t : List ℕ) (mode default : ℕ) (o : List ℕ) (words count : ℕ) (change : ℤ) (o′ w′ : List ℕ)
-    → (change ≡ pos count -ℤ pos (records t) → ⊥) → Rewrites form t mode default o words (Records count change) o′ w′ → ⊥
-change-invented form t mode default o words count change o′ w′ other ok =
-    let f = rewrite-records form t mode default o words (Records count change) o′ w′ ok count change refl in
+pub change-invented : (form : Form) (t : List ℕ) (mode default : ℕ) (ranks o : List ℕ) (words count : ℕ) (change : ℤ) (o′ w′ : List ℕ)
+    → (change ≡ pos count -ℤ pos (records t) → ⊥) → Rewrites form t mode default ranks o words (Records count change) o′ w′ → ⊥
+change-invented form t mode default ranks o words count change o′ w′ other ok =
+    let f = rewrite-records form t mode default ranks o words (Records count change) o′ w′ ok count change refl in
     other (f .2 ∙ ap (λ (n : ℕ). pos n -ℤ pos (records t)) (sym (f .1)))
 
 -- ---- An invented total of addresses held.

@@ -17,9 +17,9 @@ pub record Fills (mode fill : ℕ) : Type 0 where
   pub none : (mode ≡ 5 → ⊥) → fill ≡ noHop
 
 -- The end of a rewrite of a table that keeps the rules: only the output's room is still to be judged, by rule 11.
-abbrev pub lastReply : List ℕ → ℕ → ℕ → ℕ → Reply (List Route)
-lastReply t mode fill room = judge (rule 11 0 (leb (8 * length (resultOf t mode fill)) room) ∷ []) (resultOf t mode fill)
+abbrev pub lastReply : List ℕ → ℕ → ℕ → List ℕ → ℕ → Reply (List Route)
+lastReply t mode fill ranks room = judge (rule 11 0 (leb (8 * length (resultOf t mode fill ranks)) room) ∷ []) (resultOf t mode fill ranks)
 
-pub record Finished (t : List ℕ) (mode fill : ℕ) (o : List ℕ) (r : Rewritten) (o′ : List ℕ) : Type 0 where
-  pub answer : rewrittenSays r ≡ writtenOf (records t) (lastReply t mode fill (length o))
-  pub output : o′ ≡ outputOf o (lastReply t mode fill (length o))
+pub record Finished (t : List ℕ) (mode fill : ℕ) (ranks o : List ℕ) (r : Rewritten) (o′ : List ℕ) : Type 0 where
+  pub answer : rewrittenSays r ≡ writtenOf (records t) (lastReply t mode fill ranks (length o))
+  pub output : o′ ≡ outputOf o (lastReply t mode fill ranks (length o))

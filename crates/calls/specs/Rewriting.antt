@@ -1,5 +1,5 @@
--- The statement of a rewrite: for every table, read by a form, mode, default, output and room, what it answers and what stands in the output and the room
--- then.
+-- The statement of a rewrite: for every table, read by a form, mode, default, ranks, output and room, what it answers and what stands in the output and
+-- the room then.
 use Prim.Native.Nat.{ℕ, _*_}
 use mathlib.Core.Path.{_≡_}
 use mathlib.Core.Bool.{Bool, cond, not, _||_, _&&_}
@@ -8,7 +8,8 @@ use lib.Dec.{eqb, leb}
 use lib.IntN.{ℤ, pos, _-ℤ_}
 use lib.ListN.{length, drop, replicate}
 use Rattle.theory.specs.Routes.{Route}
-use Rattle.theory.specs.Results.{Mode, aggregateSet, aggregateConsistentSet, aggregateConsistentMap, aggregateMapDrop, aggregateMapFill, result, smallest}
+use Rattle.theory.specs.Results.{Mode, aggregateSet, aggregateConsistentSet, aggregateConsistentMap, aggregateMapDrop, aggregateMapFill, result}
+use Rattle.theory.specs.Ranks.{lowest, isRanking}
 use Rattle.refusals.specs.Rules.{Rule, rule, Reply, gives, refuses, judge}
 use Rattle.records.specs.Wire.{records, routes, bytesOf}
 use Rattle.records.specs.declared.Form.{Form}
@@ -26,21 +27,22 @@ modeOf mode default =
     (cond (eqb mode 4) aggregateMapDrop
     (aggregateMapFill default))))
 
--- The routes that the mode makes of a table's bytes, the smallest hop chosen.
-unfoldable pub resultOf : List ℕ → ℕ → ℕ → List Route
-resultOf t mode default = result smallest 32 (modeOf mode default) (routes t)
+-- The routes that the mode makes of a table's bytes, the hop of lowest rank chosen; without ranks they are the hop numbers.
+unfoldable pub resultOf : List ℕ → ℕ → ℕ → List ℕ → List Route
+resultOf t mode default ranks = result (lowest ranks) 32 (modeOf mode default) (routes t)
 
 -- Modes 1 and 2 take sets.
 abbrev pub takesSet : ℕ → Bool
 takesSet mode = leb mode 2
 
--- Document 01's rules 1 to 8, 10 and 11, for an output of `room` bytes and a work room of `words` words.
-unfoldable pub rewriteRules : Form → List ℕ → ℕ → ℕ → ℕ → ℕ → List Rule
-rewriteRules form t mode default room words =
+-- The rules 1, 2, 15, 3 to 8, 10 and 11, for an output of `room` bytes and a work room of `words` words. Modes 1 to 3 do not read the ranks.
+unfoldable pub rewriteRules : Form → List ℕ → ℕ → ℕ → List ℕ → ℕ → ℕ → List Rule
+rewriteRules form t mode default ranks room words =
     rule 1 0 (leb 1 mode && leb mode 5)
     ∷ rule 2 0 (not (eqb mode 5) || leb default 63)
+    ∷ rule 15 0 (not (leb 4 mode) || isRanking 64 ranks)
     ∷ tableRules form (takesSet mode) t
-    ++ (rule 10 0 (leb (160 * nodes 32 (routes t)) words) ∷ rule 11 0 (leb (8 * length (resultOf t mode default)) room) ∷ [])
+    ++ (rule 10 0 (leb (160 * nodes 32 (routes t)) words) ∷ rule 11 0 (leb (8 * length (resultOf t mode default ranks)) room) ∷ [])
 
 -- What a rewrite gives: the number of records, and the change, records out minus records in.
 pub record Written : Type 0 where
@@ -48,12 +50,12 @@ pub record Written : Type 0 where
   pub change : ℤ
 
 -- The right reply of an engine with these rules: the routes of the result, or the refusal of the first rule that is broken.
-unfoldable pub replyBy : List Rule → List ℕ → ℕ → ℕ → Reply (List Route)
-replyBy rules t mode default = judge rules (resultOf t mode default)
+unfoldable pub replyBy : List Rule → List ℕ → ℕ → ℕ → List ℕ → Reply (List Route)
+replyBy rules t mode default ranks = judge rules (resultOf t mode default ranks)
 
 -- That of the engine over nodes.
-abbrev pub rewriteReply : Form → List ℕ → ℕ → ℕ → ℕ → ℕ → Reply (List Route)
-rewriteReply form t mode default room words = replyBy (rewriteRules form t mode default room words) t mode default
+abbrev pub rewriteReply : Form → List ℕ → ℕ → ℕ → List ℕ → ℕ → ℕ → Reply (List Route)
+rewriteReply form t mode default ranks room words = replyBy (rewriteRules form t mode default ranks room words) t mode default ranks
 
 -- What it is to say, of a table with so many records.
 abbrev pub writtenOf : ℕ → Reply (List Route) → Reply Written
@@ -79,16 +81,16 @@ abbrev pub changeOf : Rewritten → ℤ
 changeOf (Records count change) = change
 changeOf (Refused number index) = pos 0
 
--- The statement of any engine's rewrite, by its rules: the table t and the output o were lent, r was answered, and the output is o′ then.
-pub record RewritesBy (rules : List Rule) (t : List ℕ) (mode default : ℕ) (o : List ℕ) (r : Rewritten) (o′ : List ℕ) : Type 0 where
-  pub answer : rewrittenSays r ≡ writtenOf (records t) (replyBy rules t mode default)
-  pub output : o′ ≡ outputOf o (replyBy rules t mode default)
+-- The statement of any engine's rewrite, by its rules: the table t, the ranks and the output o were lent, r was answered, and the output is o′ then.
+pub record RewritesBy (rules : List Rule) (t : List ℕ) (mode default : ℕ) (ranks o : List ℕ) (r : Rewritten) (o′ : List ℕ) : Type 0 where
+  pub answer : rewrittenSays r ≡ writtenOf (records t) (replyBy rules t mode default ranks)
+  pub output : o′ ≡ outputOf o (replyBy rules t mode default ranks)
 
 -- That of the engine over nodes, which was lent a room of so many words, but for what becomes of the room.
-abbrev pub RewritesIn : Form → List ℕ → ℕ → ℕ → List ℕ → ℕ → Rewritten → List ℕ → Type 0
-RewritesIn form t mode default o words r o′ = RewritesBy (rewriteRules form t mode default (length o) words) t mode default o r o′
+abbrev pub RewritesIn : Form → List ℕ → ℕ → ℕ → List ℕ → List ℕ → ℕ → Rewritten → List ℕ → Type 0
+RewritesIn form t mode default ranks o words r o′ = RewritesBy (rewriteRules form t mode default ranks (length o) words) t mode default ranks o r o′
 
 -- The whole statement: and the room is zero throughout.
-pub record Rewrites (form : Form) (t : List ℕ) (mode default : ℕ) (o : List ℕ) (words : ℕ) (r : Rewritten) (o′ work′ : List ℕ) : Type 0 where
-  pub inner : RewritesIn form t mode default o words r o′
+pub record Rewrites (form : Form) (t : List ℕ) (mode default : ℕ) (ranks o : List ℕ) (words : ℕ) (r : Rewritten) (o′ work′ : List ℕ) : Type 0 where
+  pub inner : RewritesIn form t mode default ranks o words r o′
   pub zero : work′ ≡ replicate words 0

@@ -1,11 +1,13 @@
-// What every engine's rewrite asks beside its walk: is the default of fill a hop, by which hop is what has no route filled, and how many records can the
-// result have at most.
+// What every engine's rewrite asks beside its walk: is the default of fill a hop, may these ranks be lent, by which hop is what has no route filled, and how
+// many records can the result have at most.
 
 use hops::NO_HOP;
+use hops::ranking::is_ranking;
 ghost use mathlib.Core.Path.{_≡_};
 ghost use mathlib.Core.Bool.{not, _||_};
 ghost use Prim.Native.Nat.{_+_, _^_, _≤_, _<_};
 ghost use lib.Dec.{eqb, leb};
+ghost use Rattle.theory.specs.Ranks.{isRanking};
 ghost use Rattle.positions.specs.Runs.{noHop};
 
 // Is the default of fill no hop?
@@ -13,6 +15,16 @@ pub fn no_hop(mode: u32, default: u32) -> bool
     ensures { λ r. ⌜ r ≡ not (not (eqb mode 5) || leb default 63) ⌝ }
 {
     if mode == 5 { 63 < default } else { false }
+}
+
+// Are these ranks not to be lent in the mode? Modes 1 to 3 do not read them.
+pub fn no_ranks(mode: u32, ranks: &[u16]) -> bool
+    ensures { λ r. ⌜ r ≡ not (not (leb 4 mode) || isRanking 64 (now (ranks .entry))) ⌝ }
+{
+    if mode < 4 {
+        return false;
+    }
+    !is_ranking(ranks)
 }
 
 // The hop of what has no route: the default in mode 5, and none in the others.

@@ -9,9 +9,10 @@ use lib.Dec.{leb}
 use lib.IntN.{ℤ}
 use lib.ListN.{length, take}
 use Rattle.theory.specs.Routes.{Route, held, Answer, none, via, answer, orDefault}
-use Rattle.theory.specs.Results.{In, smallest}
+use Rattle.theory.specs.Results.{In}
+use Rattle.theory.specs.Ranks.{lowest}
 use Rattle.theory.specs.Shapes.{routed}
-use Rattle.theory.proofs.Chosen.{smallest-chooses}
+use Rattle.theory.proofs.Ranks.{lowest-chooses}
 use Rattle.theory.proofs.Lengths.{result-length}
 use Rattle.theory.proofs.Routed.{held-answer}
 use Rattle.refusals.specs.Rules.{Rule, rule, Reply, judge}
@@ -61,41 +62,41 @@ lists-alike form s t ok other same {p} l =
     }
 
 -- ---- A table t, rewritten by an engine without refusal.
-module _ (form : Form) (rules : List Rule) (t : List ℕ) (bytes : Bytes t) (d : ℕ) (o : List ℕ) (count : ℕ) (change : ℤ) (o′ : List ℕ) where
+module _ (form : Form) (rules : List Rule) (t : List ℕ) (bytes : Bytes t) (d : ℕ) (ranks o : List ℕ) (count : ℕ) (change : ℤ) (o′ : List ℕ) where
   -- Mode 4.
-  module _ (guarded : Guarded form rules t 4 d (length o)) (ok : RewritesBy rules t 4 d o (Records count change) o′) where
+  module _ (guarded : Guarded form rules t 4 d ranks (length o)) (ok : RewritesBy rules t 4 d ranks o (Records count change) o′) where
     -- The result has the table's holes,
     pub drop-holes : holesOf (take (8 * count) o′) ≡ holesOf t
     drop-holes =
         holes-agree 32 32 0 (routes (take (8 * count) o′)) (routes t)
         (λ x i. held-answer 32 x (routes (take (8 * count) o′))
-        ∙ ap routed (by-keeps form rules t 4 d o guarded (Records count change) o′ ok count change refl bytes x (omega arith))
+        ∙ ap routed (by-keeps form rules t 4 d ranks o guarded (Records count change) o′ ok count change refl bytes x (omega arith))
         ∙ sym (held-answer 32 x (routes t)))
 
     -- and is accepted.
     drop-few : count ≤ 1024
     unfolding resultOf
     drop-few =
-        let lawful = by-lawful form rules t 4 d o guarded (Records count change) o′ ok count change refl bytes in
-        let size = by-counted form rules t 4 d o guarded (Records count change) o′ ok count change refl in
-        omega (arith, lawful .few, result-length smallest smallest-chooses 32 (modeOf 4 d) (lawful .table))
+        let lawful = by-lawful form rules t 4 d ranks o guarded (Records count change) o′ ok count change refl bytes in
+        let size = by-counted form rules t 4 d ranks o guarded (Records count change) o′ ok count change refl in
+        omega (arith, lawful .few, result-length (lowest ranks) (lowest-chooses ranks) 32 (modeOf 4 d) (lawful .table))
 
     -- So its list, into the same output, is that of its input: the same answer and the same bytes.
     pub drop-listed : (p : List ℕ) (r q : Listed) (p′ q′ : List ℕ) → Lists form t p r p′ → Lists form (take (8 * count) o′) p q q′ → (q ≡ r) × (q′ ≡ p′)
     drop-listed p r q p′ q′ a b =
         unrouted-settled form t p q r q′ p′
-        (lists-alike form (take (8 * count) o′) t (by-output-accepted form rules t 4 d o guarded (Records count change) o′ ok count change refl bytes drop-few form)
-        (by-answerable form rules t 4 d o guarded (Records count change) o′ ok count change refl .accepted) drop-holes b)
+        (lists-alike form (take (8 * count) o′) t (by-output-accepted form rules t 4 d ranks o guarded (Records count change) o′ ok count change refl bytes drop-few form)
+        (by-answerable form rules t 4 d ranks o guarded (Records count change) o′ ok count change refl .accepted) drop-holes b)
         a
 
   -- Mode 5.
-  module _ (guarded : Guarded form rules t 5 d (length o)) (ok : RewritesBy rules t 5 d o (Records count change) o′) where
+  module _ (guarded : Guarded form rules t 5 d ranks (length o)) (ok : RewritesBy rules t 5 d ranks o (Records count change) o′) where
     -- The result has no holes.
     pub fill-holes : holesOf (take (8 * count) o′) ≡ []
     fill-holes =
         holes-none 32 32 0 (routes (take (8 * count) o′))
         (λ x i. held-answer 32 x (routes (take (8 * count) o′))
-        ∙ ap routed (by-keeps form rules t 5 d o guarded (Records count change) o′ ok count change refl bytes x (omega arith))
+        ∙ ap routed (by-keeps form rules t 5 d ranks o guarded (Records count change) o′ ok count change refl bytes x (omega arith))
         ∙ always (answer 32 (routes t) x))
       where
         always : (v : Answer) → routed (orDefault d v) ≡ true
@@ -111,15 +112,15 @@ module _ (form : Form) (rules : List Rule) (t : List ℕ) (bytes : Bytes t) (d :
         (e, unrouted-rest form (take (8 * count) o′) p q q′ l 0 e)
 
 -- ---- The same of the engine over nodes.
-module _ (form : Form) (t : List ℕ) (bytes : Bytes t) (d : ℕ) (o : List ℕ) (words count : ℕ) (change : ℤ) (o′ w′ : List ℕ) where
+module _ (form : Form) (t : List ℕ) (bytes : Bytes t) (d : ℕ) (ranks o : List ℕ) (words count : ℕ) (change : ℤ) (o′ w′ : List ℕ) where
   -- Mode 4: the list of the result, into the same output, is byte for byte that of the input.
-  pub list-after-drop : Rewrites form t 4 d o words (Records count change) o′ w′
+  pub list-after-drop : Rewrites form t 4 d ranks o words (Records count change) o′ w′
       → (p : List ℕ) (r q : Listed) (p′ q′ : List ℕ) → Lists form t p r p′ → Lists form (take (8 * count) o′) p q q′ → (q ≡ r) × (q′ ≡ p′)
   list-after-drop ok =
-      drop-listed form (rewriteRules form t 4 d (length o) words) t bytes d o count change o′ (rewrite-guarded form t 4 d (length o) words) (ok .inner)
+      drop-listed form (rewriteRules form t 4 d ranks (length o) words) t bytes d ranks o count change o′ (rewrite-guarded form t 4 d ranks (length o) words) (ok .inner)
 
   -- Mode 5: the list of the result, where that table is accepted, is empty.
-  pub list-after-fill : Rewrites form t 5 d o words (Records count change) o′ w′ → Accepted form false (take (8 * count) o′)
+  pub list-after-fill : Rewrites form t 5 d ranks o words (Records count change) o′ w′ → Accepted form false (take (8 * count) o′)
       → (p : List ℕ) (q : Listed) (q′ : List ℕ) → Lists form (take (8 * count) o′) p q q′ → (q ≡ Listing 0) × (q′ ≡ p)
   list-after-fill ok =
-      fill-listed form (rewriteRules form t 5 d (length o) words) t bytes d o count change o′ (rewrite-guarded form t 5 d (length o) words) (ok .inner)
+      fill-listed form (rewriteRules form t 5 d ranks (length o) words) t bytes d ranks o count change o′ (rewrite-guarded form t 5 d ranks (length o) words) (ok .inner)

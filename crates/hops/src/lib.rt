@@ -94,18 +94,3 @@ pub fn assign(set: u64, above: u8, ranks: &[u16]) -> u8
         lowest(set, ranks)
     }
 }
-
-// The same without ranks, where the smallest hop is chosen.
-pub fn assign_smallest(word: u64, above: u8) -> u8
-    ensures { λ r. ⌜ ((S : Cand) → ShowsSet word S → hopOf r ≡ Rattle.theory.specs.Results.assigned Rattle.theory.specs.Results.smallest S (hopOf above)) ⌝ }
-    ensures { λ r. ⌜ (above ≤ noHop → r ≤ noHop) ⌝ }
-{
-    if word == 0 {
-        return NO_HOP;
-    }
-    if has(word, above) {
-        above
-    } else {
-        smallest(word)
-    }
-}

@@ -1,4 +1,4 @@
--- The two engines agree: from their statements alone, for every table, mode, default, output and work room. Assumes nothing.
+-- The two engines agree: from their statements alone, for every table, mode, default, ranks, output and work room. Assumes nothing.
 use Prim.Native.Nat.{ℕ, zero, suc, _*_}
 use mathlib.Core.Path.{_≡_, refl, sym, ap, _∙_}
 use mathlib.Core.Bool.{Bool, true, false, not, _||_, _&&_}
@@ -8,6 +8,7 @@ use native.Mathlib.Omega.{arith}
 use lib.Dec.{eqb, leb}
 use lib.ListN.{length}
 use borrow.Author.Tests.{ne-eqb, le-leb, lt-leb}
+use Rattle.theory.specs.Ranks.{isRanking}
 use Rattle.theory.specs.Routes.{Route}
 use Rattle.refusals.specs.Rules.{Rule, rule, Reply, refuses, judge}
 use Rattle.records.specs.Wire.{records, routes}
@@ -65,32 +66,35 @@ same-modes (suc (suc (suc (suc (suc (suc n)))))) two three =
     )
 
 -- ---- A table t in a mode that is not 2 or 3, rewritten by each engine: by the first with a room of so many words, to r and o′; by the second to q and p′.
-module _ (form : Form) (t : List ℕ) (mode default : ℕ) (o : List ℕ) (words : ℕ) (r : Rewritten) (o′ w′ : List ℕ) (first : Rewrites form t mode default o words r o′ w′)
-    (q : Rewritten) (p′ : List ℕ) (second : RewritesBy (plainRules form t mode default (length o)) t mode default o q p′)
+module _ (form : Form) (t : List ℕ) (mode default : ℕ) (ranks o : List ℕ) (words : ℕ) (r : Rewritten) (o′ w′ : List ℕ) (first : Rewrites form t mode default ranks o words r o′ w′)
+    (q : Rewritten) (p′ : List ℕ) (second : RewritesBy (plainRules form t mode default ranks (length o)) t mode default ranks o q p′)
     (two : mode ≡ 2 → ⊥) (three : mode ≡ 3 → ⊥) where
   abbrev reply : Reply (List Route)
-  reply = rewriteReply form t mode default (length o) words
+  reply = rewriteReply form t mode default ranks (length o) words
 
   abbrev plain : Reply (List Route)
-  plain = replyBy (plainRules form t mode default (length o)) t mode default
+  plain = replyBy (plainRules form t mode default ranks (length o)) t mode default ranks
 
-  replies : (reply ≡ plain) ⊎ ((reply ≡ refuses 10 0) × (plain ≡ lastReply t mode default (length o)))
+  replies : (reply ≡ plain) ⊎ ((reply ≡ refuses 10 0) × (plain ≡ lastReply t mode default ranks (length o)))
   unfolding replyBy rewriteRules plainRules
   replies =
       rw (sym (same-modes mode two three))
       (one-more
-      (rule 1 0 (leb 1 mode && leb mode 5) ∷ rule 2 0 (not (eqb mode 5) || leb default 63) ∷ tableRules form (takesSet mode) t)
+      (rule 1 0 (leb 1 mode && leb mode 5)
+      ∷ rule 2 0 (not (eqb mode 5) || leb default 63)
+      ∷ rule 15 0 (not (leb 4 mode) || isRanking 64 ranks)
+      ∷ tableRules form (takesSet mode) t)
       (rule 10 0 (leb (160 * nodes 32 (routes t)) words))
-      (rule 11 0 (leb (8 * length (resultOf t mode default)) (length o)) ∷ [])
-      (resultOf t mode default))
+      (rule 11 0 (leb (8 * length (resultOf t mode default ranks)) (length o)) ∷ [])
+      (resultOf t mode default ranks))
 
   -- They give the same answer and the same output; or the first refuses by number 10, and the second ends as the output's room decides: with the result, or
   -- with number 11 where that does not fit.
-  pub engines-compared : ((q ≡ r) × (p′ ≡ o′)) ⊎ ((r ≡ Refused 10 0) × Finished t mode default o q p′)
+  pub engines-compared : ((q ≡ r) × (p′ ≡ o′)) ⊎ ((r ≡ Refused 10 0) × Finished t mode default ranks o q p′)
   engines-compared = go replies
     where
-      go : (reply ≡ plain) ⊎ ((reply ≡ refuses 10 0) × (plain ≡ lastReply t mode default (length o)))
-          → ((q ≡ r) × (p′ ≡ o′)) ⊎ ((r ≡ Refused 10 0) × Finished t mode default o q p′)
+      go : (reply ≡ plain) ⊎ ((reply ≡ refuses 10 0) × (plain ≡ lastReply t mode default ranks (length o)))
+          → ((q ≡ r) × (p′ ≡ o′)) ⊎ ((r ≡ Refused 10 0) × Finished t mode default ranks o q p′)
       go (inl e) =
           inl (
             rewritten-same q r (second .answer ∙ ap (writtenOf (records t)) (sym e) ∙ sym (first .inner .answer)),
@@ -109,14 +113,14 @@ module _ (form : Form) (t : List ℕ) (mode default : ℕ) (o : List ℕ) (words
   pub engines-agree : ((index : ℕ) → r ≡ Refused 10 index → ⊥) → (q ≡ r) × (p′ ≡ o′)
   engines-agree other = go engines-compared
     where
-      go : ((q ≡ r) × (p′ ≡ o′)) ⊎ ((r ≡ Refused 10 0) × Finished t mode default o q p′) → (q ≡ r) × (p′ ≡ o′)
+      go : ((q ≡ r) × (p′ ≡ o′)) ⊎ ((r ≡ Refused 10 0) × Finished t mode default ranks o q p′) → (q ≡ r) × (p′ ≡ o′)
       go (inl same) = same
       go (inr (ten, more)) = absurd (other 0 ten)
 
   -- And wherever it does the second ends as the output's room decides.
-  pub engines-past-ten : (index : ℕ) → r ≡ Refused 10 index → Finished t mode default o q p′
+  pub engines-past-ten : (index : ℕ) → r ≡ Refused 10 index → Finished t mode default ranks o q p′
   engines-past-ten index ten = go engines-compared
     where
-      go : ((q ≡ r) × (p′ ≡ o′)) ⊎ ((r ≡ Refused 10 0) × Finished t mode default o q p′) → Finished t mode default o q p′
-      go (inl same) = absurd (plain-never-ten form t mode default o q p′ second index (same .0 ∙ ten))
+      go : ((q ≡ r) × (p′ ≡ o′)) ⊎ ((r ≡ Refused 10 0) × Finished t mode default ranks o q p′) → Finished t mode default ranks o q p′
+      go (inl same) = absurd (plain-never-ten form t mode default ranks o q p′ second index (same .0 ∙ ten))
       go (inr (e, more)) = more

@@ -25,10 +25,10 @@ use Rattle.calls.specs.declared.Rewritten.the-variants.{Records, Refused}
 use Rattle.calls.specs.Conditions.{Answerable, Guarded}
 use Rattle.calls.specs.Rewriting.{resultOf, takesSet, replyBy, writtenOf, outputOf, countOf, changeOf, RewritesBy}
 use Rattle.calls.proofs.Engines.{by-gives, by-refused, by-accepted, by-untouched}
-use Rattle.calls.proofs.Refusals.{holds}
+use Rattle.calls.proofs.Refusals.{holds, lawful}
 use Rattle.calls.proofs.Settled.{rewritten-of, rewrite-by-settled}
-use Rattle.calls.proofs.Tested.{ranked-with, broken-with, breaks-mode, breaks-default, breaks-table, breaks-last}
-use Rattle.plain.specs.Conditions.{IsMode, PlainCondition, no-mode, large-default, of-table, short-output}
+use Rattle.calls.proofs.Tested.{ranked-with, broken-with, breaks-mode, breaks-default, breaks-ranks, breaks-table, breaks-last}
+use Rattle.plain.specs.Conditions.{IsMode, PlainCondition, no-mode, large-default, bad-ranks, of-table, short-output}
 use Rattle.plain.specs.Rewriting.{hasMode, plainRules}
 use Rattle.plain.proofs.Whole.{mode-had, mode-not-had, mode-known}
 
@@ -42,35 +42,36 @@ mode-failed mode other = go (hasMode mode) refl
     go true e = absurd (other (mode-had mode e))
     go false e = refl
 
-module _ (form : Form) (t : List ℕ) (mode default room : ℕ) where
+module _ (form : Form) (t : List ℕ) (mode default : ℕ) (ranks : List ℕ) (room : ℕ) where
   abbrev Holds : ℕ → ℕ → Type 0
-  Holds = PlainCondition form t mode default room
+  Holds = PlainCondition form t mode default ranks room
 
   abbrev last : List Rule
-  last = rule 11 0 (leb (8 * length (resultOf t mode default)) room) ∷ []
+  last = rule 11 0 (leb (8 * length (resultOf t mode default ranks)) room) ∷ []
 
-  pub plain-ranked : Ranked 1 11 (plainRules form t mode default room)
+  pub plain-ranked : Ranked 1 11 (plainRules form t mode default ranks room)
   unfolding plainRules rank
-  plain-ranked = ranked-with (hasMode mode) form t mode default last 11 (omega arith) (singles 7 11 last refl .1)
+  plain-ranked = ranked-with (hasMode mode) form t mode default ranks last 11 (omega arith) (singles 7 11 last refl .1)
 
-  plain-broken : (n i : ℕ) → Broken (plainRules form t mode default room) n i → Holds n i
+  plain-broken : (n i : ℕ) → Broken (plainRules form t mode default ranks room) n i → Holds n i
   unfolding plainRules
   plain-broken =
-      broken-with (hasMode mode) form t mode default last Holds (λ e. no-mode (mode-not-had mode e)) large-default (λ n i c. of-table c)
-      (sound-each Holds last (λ e. short-output (leb-false (8 * length (resultOf t mode default)) room e), tt))
+      broken-with (hasMode mode) form t mode default ranks last Holds (λ e. no-mode (mode-not-had mode e)) large-default bad-ranks (λ n i c. of-table c)
+      (sound-each Holds last (λ e. short-output (leb-false (8 * length (resultOf t mode default ranks)) room e), tt))
 
-  plain-breaks : (n i : ℕ) → Holds n i → Broken (plainRules form t mode default room) n i
+  plain-breaks : (n i : ℕ) → Holds n i → Broken (plainRules form t mode default ranks room) n i
   unfolding plainRules
-  plain-breaks n i (no-mode f) = breaks-mode (hasMode mode) form t mode default last (mode-failed mode f)
-  plain-breaks n i (large-default e h) = breaks-default (hasMode mode) form t mode default last e h
-  plain-breaks n i (of-table c) = breaks-table (hasMode mode) form t mode default last n i c
+  plain-breaks n i (no-mode f) = breaks-mode (hasMode mode) form t mode default ranks last (mode-failed mode f)
+  plain-breaks n i (large-default e h) = breaks-default (hasMode mode) form t mode default ranks last e h
+  plain-breaks n i (bad-ranks h f) = breaks-ranks (hasMode mode) form t mode default ranks last h f
+  plain-breaks n i (of-table c) = breaks-table (hasMode mode) form t mode default ranks last n i c
   plain-breaks n i (short-output h) =
-      breaks-last (hasMode mode) form t mode default last n i (inl (lt-leb (8 * length (resultOf t mode default)) room h, refl, refl))
+      breaks-last (hasMode mode) form t mode default ranks last n i (inl (lt-leb (8 * length (resultOf t mode default ranks)) room h, refl, refl))
 
-  pub plain-tests : (n i : ℕ) → Broken (plainRules form t mode default room) n i ↔ PlainCondition form t mode default room n i
+  pub plain-tests : (n i : ℕ) → Broken (plainRules form t mode default ranks room) n i ↔ PlainCondition form t mode default ranks room n i
   plain-tests n i = (plain-broken n i, plain-breaks n i)
 
-  -- ---- None holds exactly for a mode that it has, a hop for a default, an accepted table and an output that is long enough.
+  -- ---- None holds exactly for a mode that it has, a hop for a default, lawful ranks, an accepted table and an output that is long enough.
   is-mode : ((IsMode mode → ⊥) → ⊥) → IsMode mode
   is-mode f = go (hasMode mode) refl
     where
@@ -78,75 +79,79 @@ module _ (form : Form) (t : List ℕ) (mode default room : ℕ) where
       go true e = mode-had mode e
       go false e = absurd (f (mode-not-had mode e))
 
-  none→answerable : None (PlainCondition form t mode default room) → IsMode mode × Answerable form t mode default room
+  none→answerable : None (PlainCondition form t mode default ranks room) → IsMode mode × Answerable form t mode default ranks room
   none→answerable none =
       let had : IsMode mode = is-mode (λ f. none 1 0 (no-mode f)) in (
         had,
         record {
           known-mode = mode-known had;
           small-default = λ e. holds (decLe default 63) (λ f. none 2 0 (large-default e (omega arith)));
+          lawful-ranks = λ h. lawful (λ f. none 15 0 (bad-ranks h f));
           accepted = accepted-exactly form (takesSet mode) t .1 (λ n i c. none n i (of-table c));
-          enough-output = holds (decLe (8 * length (resultOf t mode default)) room) (λ f. none 11 0 (short-output (omega arith)));
+          enough-output = holds (decLe (8 * length (resultOf t mode default ranks)) room) (λ f. none 11 0 (short-output (omega arith)));
         },
       )
 
-  answerable→none : IsMode mode × Answerable form t mode default room → None (PlainCondition form t mode default room)
+  answerable→none : IsMode mode × Answerable form t mode default ranks room → None (PlainCondition form t mode default ranks room)
   answerable→none (had, a) n i (no-mode f) = f had
   answerable→none (had, a) n i (large-default e h) = let d = a .small-default e in omega arith
+  answerable→none (had, a) n i (bad-ranks h f) = f (a .lawful-ranks h)
   answerable→none (had, a) n i (of-table c) = accepted-exactly form (takesSet mode) t .0 (a .accepted) n i c
   answerable→none (had, a) n i (short-output h) = omega (arith, a .enough-output)
 
-  pub plain-answerable : None (PlainCondition form t mode default room) ↔ (IsMode mode × Answerable form t mode default room)
+  pub plain-answerable : None (PlainCondition form t mode default ranks room) ↔ (IsMode mode × Answerable form t mode default ranks room)
   plain-answerable = (none→answerable, answerable→none)
 
   -- So its rules are guarded: what calls proves of any engine holds of this one.
-  pub plain-guarded : Guarded form (plainRules form t mode default room) t mode default room
-  plain-guarded rs e = none→answerable (by-gives (plainRules form t mode default room) plain-tests t mode default .0 e .0) .1
+  pub plain-guarded : Guarded form (plainRules form t mode default ranks room) t mode default ranks room
+  plain-guarded rs e = none→answerable (by-gives (plainRules form t mode default ranks room) plain-tests t mode default ranks .0 e .0) .1
 
 -- ---- No second answer and no second output satisfies the statement, and for every input some do.
-module _ (form : Form) (t : List ℕ) (mode default : ℕ) (o : List ℕ) where
+module _ (form : Form) (t : List ℕ) (mode default : ℕ) (ranks o : List ℕ) where
   abbrev rules : List Rule
-  rules = plainRules form t mode default (length o)
+  rules = plainRules form t mode default ranks (length o)
 
-  pub plain-settled : (r r₁ : Rewritten) (o′ o₁ : List ℕ) → RewritesBy (plainRules form t mode default (length o)) t mode default o r o′
-      → RewritesBy (plainRules form t mode default (length o)) t mode default o r₁ o₁ → (r ≡ r₁) × (o′ ≡ o₁)
-  plain-settled = rewrite-by-settled rules t mode default o
+  pub plain-settled : (r r₁ : Rewritten) (o′ o₁ : List ℕ) → RewritesBy (plainRules form t mode default ranks (length o)) t mode default ranks o r o′
+      → RewritesBy (plainRules form t mode default ranks (length o)) t mode default ranks o r₁ o₁ → (r ≡ r₁) × (o′ ≡ o₁)
+  plain-settled = rewrite-by-settled rules t mode default ranks o
 
-  pub plain-met : (r : Rewritten) × ((o′ : List ℕ) × RewritesBy (plainRules form t mode default (length o)) t mode default o r o′)
+  pub plain-met : (r : Rewritten) × ((o′ : List ℕ) × RewritesBy (plainRules form t mode default ranks (length o)) t mode default ranks o r o′)
   plain-met =
-      let a = rewritten-of (writtenOf (records t) (replyBy rules t mode default)) in
-      (a .0, (outputOf o (replyBy rules t mode default), record { answer = a .1; output = refl }))
+      let a = rewritten-of (writtenOf (records t) (replyBy rules t mode default ranks)) in
+      (a .0, (outputOf o (replyBy rules t mode default ranks), record { answer = a .1; output = refl }))
 
-  module _ (r : Rewritten) (o′ : List ℕ) (ok : RewritesBy (plainRules form t mode default (length o)) t mode default o r o′) where
+  module _ (r : Rewritten) (o′ : List ℕ) (ok : RewritesBy (plainRules form t mode default ranks (length o)) t mode default ranks o r o′) where
     -- ---- Refusals.
 
     -- It is refused with a number and an index exactly when they are those of the first condition that holds.
-    pub plain-refused : (number index : ℕ) → r ≡ Refused number index ↔ First (PlainCondition form t mode default (length o)) number index
+    pub plain-refused : (number index : ℕ) → r ≡ Refused number index ↔ First (PlainCondition form t mode default ranks (length o)) number index
     plain-refused =
-        by-refused rules (plain-tests form t mode default (length o)) t mode default o r o′ ok (plain-ranked form t mode default (length o) .order)
+        by-refused rules (plain-tests form t mode default ranks (length o)) t mode default ranks o r o′ ok (plain-ranked form t mode default ranks (length o) .order)
 
     -- It is answered with records exactly when no condition holds.
-    pub plain-accepted : ((count : ℕ) × ((change : ℤ) × (r ≡ Records count change))) ↔ None (PlainCondition form t mode default (length o))
-    plain-accepted = by-accepted rules (plain-tests form t mode default (length o)) t mode default o r o′ ok
+    pub plain-accepted : ((count : ℕ) × ((change : ℤ) × (r ≡ Records count change))) ↔ None (PlainCondition form t mode default ranks (length o))
+    plain-accepted = by-accepted rules (plain-tests form t mode default ranks (length o)) t mode default ranks o r o′ ok
 
     -- A refusal leaves the output as it was, and has count 0 and change 0.
     pub plain-untouched : (number index : ℕ) → r ≡ Refused number index → (o′ ≡ o) × (countOf r ≡ 0) × (changeOf r ≡ pos 0)
-    plain-untouched = by-untouched rules t mode default o r o′ ok
+    plain-untouched = by-untouched rules t mode default ranks o r o′ ok
 
-    -- It gives the numbers 1 to 8 and 11 alone.
-    pub plain-numbers : (number index : ℕ) → r ≡ Refused number index → ((1 ≤ number) × (number ≤ 8)) ⊎ (number ≡ 11)
+    -- It gives the numbers 1 to 8, 11 and 15 alone.
+    pub plain-numbers : (number index : ℕ) → r ≡ Refused number index → ((1 ≤ number) × (number ≤ 8)) ⊎ ((number ≡ 11) ⊎ (number ≡ 15))
     plain-numbers number index e = go number index (plain-refused number index .0 e .0)
       where
-        go : (n i : ℕ) → PlainCondition form t mode default (length o) n i → ((1 ≤ n) × (n ≤ 8)) ⊎ (n ≡ 11)
+        go : (n i : ℕ) → PlainCondition form t mode default ranks (length o) n i → ((1 ≤ n) × (n ≤ 8)) ⊎ ((n ≡ 11) ⊎ (n ≡ 15))
         go n i (no-mode f) = inl (omega arith)
         go n i (large-default p q) = inl (omega arith)
         go n i (of-table c) = let k = table-numbers form (takesSet mode) t n i c in inl (omega (arith, k .0), omega (arith, k .1))
-        go n i (short-output h) = inr refl
+        go n i (short-output h) = inr (inl refl)
+        go n i (bad-ranks h f) = inr (inr refl)
 
     -- Never 10.
     pub plain-never-ten : (index : ℕ) → r ≡ Refused 10 index → ⊥
     plain-never-ten index e = go 10 refl (plain-numbers 10 index e)
       where
-        go : (n : ℕ) → n ≡ 10 → ((1 ≤ n) × (n ≤ 8)) ⊎ (n ≡ 11) → ⊥
+        go : (n : ℕ) → n ≡ 10 → ((1 ≤ n) × (n ≤ 8)) ⊎ ((n ≡ 11) ⊎ (n ≡ 15)) → ⊥
         go n ten (inl h) = omega arith
-        go n ten (inr h) = omega arith
+        go n ten (inr (inl h)) = omega arith
+        go n ten (inr (inr h)) = omega arith

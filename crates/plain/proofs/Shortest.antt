@@ -18,25 +18,25 @@ use Rattle.calls.specs.Shortest.{NoneShorter, mostChange}
 use Rattle.calls.proofs.Shortest.{shortest-by, none-shorter-by, only-written-by, change-by}
 use Rattle.plain.proofs.Demand3.{Engine, rulesOf, RewritesWith, both-guarded}
 
-module _ (form : Form) (g : Engine) (t : List ℕ) (o : List ℕ) (o′ : List ℕ) where
+module _ (form : Form) (g : Engine) (t : List ℕ) (ranks o : List ℕ) (o′ : List ℕ) where
   -- The change is never above 0, in mode 5 never above 1, answered or refused.
-  pub both-engines-change : (mode default : ℕ) (r : Rewritten) → RewritesWith form g t mode default o r o′ → Bytes t → changeOf r ≤ℤ mostChange (modeOf mode default)
-  both-engines-change mode default r = change-by form (rulesOf form g t mode default o) t mode default o (both-guarded form g t mode default o) r o′
+  pub both-engines-change : (mode default : ℕ) (r : Rewritten) → RewritesWith form g t mode default ranks o r o′ → Bytes t → changeOf r ≤ℤ mostChange (modeOf mode default)
+  both-engines-change mode default r = change-by form (rulesOf form g t mode default ranks o) t mode default ranks o (both-guarded form g t mode default ranks o) r o′
 
   module _ (count : ℕ) (change : ℤ) where
     -- No valid routes that say of each address what the result must, in any order and with any hops, are fewer than the records written,
-    pub both-engines-shortest : (mode default : ℕ) → RewritesWith form g t mode default o (Records count change) o′ → Shortens (modeOf mode default)
+    pub both-engines-shortest : (mode default : ℕ) → RewritesWith form g t mode default ranks o (Records count change) o′ → Shortens (modeOf mode default)
         → NoFewer 32 (modeOf mode default) (routes t) count
     both-engines-shortest mode default =
-        shortest-by form (rulesOf form g t mode default o) t mode default o (both-guarded form g t mode default o) count change o′
+        shortest-by form (rulesOf form g t mode default ranks o) t mode default ranks o (both-guarded form g t mode default ranks o) count change o′
 
     -- so no accepted table that does has fewer records.
-    pub both-engines-none-shorter : (mode default : ℕ) → RewritesWith form g t mode default o (Records count change) o′ → Shortens (modeOf mode default)
+    pub both-engines-none-shorter : (mode default : ℕ) → RewritesWith form g t mode default ranks o (Records count change) o′ → Shortens (modeOf mode default)
         → NoneShorter mode default t count
     both-engines-none-shorter mode default =
-        none-shorter-by form (rulesOf form g t mode default o) t mode default o (both-guarded form g t mode default o) count change o′
+        none-shorter-by form (rulesOf form g t mode default ranks o) t mode default ranks o (both-guarded form g t mode default ranks o) count change o′
 
     -- Mode 1: a set of the same addresses that has as many records is the one written, but for host bits.
-    pub both-engines-alone : (d : ℕ) → RewritesWith form g t 1 d o (Records count change) o′ → (other : Form) (u : List ℕ) → Bytes u → Accepted other true u
+    pub both-engines-alone : (d : ℕ) → RewritesWith form g t 1 d ranks o (Records count change) o′ → (other : Form) (u : List ℕ) → Bytes u → Accepted other true u
         → ((x : ℕ) → x < 2 ^ 32 → held 32 (routes u) x ≡ held 32 (routes t) x) → records u ≤ count → bytesOf (routes u) ≡ take (8 * count) o′
-    both-engines-alone d = only-written-by form (rulesOf form g t 1 d o) t d o (both-guarded form g t 1 d o) count change o′
+    both-engines-alone d = only-written-by form (rulesOf form g t 1 d ranks o) t d ranks o (both-guarded form g t 1 d ranks o) count change o′

@@ -10,10 +10,11 @@ use lib.Dec.{eqb}
 use lib.IntN.{ℤ, pos, _-ℤ_}
 use lib.ListN.{length}
 use borrow.Author.Tests.{eq-eqb, eqb-true, lt-ltb}
-use Rattle.theory.specs.Results.{smallest, result, aggregateMapDrop, aggregateMapFill}
+use Rattle.theory.specs.Results.{result, aggregateMapDrop, aggregateMapFill}
+use Rattle.theory.specs.Ranks.{lowest}
 use Rattle.theory.specs.Routes.{none, answer, filled, lookup, All, Table}
 use Rattle.theory.proofs.Agree.{ortc-agree}
-use Rattle.theory.proofs.Chosen.{smallest-chooses}
+use Rattle.theory.proofs.Ranks.{lowest-chooses}
 use Rattle.theory.proofs.Computed.{under-default}
 use Rattle.theory.proofs.Lists.{all-member}
 use Rattle.theory.proofs.Maximal.{set-is-drop-bare}
@@ -95,36 +96,36 @@ pub all-run : (t : List ℕ) (n : ℕ) → Table 32 (routes t) → n ≡ records
 all-run t n table e = subst (λ (k : ℕ). RunAt 32 t 0 k 32 0) (sym e) (whole-run 32 table)
 
 -- ---- The result.
-module _ (t : List ℕ) (mode fill n : ℕ) (bare : Bare t mode) (fills : Fills mode fill) (e : n ≡ records t) where
+module _ (t : List ℕ) (mode fill : ℕ) (ranks : List ℕ) (n : ℕ) (bare : Bare t mode) (fills : Fills mode fill) (e : n ≡ records t) where
   all-records : run t 0 n ≡ routes t
   all-records = ap (run t 0) e ∙ run-whole t
 
   -- Holes kept.
-  dropped : fill ≡ noHop → entriesAt 32 t 0 n fill 32 0 noHop ≡ result smallest 32 aggregateMapDrop (routes t)
+  dropped : fill ≡ noHop → entriesAt ranks 32 t 0 n fill 32 0 noHop ≡ result (lowest ranks) 32 aggregateMapDrop (routes t)
   unfolding entriesAt result
-  dropped f = ortc-agree (answerAt 32 t 0 n fill) (answer 32 (routes t)) smallest 32 32 0 none (λ x i. rw (f, all-records))
+  dropped f = ortc-agree (answerAt 32 t 0 n fill) (answer 32 (routes t)) (lowest ranks) 32 32 0 none (λ x i. rw (f, all-records))
 
   -- Holes filled.
-  filled-up : fill < noHop → entriesAt 32 t 0 n fill 32 0 noHop ≡ result smallest 32 (aggregateMapFill fill) (routes t)
+  filled-up : fill < noHop → entriesAt ranks 32 t 0 n fill 32 0 noHop ≡ result (lowest ranks) 32 (aggregateMapFill fill) (routes t)
   unfolding entriesAt result
   filled-up small =
-      ortc-agree (answerAt 32 t 0 n fill) (filled fill (answer 32 (routes t))) smallest 32 32 0 none (λ x i.
+      ortc-agree (answerAt 32 t 0 n fill) (filled fill (answer 32 (routes t))) (lowest ranks) 32 32 0 none (λ x i.
       rw (lt-ltb fill noHop small, all-records) (under-default fill (lookup 32 (routes t) x)))
 
-  pub whole-result : IsMode mode → entriesAt 32 t 0 n fill 32 0 noHop ≡ resultOf t mode fill
+  pub whole-result : IsMode mode → entriesAt ranks 32 t 0 n fill 32 0 noHop ≡ resultOf t mode fill ranks
   unfolding resultOf
   whole-result (inl one) =
-      dropped (fills .none (λ five. omega arith)) ∙ rw one (sym (set-is-drop-bare 32 smallest smallest-chooses (routes t) (bare one)))
+      dropped (fills .none (λ five. omega arith)) ∙ rw one (sym (set-is-drop-bare 32 (lowest ranks) (lowest-chooses ranks) (routes t) (bare one)))
   whole-result (inr (inl four)) = dropped (fills .none (λ five. omega arith)) ∙ rw four
   whole-result (inr (inr five)) = filled-up (fills .hop five) ∙ rw five
 
-  module _ (had : IsMode mode) {k : ℕ} {o o′ : List ℕ} (put : Put (entriesAt 32 t 0 n fill 32 0 noHop) k o o′) where
+  module _ (had : IsMode mode) {k : ℕ} {o o′ : List ℕ} (put : Put (entriesAt ranks 32 t 0 n fill 32 0 noHop) k o o′) where
     -- What is put of the entries are the result's records,
-    pub whole-count : k ≡ length (resultOf t mode fill)
+    pub whole-count : k ≡ length (resultOf t mode fill ranks)
     whole-count = put .counted ∙ ap length (whole-result had)
 
     -- and, where they fit, the end of a rewrite.
-    pub whole-finished : {change : ℤ} → k ≤ length o / 8 → change ≡ pos k -ℤ pos (records t) → Finished t mode fill o (Records k change) o′
+    pub whole-finished : {change : ℤ} → k ≤ length o / 8 → change ≡ pos k -ℤ pos (records t) → Finished t mode fill ranks o (Records k change) o′
     whole-finished fits differ =
-        finished-written t mode fill o whole-count fits differ
-        (put .written (omega arith) ∙ rw (whole-result had, whole-count) (laid-output (resultOf t mode fill) o))
+        finished-written t mode fill ranks o whole-count fits differ
+        (put .written (omega arith) ∙ rw (whole-result had, whole-count) (laid-output (resultOf t mode fill ranks) o))

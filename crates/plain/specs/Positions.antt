@@ -1,9 +1,10 @@
--- What the walks are about, over the width w: the answers of a position's addresses by its run and what covers it, its candidates and its entries; and how a
--- position is taken apart.
+-- What the walks are about, over the width w: the answers of a position's addresses by its run and what covers it, its candidates and, by ranks that are lent,
+-- its entries; and how a position is taken apart.
 use Prim.Native.Nat.{ℕ, _+_, _-_, _^_, _<_}
 use mathlib.Core.Path.{_≡_}
 use mathlib.Core.List.{List}
-use Rattle.theory.specs.Results.{In, Cand, sets, here, ortc, smallest}
+use Rattle.theory.specs.Results.{In, Cand, sets, here, ortc}
+use Rattle.theory.specs.Ranks.{lowest}
 use Rattle.theory.specs.Routes.{Route, Answer, lookup, under}
 use Rattle.records.specs.Wire.{records, routeAt}
 use Rattle.positions.specs.Runs.{noHop, hopOf}
@@ -24,12 +25,12 @@ unfoldable pub setAt : ℕ → List ℕ → ℕ → ℕ → ℕ → ℕ → ℕ 
 setAt w t lo hi cover n a = sets (answerAt w t lo hi cover) n a
 
 -- The entry of a position with these candidates, if it gets one, where the hop `above` is assigned above it.
-abbrev pub entryAt : ℕ → Cand → ℕ → ℕ → ℕ → List Route
-entryAt w S n a above = here smallest w S n a (hopOf above)
+abbrev pub entryAt : List ℕ → ℕ → Cand → ℕ → ℕ → ℕ → List Route
+entryAt ranks w S n a above = here (lowest ranks) w S n a (hopOf above)
 
 -- The entries of the position and of the positions inside it.
-unfoldable pub entriesAt : ℕ → List ℕ → ℕ → ℕ → ℕ → ℕ → ℕ → ℕ → List Route
-entriesAt w t lo hi cover n a above = ortc smallest w (answerAt w t lo hi cover) n a (hopOf above)
+unfoldable pub entriesAt : List ℕ → ℕ → List ℕ → ℕ → ℕ → ℕ → ℕ → ℕ → ℕ → List Route
+entriesAt ranks w t lo hi cover n a above = ortc (lowest ranks) w (answerAt w t lo hi cover) n a (hopOf above)
 
 -- Every address of the position (n, a), whose run is lo..hi, is answered by one hop.
 pub record OneAnswer (w : ℕ) (t : List ℕ) (lo hi cover n a hop : ℕ) : Type 0 where

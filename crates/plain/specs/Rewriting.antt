@@ -5,6 +5,7 @@ use mathlib.Core.Bool.{Bool, not, _||_}
 use mathlib.Core.List.{List, [], _∷_, _++_}
 use lib.Dec.{eqb, leb}
 use lib.ListN.{length}
+use Rattle.theory.specs.Ranks.{isRanking}
 use Rattle.theory.specs.Routes.{All}
 use Rattle.refusals.specs.Rules.{Rule, rule}
 use Rattle.records.specs.Wire.{routes}
@@ -16,13 +17,14 @@ use Rattle.calls.specs.Rewriting.{resultOf, takesSet}
 abbrev pub hasMode : ℕ → Bool
 hasMode mode = eqb mode 1 || (eqb mode 4 || eqb mode 5)
 
--- The rules 1 to 8 and 11, for an output of `room` bytes: there is no work room, so no rule 10.
-unfoldable pub plainRules : Form → List ℕ → ℕ → ℕ → ℕ → List Rule
-plainRules form t mode default room =
+-- The rules 1, 2, 15, 3 to 8 and 11, for an output of `room` bytes: there is no work room, so no rule 10. Mode 1 does not read the ranks.
+unfoldable pub plainRules : Form → List ℕ → ℕ → ℕ → List ℕ → ℕ → List Rule
+plainRules form t mode default ranks room =
     rule 1 0 (hasMode mode)
     ∷ rule 2 0 (not (eqb mode 5) || leb default 63)
+    ∷ rule 15 0 (not (leb 4 mode) || isRanking 64 ranks)
     ∷ tableRules form (takesSet mode) t
-    ++ (rule 11 0 (leb (8 * length (resultOf t mode default)) room) ∷ [])
+    ++ (rule 11 0 (leb (8 * length (resultOf t mode default ranks)) room) ∷ [])
 
 -- In mode 1 the members' hops are 0.
 abbrev pub Bare : List ℕ → ℕ → Type 0

@@ -8,12 +8,13 @@ use calls::Rewritten;
 use calls::engine::fill_of;
 use calls::engine::most_records;
 use calls::engine::no_hop;
+use calls::engine::no_ranks;
 use hops::NO_HOP;
 use hops::alone;
-use hops::assign_smallest;
+use hops::assign;
 use hops::combine;
 use hops::has;
-use hops::smallest;
+use hops::ranking::lowest;
 use records::Form;
 use records::hop_at;
 use records::past;
@@ -103,10 +104,10 @@ fn set_of(table: &[u8], lo: usize, hi: usize, addr: u32, len: u8, cover: u8) -> 
 }
 
 // Writes the entry of a position with this set, if it gets one and there is room, and says how many it gets: a hole gets none, nor does a position whose
-// set has the hop assigned above; any other gets one with the smallest hop of its set.
-fn write_entry(set: u64, above: u8, addr: u32, len: u8, out: &mut [u8]) -> usize
+// set has the hop assigned above; any other gets one with the hop of lowest rank of its set.
+fn write_entry(set: u64, above: u8, ranks: &[u16], addr: u32, len: u8, out: &mut [u8]) -> usize
     requires { ⌜ len ≤ 32 ⌝ }
-    ensures { λ r. ⌜ ((S : Cand) → ShowsSet set S → Put (entryAt 32 S (32 - len) addr above) r (now (out .entry)) (now (out .exit))) ⌝ }
+    ensures { λ r. ⌜ ((S : Cand) → ShowsSet set S → Put (entryAt (now (ranks .entry)) 32 S (32 - len) addr above) r (now (out .entry)) (now (out .exit))) ⌝ }
 {
     if set == 0 {
         return 0;
@@ -114,7 +115,7 @@ fn write_entry(set: u64, above: u8, addr: u32, len: u8, out: &mut [u8]) -> usize
     if has(set, above) {
         return 0;
     }
-    put_record(out, addr, len, smallest(set));
+    put_record(out, addr, len, lowest(set, ranks));
     1
 }
 
@@ -128,14 +129,15 @@ fn write(
     len: u8,
     cover: u8,
     above: u8,
+    ranks: &[u16],
     out: &mut [u8],
 ) -> usize
     requires { ⌜ (len ≤ 32) × RunAt 32 (now table) lo hi (32 - len) addr ⌝ }
     requires { ⌜ Hopped (now table) ⌝ }
-    ensures { λ r. ⌜ Put (entriesAt 32 (now (table .entry)) lo hi cover (32 - len) addr above) r (now (out .entry)) (now (out .exit)) ⌝ }
+    ensures { λ r. ⌜ Put (entriesAt (now (ranks .entry)) 32 (now (table .entry)) lo hi cover (32 - len) addr above) r (now (out .entry)) (now (out .exit)) ⌝ }
 {
     let set = set_of(table, lo, hi, addr, len, cover);
-    let own = write_entry(set, above, addr, len, out);
+    let own = write_entry(set, above, ranks, addr, len, out);
     match part_of(table, lo, hi, addr, len, cover) {
         Part::Uniform { hop: _ } => own,
         Part::Halves {
@@ -144,12 +146,33 @@ fn write(
             mid,
             right,
         } => {
-            let taken = assign_smallest(set, above);
+            let taken = assign(set, above, ranks);
             let at = past(own, out.len());
-            let left = write(table, first, mid, addr, len + 1, hop, taken, &mut out[at..]);
+            let left = write(
+                table,
+                first,
+                mid,
+                addr,
+                len + 1,
+                hop,
+                taken,
+                ranks,
+                &mut out[at..],
+            );
             let done = own + left;
             let at = past(done, out.len());
-            done + write(table, mid, hi, right, len + 1, hop, taken, &mut out[at..])
+            done
+                + write(
+                    table,
+                    mid,
+                    hi,
+                    right,
+                    len + 1,
+                    hop,
+                    taken,
+                    ranks,
+                    &mut out[at..],
+                )
         }
     }
 }
@@ -169,16 +192,23 @@ fn no_mode(mode: u32) -> bool
 
 // The rewrite of a table that keeps the rules and has so many records. Where the output might be too short, a first walk into nothing counts the result's
 // records.
-fn rewrite_checked(table: &[u8], mode: u32, fill: u8, before: usize, output: &mut [u8]) -> Rewritten
+fn rewrite_checked(
+    table: &[u8],
+    mode: u32,
+    fill: u8,
+    ranks: &[u16],
+    before: usize,
+    output: &mut [u8],
+) -> Rewritten
     requires { ⌜ hasMode mode ≡ true ⌝ }
     requires { ⌜ Table 32 (routes (now table)) × (Hopped (now table) × Bare (now table) mode) ⌝ }
     requires { ⌜ Fills mode fill ⌝ }
     requires { ⌜ before ≡ records (now table) ⌝ }
-    ensures { λ r. ⌜ Finished (now (table .entry)) mode fill (now (output .entry)) r (now (output .exit)) ⌝ }
+    ensures { λ r. ⌜ Finished (now (table .entry)) mode fill (now (ranks .entry)) (now (output .entry)) r (now (output .exit)) ⌝ }
 {
     if output.len() / 8 < most_records(mode, before) {
         let mut nothing = [0u8; 0];
-        let count = write(table, 0, before, 0, 0, fill, NO_HOP, &mut nothing);
+        let count = write(table, 0, before, 0, 0, fill, NO_HOP, ranks, &mut nothing);
         if output.len() / 8 < count {
             return Rewritten::Refused {
                 number: 11,
@@ -186,7 +216,7 @@ fn rewrite_checked(table: &[u8], mode: u32, fill: u8, before: usize, output: &mu
             };
         }
     }
-    let written = write(table, 0, before, 0, 0, fill, NO_HOP, output);
+    let written = write(table, 0, before, 0, 0, fill, NO_HOP, ranks, output);
     Rewritten::Records {
         count: written,
         change: (written as i64) - (before as i64),
@@ -194,9 +224,17 @@ fn rewrite_checked(table: &[u8], mode: u32, fill: u8, before: usize, output: &mu
 }
 
 // Rewrites a table in mode 1, 4 or 5 into the output: the number of records written from its start, and how many more they are than the table's; or a
-// refusal. Mode 5 gives the default to what has no route. Mode 1 is mode 4 on the members of a set, whose hops are 0.
-pub fn rewrite(table: &[u8], form: Form, mode: u32, default: u32, output: &mut [u8]) -> Rewritten
-    ensures { λ r. ⌜ RewritesBy (plainRules form (now (table .entry)) mode default (length (now (output .entry)))) (now (table .entry)) mode default (now (output .entry)) r (now (output .exit)) ⌝ }
+// refusal. Mode 5 gives the default to what has no route. Modes 4 and 5 choose by the ranks, without any the smallest hop. Mode 1 is mode 4 on the members of
+// a set, whose hops are 0.
+pub fn rewrite(
+    table: &[u8],
+    form: Form,
+    mode: u32,
+    default: u32,
+    ranks: &[u16],
+    output: &mut [u8],
+) -> Rewritten
+    ensures { λ r. ⌜ RewritesBy (plainRules form (now (table .entry)) mode default (now (ranks .entry)) (length (now (output .entry)))) (now (table .entry)) mode default (now (ranks .entry)) (now (output .entry)) r (now (output .exit)) ⌝ }
 {
     if no_mode(mode) {
         return Rewritten::Refused {
@@ -210,10 +248,16 @@ pub fn rewrite(table: &[u8], form: Form, mode: u32, default: u32, output: &mut [
             index: 0,
         };
     }
+    if no_ranks(mode, ranks) {
+        return Rewritten::Refused {
+            number: 15,
+            index: 0,
+        };
+    }
     match check_table(table, form, mode == 1) {
         Checked::Refused { number, index } => Rewritten::Refused { number, index },
         Checked::Valid(records) => {
-            rewrite_checked(table, mode, fill_of(mode, default), records, output)
+            rewrite_checked(table, mode, fill_of(mode, default), ranks, records, output)
         }
     }
 }

@@ -10,17 +10,19 @@ ghost use lib.ListN.{length};
 ghost use Rattle.text.specs.Text.{Put};
 ghost use Rattle.program.specs.Printed.{printed, printedIn};
 
-// Lays what is printed for a table into the buffer, from its start, and says where it ends. The output has 8,200 bytes; the room is lent.
+// Lays what is printed for a table into the buffer, from its start, and says where it ends. The output has 8,200 bytes; the room is lent, and no ranks.
 pub fn answer_in(table: &[u8], mode: u32, default: u32, work: &mut [u32], out: &mut [u8]) -> usize
     requires { ⌜ 24636 ≤ length (now out) ⌝ }
     ensures { λ r. ⌜ Put (printedIn mode default 8200 (length (now (work .entry))) (now (table .entry))) 0 r (now (out .entry)) (now (out .exit)) ⌝ }
 {
     let mut output = [0u8; 8200];
+    let ranks = [0u16; 0];
     let answered = aggregate::rewrite(
         table,
         Form { strict: false },
         mode,
         default,
+        &ranks,
         &mut output,
         work,
     );

@@ -78,28 +78,28 @@ pub held-kept : (r : AddressesHeld) (form : Form) (t : List ℕ) → heldSays r 
 held-kept r form t e = ap heldText (sym (held-back r) ∙ ap heldOf e)
 
 -- The text of a case is that of its call.
-module _ (head t : List ℕ) where
+module _ (head t ranks : List ℕ) where
   abbrev form : Form
   form = formBy (byte head 0)
 
   abbrev call : ℕ
   call = callBy (byte head 0)
 
-  pub case-rewrite : call ≡ 0 → rewriteAnswer form t (byte head 1) (byte head 2) (roomOf head) (wordsOf head) ≡ answerText head t
+  pub case-rewrite : call ≡ 0 → rewriteAnswer form t (byte head 1) (byte head 2) ranks (roomOf head) (wordsOf head) ≡ answerText head t ranks
   unfolding answerText
   case-rewrite e = rw (eq-eqb call 0 e)
 
   module _ (not-rewrite : call ≡ 0 → ⊥) where
-    pub case-cover : call ≡ 1 → coverAnswer form t (addressOf head) (byte head 3) (wordsOf head) ≡ answerText head t
+    pub case-cover : call ≡ 1 → coverAnswer form t (addressOf head) (byte head 3) (wordsOf head) ≡ answerText head t ranks
     unfolding answerText
     case-cover e = rw (ne-eqb call 0 not-rewrite, eq-eqb call 1 e)
 
     module _ (not-cover : call ≡ 1 → ⊥) where
-      pub case-lookup : call ≡ 2 → lookupAnswer form t (addressOf head) ≡ answerText head t
+      pub case-lookup : call ≡ 2 → lookupAnswer form t (addressOf head) ≡ answerText head t ranks
       unfolding answerText
       case-lookup e = rw (ne-eqb call 0 not-rewrite, ne-eqb call 1 not-cover, eq-eqb call 2 e)
 
-      pub case-held : (call ≡ 2 → ⊥) → heldAnswer form t ≡ answerText head t
+      pub case-held : (call ≡ 2 → ⊥) → heldAnswer form t ≡ answerText head t ranks
       unfolding answerText
       case-held not-lookup = rw (ne-eqb call 0 not-rewrite, ne-eqb call 1 not-cover, ne-eqb call 2 not-lookup)
 
@@ -118,8 +118,8 @@ all-dropped v (suc k) zero = refl
 all-dropped v (suc k) (suc n) = all-dropped v k n
 
 -- Both calls leave the room zero.
-pub rewrite-zero : {form : Form} {t : List ℕ} {mode default : ℕ} {o : List ℕ} {words : ℕ} {r : Rewritten} {o′ w′ : List ℕ}
-    → Rewrites form t mode default o words r o′ w′ → allAre 0 w′ ≡ true
+pub rewrite-zero : {form : Form} {t : List ℕ} {mode default : ℕ} {ranks o : List ℕ} {words : ℕ} {r : Rewritten} {o′ w′ : List ℕ}
+    → Rewrites form t mode default ranks o words r o′ w′ → allAre 0 w′ ≡ true
 rewrite-zero {words = words} ok = ap (allAre 0) (ok .zero) ∙ all-replicate 0 words
 
 pub covers-zero : {form : Form} {t : List ℕ} {address len words : ℕ} {r : Covers} {w′ : List ℕ} → Queried form t address len words r w′ → allAre 0 w′ ≡ true
@@ -131,19 +131,19 @@ output-left before number index o (refuses m i) e = refl
 output-left before number index o (gives rs) e = let z : _≡_ {A = ℕ} 0 1 = cc in absurd (omega arith)
 
 -- Past the records that any engine answers with, an output of one value is as it was.
-module _ (form : Form) (rules : List Rule) (t : List ℕ) (mode default : ℕ) (o : List ℕ) (guarded : Guarded form rules t mode default (length o)) (o′ : List ℕ)
+module _ (form : Form) (rules : List Rule) (t : List ℕ) (mode default : ℕ) (ranks o : List ℕ) (guarded : Guarded form rules t mode default ranks (length o)) (o′ : List ℕ)
     (v n : ℕ) (filled : o ≡ replicate n v) where
-  pub output-filled : (r : Rewritten) → RewritesBy rules t mode default o r o′ → allAre v (drop (8 * countOf r) o′) ≡ true
+  pub output-filled : (r : Rewritten) → RewritesBy rules t mode default ranks o r o′ → allAre v (drop (8 * countOf r) o′) ≡ true
   output-filled (Records count change) ok =
-      let f = by-records form rules t mode default o guarded (Records count change) o′ ok count change refl in
-      let rs = resultOf t mode default in
+      let f = by-records form rules t mode default ranks o guarded (Records count change) o′ ok count change refl in
+      let rs = resultOf t mode default ranks in
       ap (λ (m : ℕ). allAre v (drop (8 * m) o′)) (f .1)
       ∙ ap (λ (l : List ℕ). allAre v (drop (8 * length rs) l)) (f .3)
       ∙ ap (allAre v) (drop-at (bytesOf rs) (drop (8 * length rs) o) (8 * length rs) (length-bytes rs))
       ∙ ap (λ (l : List ℕ). allAre v (drop (8 * length rs) l)) filled
       ∙ all-dropped v (8 * length rs) n
   output-filled (Refused number index) ok =
-      ap (allAre v) (ok .output ∙ output-left (records t) number index o (replyBy rules t mode default) (ok .answer) ∙ filled) ∙ all-replicate v n
+      ap (allAre v) (ok .output ∙ output-left (records t) number index o (replyBy rules t mode default ranks) (ok .answer) ∙ filled) ∙ all-replicate v n
 
 -- The same of a list of what has no route.
 module _ (form : Form) (t o o′ : List ℕ) (v n : ℕ) (filled : o ≡ replicate n v) where

@@ -21,15 +21,19 @@ use Rattle.holes.specs.Listing.{holesOf, unroutedRules}
 use Rattle.plain.specs.Rewriting.{plainRules}
 use Rattle.text.specs.Answers.{replyText, coversText, lookupText, heldText, listText}
 
--- ---- A case: its first 16 bytes, and the table.
+-- ---- A case: its first 16 bytes, the ranks that it lends, and the table.
 
 -- Byte k.
 abbrev pub byte : List ℕ → ℕ → ℕ
 byte head k = getD head k 0
 
--- The call, and how the table is read: byte 0 is the number of the call, and 128 more under the strict choice.
+-- The call, whether ranks are lent, and how the table is read: byte 0 is the number of the call, 64 more where ranks are, and 128 more under the strict
+-- choice.
 abbrev pub callBy : ℕ → ℕ
-callBy first = first % 128
+callBy first = first % 64
+
+abbrev pub lendsRanks : ℕ → Bool
+lendsRanks first = leb 64 (first % 128)
 
 abbrev pub formBy : ℕ → Form
 formBy first = record { strict = leb 128 first }
@@ -64,11 +68,12 @@ heldOf (gives n) = Count n
 heldOf (refuses number index) = NotCounted number index
 
 -- Of each call; the hops are left out in modes 1 and 2.
-abbrev pub rewriteAnswer : Form → List ℕ → ℕ → ℕ → ℕ → ℕ → List ℕ
-rewriteAnswer form t mode default room words = replyText (ltb 2 mode) (records t) (rewriteReply form t mode default room words)
+abbrev pub rewriteAnswer : Form → List ℕ → ℕ → ℕ → List ℕ → ℕ → ℕ → List ℕ
+rewriteAnswer form t mode default ranks room words = replyText (ltb 2 mode) (records t) (rewriteReply form t mode default ranks room words)
 
-abbrev pub plainAnswer : Form → List ℕ → ℕ → ℕ → ℕ → List ℕ
-plainAnswer form t mode default room = replyText (ltb 2 mode) (records t) (replyBy (plainRules form t mode default room) t mode default)
+abbrev pub plainAnswer : Form → List ℕ → ℕ → ℕ → List ℕ → ℕ → List ℕ
+plainAnswer form t mode default ranks room =
+    replyText (ltb 2 mode) (records t) (replyBy (plainRules form t mode default ranks room) t mode default ranks)
 
 abbrev pub coverAnswer : Form → List ℕ → ℕ → ℕ → ℕ → List ℕ
 coverAnswer form t address len words = coversText (coversOf (coverReply form t address len words))
@@ -85,18 +90,18 @@ listAnswer form t room = listText true (judge (unroutedRules form t room) (holes
 -- Of a case, by its call: 0 rewrite, 1 cover query, 2 lookup, 3 addresses held. Call 4, a list of what has no route, has `listAnswer` for an output of
 -- as many bytes as `wordsOf` says, call 5, a rewrite by the plain engine, `plainCase`, call 6, the chip loader, `chipCase`, and call 9, special use,
 -- `specialCase`. Any other ends the run.
-unfoldable pub answerText : List ℕ → List ℕ → List ℕ
-answerText head t =
+unfoldable pub answerText : List ℕ → List ℕ → List ℕ → List ℕ
+answerText head t ranks =
     let form = formBy (byte head 0) in
     let call = callBy (byte head 0) in
-    cond (eqb call 0) (rewriteAnswer form t (byte head 1) (byte head 2) (roomOf head) (wordsOf head))
+    cond (eqb call 0) (rewriteAnswer form t (byte head 1) (byte head 2) ranks (roomOf head) (wordsOf head))
     (cond (eqb call 1) (coverAnswer form t (addressOf head) (byte head 3) (wordsOf head))
     (cond (eqb call 2) (lookupAnswer form t (addressOf head))
     (heldAnswer form t)))
 
 -- Of a case with call 5.
-abbrev pub plainCase : List ℕ → List ℕ → List ℕ
-plainCase head t = plainAnswer (formBy (byte head 0)) t (byte head 1) (byte head 2) (roomOf head)
+abbrev pub plainCase : List ℕ → List ℕ → List ℕ → List ℕ
+plainCase head t ranks = plainAnswer (formBy (byte head 0)) t (byte head 1) (byte head 2) ranks (roomOf head)
 
 -- ---- Where it is kept.
 

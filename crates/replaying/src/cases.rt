@@ -52,6 +52,7 @@ fn keep_rewritten(
     default: u8,
     table: &[u8],
     form: Form,
+    ranks: &[u16],
     output: &mut [u8],
     work: &mut [u32],
     at: usize,
@@ -60,11 +61,19 @@ fn keep_rewritten(
     requires { ⌜ length (now output) ≤ 65535 ⌝ }
     requires { ⌜ at ≤ length (now kept) ⌝ }
     requires { ⌜ 1048576 ≤ length (now kept) ⌝ }
-    ensures { λ r. ⌜ Put (rewriteAnswer form (now (table .entry)) mode default (length (now (output .entry))) (length (now (work .entry)))) (beginOf at) r (now (kept .entry)) (now (kept .exit)) ⌝ }
+    ensures { λ r. ⌜ Put (rewriteAnswer form (now (table .entry)) mode default (now (ranks .entry)) (length (now (output .entry))) (length (now (work .entry)))) (beginOf at) r (now (kept .entry)) (now (kept .exit)) ⌝ }
 {
     rooms::bytes::fill(output, FILLED_BYTE);
     rooms::words::fill(work, FILLED_WORD);
-    let answer = rewrite(table, form, mode as u32, default as u32, output, work);
+    let answer = rewrite(
+        table,
+        form,
+        mode as u32,
+        default as u32,
+        ranks,
+        output,
+        work,
+    );
     let begin = room_for(kept, at);
     let end = put_rewritten(answer, output, 2 < mode, begin, kept);
     let after = keep_work(work, end, kept);
@@ -77,6 +86,7 @@ fn keep_plain(
     default: u8,
     table: &[u8],
     form: Form,
+    ranks: &[u16],
     output: &mut [u8],
     at: usize,
     kept: &mut [u8],
@@ -84,10 +94,10 @@ fn keep_plain(
     requires { ⌜ length (now output) ≤ 65535 ⌝ }
     requires { ⌜ at ≤ length (now kept) ⌝ }
     requires { ⌜ 1048576 ≤ length (now kept) ⌝ }
-    ensures { λ r. ⌜ Put (plainAnswer form (now (table .entry)) mode default (length (now (output .entry)))) (beginOf at) r (now (kept .entry)) (now (kept .exit)) ⌝ }
+    ensures { λ r. ⌜ Put (plainAnswer form (now (table .entry)) mode default (now (ranks .entry)) (length (now (output .entry)))) (beginOf at) r (now (kept .entry)) (now (kept .exit)) ⌝ }
 {
     rooms::bytes::fill(output, FILLED_BYTE);
-    let answer = plain::rewrite(table, form, mode as u32, default as u32, output);
+    let answer = plain::rewrite(table, form, mode as u32, default as u32, ranks, output);
     let begin = room_for(kept, at);
     let end = put_rewritten(answer, output, 2 < mode, begin, kept);
     keep_output(output, written(answer), end, kept)
@@ -97,6 +107,7 @@ fn keep_plain(
 pub fn plain_turn(
     head: &[u8; 16],
     table: &[u8],
+    ranks: &[u16],
     output: &mut [u8],
     at: usize,
     kept: &mut [u8],
@@ -104,7 +115,7 @@ pub fn plain_turn(
     requires { ⌜ 262144 ≡ length (now output) ⌝ }
     requires { ⌜ at ≤ length (now kept) ⌝ }
     requires { ⌜ 1048576 ≤ length (now kept) ⌝ }
-    ensures { λ r. ⌜ Put (plainCase (now (head .entry)) (now (table .entry))) (beginOf at) r (now (kept .entry)) (now (kept .exit)) ⌝ }
+    ensures { λ r. ⌜ Put (plainCase (now (head .entry)) (now (table .entry)) (now (ranks .entry))) (beginOf at) r (now (kept .entry)) (now (kept .exit)) ⌝ }
 {
     let room = join2(head[12], head[13]);
     keep_plain(
@@ -112,6 +123,7 @@ pub fn plain_turn(
         head[2],
         table,
         form_of(head[0]),
+        ranks,
         &mut output[..room],
         at,
         kept,
@@ -213,6 +225,7 @@ pub fn listed_turn(
 pub fn keep_answer(
     head: &[u8; 16],
     table: &[u8],
+    ranks: &[u16],
     output: &mut [u8],
     work: &mut [u32],
     at: usize,
@@ -223,7 +236,7 @@ pub fn keep_answer(
     requires { ⌜ wordsOf (now head) ≤ 824480 ⌝ }
     requires { ⌜ at ≤ length (now kept) ⌝ }
     requires { ⌜ 1048576 ≤ length (now kept) ⌝ }
-    ensures { λ r. ⌜ Put (answerText (now (head .entry)) (now (table .entry))) (beginOf at) r (now (kept .entry)) (now (kept .exit)) ⌝ }
+    ensures { λ r. ⌜ Put (answerText (now (head .entry)) (now (table .entry)) (now (ranks .entry))) (beginOf at) r (now (kept .entry)) (now (kept .exit)) ⌝ }
 {
     let form = form_of(head[0]);
     let call = call_of(head[0]);
@@ -235,6 +248,7 @@ pub fn keep_answer(
             head[2],
             table,
             form,
+            ranks,
             &mut output[..room],
             &mut work[..words],
             at,
@@ -255,6 +269,7 @@ pub fn keep_answer(
 pub fn case_turn(
     head: &[u8; 16],
     table: &[u8],
+    ranks: &[u16],
     output: &mut [u8],
     work: &mut [u32],
     at: usize,
@@ -288,7 +303,7 @@ pub fn case_turn(
     }
     if call == 5 {
         return Turn {
-            at: plain_turn(head, table, output, at, kept),
+            at: plain_turn(head, table, ranks, output, at, kept),
             more: true,
         };
     }
@@ -296,7 +311,7 @@ pub fn case_turn(
         return last_line(b"work room too large\n", at, kept);
     }
     Turn {
-        at: keep_answer(head, table, output, work, at, kept),
+        at: keep_answer(head, table, ranks, output, work, at, kept),
         more: true,
     }
 }

@@ -4,7 +4,9 @@
 pub mod cases;
 mod chip_cases;
 mod counted;
+mod live_turns;
 pub mod plan_cases;
+pub mod ranks;
 mod special_cases;
 
 use libc::STDOUT_FILENO;
@@ -41,7 +43,7 @@ pub fn turns_left(turns: u64, more: bool) -> u64
 pub fn call_of(first: u8) -> u8
     ensures { λ r. ⌜ r ≡ callBy first ⌝ }
 {
-    first % 128
+    first % 64
 }
 
 // How the case's table is read: strictly where the first byte has 128 added.
@@ -59,6 +61,26 @@ pub fn join2(a: u8, b: u8) -> usize
     ensures { λ r. ⌜ r ≤ 65535 ⌝ }
 {
     (a as usize) * 256 + (b as usize)
+}
+
+// How many bytes follow the first 16 of a case: those of its table; of call 10, of so many commands of 8 bytes.
+pub fn bytes_behind(head: &[u8; 16]) -> usize
+    ensures { λ r. ⌜ r ≤ 524280 ⌝ }
+{
+    if call_of(head[0]) == 10 {
+        return 8 * join2(head[12], head[13]);
+    }
+    join2(head[14], head[15])
+}
+
+// How many bytes of steps stand in a case: with call 7 so many steps of 8 bytes, else none.
+pub fn steps_behind(head: &[u8; 16]) -> usize
+    ensures { λ r. ⌜ r ≤ 524280 ⌝ }
+{
+    if call_of(head[0]) == 7 {
+        return 8 * join2(head[10], head[11]);
+    }
+    0
 }
 
 // Writes the kept text.

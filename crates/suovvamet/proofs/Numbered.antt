@@ -14,7 +14,7 @@ use Rattle.table.specs.TableRules.{tableRules}
 use Rattle.table.proofs.Accepted.{accepted-exactly, not-refused, accepted, refused-exactly}
 use Rattle.table.proofs.Tested.{table-numbers}
 use Rattle.table.specs.Conditions.{TableCondition}
-use Rattle.calls.specs.Conditions.{RewriteCondition, no-mode, large-default, of-table, short-work, short-output, CoverCondition, of-set, long-query, short-room}
+use Rattle.calls.specs.Conditions.{RewriteCondition, no-mode, large-default, bad-ranks, of-table, short-work, short-output, CoverCondition, of-set, long-query, short-room}
 use Rattle.refusals.specs.Order.{First, None}
 use Rattle.refusals.proofs.Judged.{gives-exactly}
 use Rattle.records.specs.Wire.{records, routes}
@@ -31,7 +31,7 @@ use Rattle.calls.specs.declared.Rewritten.the-variants.{Records, Refused}
 use Rattle.calls.specs.declared.Covers.the-variants.{Refused as NotAnswered}
 use Rattle.calls.proofs.Refusals.{rewrite-refused, rewrite-accepted, covers-refused, covers-answered}
 use Rattle.calls.proofs.Settled.{rewritten-same, covers-same}
-use Rattle.plain.specs.Conditions.{PlainCondition, no-mode as no-plain-mode, large-default as plain-large-default, of-table as of-plain-table, short-output as short-plain-output}
+use Rattle.plain.specs.Conditions.{PlainCondition, no-mode as no-plain-mode, large-default as plain-large-default, bad-ranks as plain-bad-ranks, of-table as of-plain-table, short-output as short-plain-output}
 use Rattle.plain.proofs.Calls.{plain-accepted, plain-refused}
 use Rattle.holes.specs.Conditions.{UnroutedCondition, of-table as of-map, short-output as short-list}
 use Rattle.holes.specs.Listing.{holesOf, listedSays}
@@ -65,16 +65,18 @@ use Rattle.suovvamet.specs.Calls.{CheckPlanInC, PlanInC, RewriteInC, Pla
 table-number : {form : Form} {s : Bool} {t : List ℕ} {n i : ℕ} → TableCondition form s t n i → 1 ≤ n
 table-number {form} {s} {t} {n} {i} c = omega (arith, table-numbers form s t n i c .0)
 
-rewrite-number : {form : Form} {t : List ℕ} {mode default room words n i : ℕ} → RewriteCondition form t mode default room words n i → 1 ≤ n
+rewrite-number : {form : Form} {t : List ℕ} {mode default : ℕ} {ranks : List ℕ} {room words n i : ℕ} → RewriteCondition form t mode default ranks room words n i → 1 ≤ n
 rewrite-number (no-mode f) = omega arith
 rewrite-number (large-default e h) = omega arith
+rewrite-number (bad-ranks h f) = omega arith
 rewrite-number (of-table c) = table-number c
 rewrite-number (short-work h) = omega arith
 rewrite-number (short-output h) = omega arith
 
-plain-number : {form : Form} {t : List ℕ} {mode default room n i : ℕ} → PlainCondition form t mode default room n i → 1 ≤ n
+plain-number : {form : Form} {t : List ℕ} {mode default : ℕ} {ranks : List ℕ} {room n i : ℕ} → PlainCondition form t mode default ranks room n i → 1 ≤ n
 plain-number (no-plain-mode f) = omega arith
 plain-number (plain-large-default e h) = omega arith
+plain-number (plain-bad-ranks h f) = omega arith
 plain-number (of-plain-table c) = table-number c
 plain-number (short-plain-output h) = omega arith
 
@@ -99,9 +101,10 @@ load-number (wrong-size f) = omega arith
 table-below : {form : Form} {s : Bool} {t : List ℕ} {n i : ℕ} → TableCondition form s t n i → n ≤ 8
 table-below {form} {s} {t} {n} {i} c = table-numbers form s t n i c .1
 
-rewrite-ten : {form : Form} {t : List ℕ} {mode default room words n i : ℕ} → RewriteCondition form t mode default room words n i → n ≡ 10 → words < 160 * nodes 32 (routes t)
+rewrite-ten : {form : Form} {t : List ℕ} {mode default : ℕ} {ranks : List ℕ} {room words n i : ℕ} → RewriteCondition form t mode default ranks room words n i → n ≡ 10 → words < 160 * nodes 32 (routes t)
 rewrite-ten (no-mode f) e = absurd (omega arith)
 rewrite-ten (large-default d h) e = absurd (omega arith)
+rewrite-ten (bad-ranks h f) e = absurd (omega arith)
 rewrite-ten (of-table c) e = let k = table-below c in absurd (omega arith)
 rewrite-ten (short-work h) e = h
 rewrite-ten (short-output h) e = absurd (omega arith)
@@ -142,48 +145,48 @@ gave r = (
 )
 
 -- By that over nodes.
-module _ (t : List ℕ) (flags mode default : ℕ) (o work : List ℕ) {number count : ℕ} {change : ℤ} {index : ℕ} {o′ w′ : List ℕ}
-    (ok : RewriteInC t flags mode default o work number count change index o′ w′) where
+module _ (t : List ℕ) (flags mode default : ℕ) (ranks o work : List ℕ) {number count : ℕ} {change : ℤ} {index : ℕ} {o′ w′ : List ℕ}
+    (ok : RewriteInC t flags mode default ranks o work number count change index o′ w′) where
   abbrev Refusing : ℕ → ℕ → Type 0
-  Refusing = RewriteCondition (formBy flags) t mode default (length o) (length work)
+  Refusing = RewriteCondition (formBy flags) t mode default ranks (length o) (length work)
 
   given : ((w : Written) × (rewrittenSays (ok .answer) ≡ gives w)) ↔ None Refusing
   given =
-      let exactly = rewrite-accepted (formBy flags) t mode default o (length work) (ok .answer) o′ w′ (ok .rewrites) in
+      let exactly = rewrite-accepted (formBy flags) t mode default ranks o (length work) (ok .answer) o′ w′ (ok .rewrites) in
       (λ f. exactly .0 (gave (ok .answer) .0 f), λ none. gave (ok .answer) .1 (exactly .1 none))
 
   refused : (n i : ℕ) → rewrittenSays (ok .answer) ≡ refuses n i ↔ First Refusing n i
   refused n i =
-      let exactly = rewrite-refused (formBy flags) t mode default o (length work) (ok .answer) o′ w′ (ok .rewrites) n i in
+      let exactly = rewrite-refused (formBy flags) t mode default ranks o (length work) (ok .answer) o′ w′ (ok .rewrites) n i in
       (λ e. exactly .0 (rewritten-same (ok .answer) (Refused n i) e), λ f. ap rewrittenSays (exactly .1 f))
 
   -- The result is 0 exactly when no condition of document 01 holds.
-  pub rewrite-in-c-answered : number ≡ 0 ↔ None (RewriteCondition (formBy flags) t mode default (length o) (length work))
+  pub rewrite-in-c-answered : number ≡ 0 ↔ None (RewriteCondition (formBy flags) t mode default ranks (length o) (length work))
   rewrite-in-c-answered = answered (rewrittenSays (ok .answer)) given refused (λ n i f. rewrite-number (f .0)) (ok .number-is) (ok .index-is)
 
   -- Else it is, with the index, the first that holds.
-  pub rewrite-in-c-refused : (n i : ℕ) → ((1 ≤ n) × (number ≡ n) × (index ≡ i)) ↔ First (RewriteCondition (formBy flags) t mode default (length o) (length work)) n i
+  pub rewrite-in-c-refused : (n i : ℕ) → ((1 ≤ n) × (number ≡ n) × (index ≡ i)) ↔ First (RewriteCondition (formBy flags) t mode default ranks (length o) (length work)) n i
   rewrite-in-c-refused = numbered (rewrittenSays (ok .answer)) given refused (λ n i f. rewrite-number (f .0)) (ok .number-is) (ok .index-is)
 
 -- By the plain one.
-module _ (t : List ℕ) (flags mode default : ℕ) (o : List ℕ) {number count : ℕ} {change : ℤ} {index : ℕ} {o′ : List ℕ}
-    (ok : PlainInC t flags mode default o number count change index o′) where
-  given-plain : ((w : Written) × (rewrittenSays (ok .answer) ≡ gives w)) ↔ None (PlainCondition (formBy flags) t mode default (length o))
+module _ (t : List ℕ) (flags mode default : ℕ) (ranks o : List ℕ) {number count : ℕ} {change : ℤ} {index : ℕ} {o′ : List ℕ}
+    (ok : PlainInC t flags mode default ranks o number count change index o′) where
+  given-plain : ((w : Written) × (rewrittenSays (ok .answer) ≡ gives w)) ↔ None (PlainCondition (formBy flags) t mode default ranks (length o))
   given-plain =
-      let exactly = plain-accepted (formBy flags) t mode default o (ok .answer) o′ (ok .rewrites) in
+      let exactly = plain-accepted (formBy flags) t mode default ranks o (ok .answer) o′ (ok .rewrites) in
       (λ f. exactly .0 (gave (ok .answer) .0 f), λ none. gave (ok .answer) .1 (exactly .1 none))
 
-  refused-plain : (n i : ℕ) → rewrittenSays (ok .answer) ≡ refuses n i ↔ First (PlainCondition (formBy flags) t mode default (length o)) n i
+  refused-plain : (n i : ℕ) → rewrittenSays (ok .answer) ≡ refuses n i ↔ First (PlainCondition (formBy flags) t mode default ranks (length o)) n i
   refused-plain n i =
-      let exactly = plain-refused (formBy flags) t mode default o (ok .answer) o′ (ok .rewrites) n i in
+      let exactly = plain-refused (formBy flags) t mode default ranks o (ok .answer) o′ (ok .rewrites) n i in
       (λ e. exactly .0 (rewritten-same (ok .answer) (Refused n i) e), λ f. ap rewrittenSays (exactly .1 f))
 
   -- The result is 0 exactly when no condition for a refusal holds.
-  pub plain-in-c-answered : number ≡ 0 ↔ None (PlainCondition (formBy flags) t mode default (length o))
+  pub plain-in-c-answered : number ≡ 0 ↔ None (PlainCondition (formBy flags) t mode default ranks (length o))
   plain-in-c-answered = answered (rewrittenSays (ok .answer)) given-plain refused-plain (λ n i f. plain-number (f .0)) (ok .number-is) (ok .index-is)
 
   -- Else it is, with the index, the first that holds.
-  pub plain-in-c-refused : (n i : ℕ) → ((1 ≤ n) × (number ≡ n) × (index ≡ i)) ↔ First (PlainCondition (formBy flags) t mode default (length o)) n i
+  pub plain-in-c-refused : (n i : ℕ) → ((1 ≤ n) × (number ≡ n) × (index ≡ i)) ↔ First (PlainCondition (formBy flags) t mode default ranks (length o)) n i
   plain-in-c-refused = numbered (rewrittenSays (ok .answer)) given-plain refused-plain (λ n i f. plain-number (f .0)) (ok .number-is) (ok .index-is)
 
 -- ---- The cover query.
@@ -272,8 +275,8 @@ module _ (t : List ℕ) (flags isSet : ℕ) {number needed index : ℕ} (ok : Wo
         absurd (omega arith)
 
     -- An answer is the number of words below which a rewrite has its condition 10.
-    pub words-in-c-rewrite : (mode default room words : ℕ) → words < needed ↔ RewriteCondition (formBy flags) t mode default room words 10 0
-    words-in-c-rewrite mode default room words =
+    pub words-in-c-rewrite : (mode default : ℕ) (ranks : List ℕ) (room words : ℕ) → words < needed ↔ RewriteCondition (formBy flags) t mode default ranks room words 10 0
+    words-in-c-rewrite mode default ranks room words =
         let is = needed-is (ok .answer) refl in
         (λ h. short-work (omega arith), λ c. let h = rewrite-ten c refl in omega arith)
 

@@ -41,11 +41,11 @@ same-part : {R N : Type 0} (part : R → N) {a b : R} {m n : N} → a ≡ b → 
 same-part part e p q = p ∙ ap part e ∙ sym q
 
 -- Of a rewrite: the number, the count, the change, the index, the output and the room.
-pub rewrite-in-c-settled : (t : List ℕ) (flags mode default : ℕ) (o work : List ℕ) {number number₁ count count₁ : ℕ} {change change₁ : ℤ} {index index₁ : ℕ} {o′ o₁ w′ w₁ : List ℕ}
-    → RewriteInC t flags mode default o work number count change index o′ w′ → RewriteInC t flags mode default o work number₁ count₁ change₁ index₁ o₁ w₁
+pub rewrite-in-c-settled : (t : List ℕ) (flags mode default : ℕ) (ranks o work : List ℕ) {number number₁ count count₁ : ℕ} {change change₁ : ℤ} {index index₁ : ℕ} {o′ o₁ w′ w₁ : List ℕ}
+    → RewriteInC t flags mode default ranks o work number count change index o′ w′ → RewriteInC t flags mode default ranks o work number₁ count₁ change₁ index₁ o₁ w₁
     → (number ≡ number₁) × (count ≡ count₁) × (change ≡ change₁) × (index ≡ index₁) × (o′ ≡ o₁) × (w′ ≡ w₁)
-rewrite-in-c-settled t flags mode default o work {o′ = o′} {o₁ = o₁} {w′ = w′} {w₁ = w₁} a b =
-    let s = rewrite-settled (formBy flags) t mode default o (length work) (a .answer) (b .answer) o′ o₁ w′ w₁ (a .rewrites) (b .rewrites) in (
+rewrite-in-c-settled t flags mode default ranks o work {o′ = o′} {o₁ = o₁} {w′ = w′} {w₁ = w₁} a b =
+    let s = rewrite-settled (formBy flags) t mode default ranks o (length work) (a .answer) (b .answer) o′ o₁ w′ w₁ (a .rewrites) (b .rewrites) in (
       same-part (λ (r : Rewritten). numberOf (rewrittenSays r)) (s .0) (a .number-is) (b .number-is),
       same-part countOf (s .0) (a .count-is) (b .count-is),
       same-part changeOf (s .0) (a .change-is) (b .change-is),
@@ -55,11 +55,11 @@ rewrite-in-c-settled t flags mode default o work {o′ = o′} {o₁ = o₁} {w�
     )
 
 -- By the plain engine: the number, the count, the change, the index and the output.
-pub plain-in-c-settled : (t : List ℕ) (flags mode default : ℕ) (o : List ℕ) {number number₁ count count₁ : ℕ} {change change₁ : ℤ} {index index₁ : ℕ} {o′ o₁ : List ℕ}
-    → PlainInC t flags mode default o number count change index o′ → PlainInC t flags mode default o number₁ count₁ change₁ index₁ o₁
+pub plain-in-c-settled : (t : List ℕ) (flags mode default : ℕ) (ranks o : List ℕ) {number number₁ count count₁ : ℕ} {change change₁ : ℤ} {index index₁ : ℕ} {o′ o₁ : List ℕ}
+    → PlainInC t flags mode default ranks o number count change index o′ → PlainInC t flags mode default ranks o number₁ count₁ change₁ index₁ o₁
     → (number ≡ number₁) × (count ≡ count₁) × (change ≡ change₁) × (index ≡ index₁) × (o′ ≡ o₁)
-plain-in-c-settled t flags mode default o {o′ = o′} {o₁ = o₁} a b =
-    let s = plain-settled (formBy flags) t mode default o (a .answer) (b .answer) o′ o₁ (a .rewrites) (b .rewrites) in (
+plain-in-c-settled t flags mode default ranks o {o′ = o′} {o₁ = o₁} a b =
+    let s = plain-settled (formBy flags) t mode default ranks o (a .answer) (b .answer) o′ o₁ (a .rewrites) (b .rewrites) in (
       same-part (λ (r : Rewritten). numberOf (rewrittenSays r)) (s .0) (a .number-is) (b .number-is),
       same-part countOf (s .0) (a .count-is) (b .count-is),
       same-part changeOf (s .0) (a .change-is) (b .change-is),

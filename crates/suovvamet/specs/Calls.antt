@@ -28,19 +28,19 @@ use Rattle.planner.specs.Planning.{plannedSays, Plans}
 use Rattle.planner.specs.declared.Planned.{Planned}
 use Rattle.suovvamet.specs.Numbers.{formBy, numberOf, indexOf, coveredOf, foundOf, hopOf, lengthOf, addressesOf, isSetBy, wordsOf, namedOf, recordOf, slotsUsed, yesOf, givenOf, stepsGiven}
 
--- Of a rewrite: the table t, the output o and the room work were lent; the output is o′ then and the room work′.
-pub record RewriteInC (t : List ℕ) (flags mode default : ℕ) (o work : List ℕ) (number count : ℕ) (change : ℤ) (index : ℕ) (o′ work′ : List ℕ) : Type 0 where
+-- Of a rewrite: the table t, the ranks, the output o and the room work were lent; the output is o′ then and the room work′.
+pub record RewriteInC (t : List ℕ) (flags mode default : ℕ) (ranks o work : List ℕ) (number count : ℕ) (change : ℤ) (index : ℕ) (o′ work′ : List ℕ) : Type 0 where
   pub answer : Rewritten
-  pub rewrites : Rewrites (formBy flags) t mode default o (length work) answer o′ work′
+  pub rewrites : Rewrites (formBy flags) t mode default ranks o (length work) answer o′ work′
   pub number-is : number ≡ numberOf (rewrittenSays answer)
   pub index-is : index ≡ indexOf (rewrittenSays answer)
   pub count-is : count ≡ countOf answer
   pub change-is : change ≡ changeOf answer
 
 -- Of a rewrite by the plain engine, which is lent no room.
-pub record PlainInC (t : List ℕ) (flags mode default : ℕ) (o : List ℕ) (number count : ℕ) (change : ℤ) (index : ℕ) (o′ : List ℕ) : Type 0 where
+pub record PlainInC (t : List ℕ) (flags mode default : ℕ) (ranks o : List ℕ) (number count : ℕ) (change : ℤ) (index : ℕ) (o′ : List ℕ) : Type 0 where
   pub answer : Rewritten
-  pub rewrites : RewritesBy (plainRules (formBy flags) t mode default (length o)) t mode default o answer o′
+  pub rewrites : RewritesBy (plainRules (formBy flags) t mode default ranks (length o)) t mode default ranks o answer o′
   pub number-is : number ≡ numberOf (rewrittenSays answer)
   pub index-is : index ≡ indexOf (rewrittenSays answer)
   pub count-is : count ≡ countOf answer

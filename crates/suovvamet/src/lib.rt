@@ -96,22 +96,23 @@ fn rewritten_change(r: Rewritten) -> i64
     }
 }
 
-// A rewrite of the table in a mode, into the output: the number of records and the change.
+// A rewrite of the table in a mode, by ranks that are lent, into the output: the number of records and the change.
 #[no_mangle]
 pub extern "C" fn suovvamet_rewrite(
     table: &[u8],
     flags: u32,
     mode: u32,
     default: u32,
+    ranks: &[u16],
     output: &mut [u8],
     work: &mut [u32],
     count: &mut u64,
     change: &mut i64,
     index: &mut u64,
 ) -> u32
-    ensures { λ n. ⌜ RewriteInC (now (table .entry)) flags mode default (now (output .entry)) (now (work .entry)) n (now (count .exit)) (now (change .exit)) (now (index .exit)) (now (output .exit)) (now (work .exit)) ⌝ }
+    ensures { λ n. ⌜ RewriteInC (now (table .entry)) flags mode default (now (ranks .entry)) (now (output .entry)) (now (work .entry)) n (now (count .exit)) (now (change .exit)) (now (index .exit)) (now (output .exit)) (now (work .exit)) ⌝ }
 {
-    let answer = aggregate::rewrite(table, form_of(flags), mode, default, output, work);
+    let answer = aggregate::rewrite(table, form_of(flags), mode, default, ranks, output, work);
     *count = rewritten_count(answer);
     *change = rewritten_change(answer);
     let refused = rewritten_refusal(answer);
@@ -126,14 +127,15 @@ pub extern "C" fn suovvamet_rewrite_plain(
     flags: u32,
     mode: u32,
     default: u32,
+    ranks: &[u16],
     output: &mut [u8],
     count: &mut u64,
     change: &mut i64,
     index: &mut u64,
 ) -> u32
-    ensures { λ n. ⌜ PlainInC (now (table .entry)) flags mode default (now (output .entry)) n (now (count .exit)) (now (change .exit)) (now (index .exit)) (now (output .exit)) ⌝ }
+    ensures { λ n. ⌜ PlainInC (now (table .entry)) flags mode default (now (ranks .entry)) (now (output .entry)) n (now (count .exit)) (now (change .exit)) (now (index .exit)) (now (output .exit)) ⌝ }
 {
-    let answer = plain::rewrite(table, form_of(flags), mode, default, output);
+    let answer = plain::rewrite(table, form_of(flags), mode, default, ranks, output);
     *count = rewritten_count(answer);
     *change = rewritten_change(answer);
     let refused = rewritten_refusal(answer);

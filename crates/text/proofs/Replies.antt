@@ -30,36 +30,36 @@ said-refused before number index (Rattle.refusals.specs.Rules.gives rs) e = cc
 said-refused before number index (refuses m i) e = cc
 
 -- ---- Of a rewrite, by any engine.
-module _ (form : Form) (rules : List Rule) (t : List ℕ) (mode default : ℕ) (o : List ℕ) (guarded : Guarded form rules t mode default (length o)) (o′ : List ℕ) where
-  pub by-text : (hops : Bool) → Bytes t → (r : Rewritten) → RewritesBy rules t mode default o r o′
-      → rewrittenText hops r o′ ≡ replyText hops (records t) (replyBy rules t mode default)
+module _ (form : Form) (rules : List Rule) (t : List ℕ) (mode default : ℕ) (ranks o : List ℕ) (guarded : Guarded form rules t mode default ranks (length o)) (o′ : List ℕ) where
+  pub by-text : (hops : Bool) → Bytes t → (r : Rewritten) → RewritesBy rules t mode default ranks o r o′
+      → rewrittenText hops r o′ ≡ replyText hops (records t) (replyBy rules t mode default ranks)
   unfolding rewrittenText replyText resultOf
   by-text hops bytes (Records count change) ok =
       ap₂ (λ (rs : List Route) (z : ℤ). linesOf hops rs ++ changeLine z)
-      (by-reads form rules t mode default o guarded (Records count change) o′ ok count change refl bytes)
-      (by-records form rules t mode default o guarded (Records count change) o′ ok count change refl .2)
-      ∙ sym (ap (replyText hops (records t)) (by-reply form rules t mode default o guarded (Records count change) o′ ok count change refl))
+      (by-reads form rules t mode default ranks o guarded (Records count change) o′ ok count change refl bytes)
+      (by-records form rules t mode default ranks o guarded (Records count change) o′ ok count change refl .2)
+      ∙ sym (ap (replyText hops (records t)) (by-reply form rules t mode default ranks o guarded (Records count change) o′ ok count change refl))
   by-text hops bytes (Refused number index) ok =
-      sym (ap (replyText hops (records t)) (said-refused (records t) number index (replyBy rules t mode default) (ok .answer)))
+      sym (ap (replyText hops (records t)) (said-refused (records t) number index (replyBy rules t mode default ranks) (ok .answer)))
 
   -- The records that are answered with stand in the output.
-  pub by-fits : (r : Rewritten) → RewritesBy rules t mode default o r o′ → 8 * countOf r ≤ length o′
+  pub by-fits : (r : Rewritten) → RewritesBy rules t mode default ranks o r o′ → 8 * countOf r ≤ length o′
   by-fits (Records count change) ok =
-      let f = by-records form rules t mode default o guarded (Records count change) o′ ok count change refl in
-      omega (arith, f .0 .enough-output, f .1, by-length form rules t mode default o guarded (Records count change) o′ ok)
+      let f = by-records form rules t mode default ranks o guarded (Records count change) o′ ok count change refl in
+      omega (arith, f .0 .enough-output, f .1, by-length form rules t mode default ranks o guarded (Records count change) o′ ok)
   by-fits (Refused number index) ok = omega arith
 
 -- By that over nodes.
-module _ (form : Form) (t : List ℕ) (mode default : ℕ) (o : List ℕ) (words : ℕ) (o′ w′ : List ℕ) where
-  guarded : Guarded form (rewriteRules form t mode default (length o) words) t mode default (length o)
-  guarded = rewrite-guarded form t mode default (length o) words
+module _ (form : Form) (t : List ℕ) (mode default : ℕ) (ranks o : List ℕ) (words : ℕ) (o′ w′ : List ℕ) where
+  guarded : Guarded form (rewriteRules form t mode default ranks (length o) words) t mode default ranks (length o)
+  guarded = rewrite-guarded form t mode default ranks (length o) words
 
-  pub rewritten-text : (hops : Bool) → Bytes t → (r : Rewritten) → Rewrites form t mode default o words r o′ w′
-      → rewrittenText hops r o′ ≡ replyText hops (records t) (rewriteReply form t mode default (length o) words)
-  rewritten-text hops bytes r ok = by-text form (rewriteRules form t mode default (length o) words) t mode default o guarded o′ hops bytes r (ok .inner)
+  pub rewritten-text : (hops : Bool) → Bytes t → (r : Rewritten) → Rewrites form t mode default ranks o words r o′ w′
+      → rewrittenText hops r o′ ≡ replyText hops (records t) (rewriteReply form t mode default ranks (length o) words)
+  rewritten-text hops bytes r ok = by-text form (rewriteRules form t mode default ranks (length o) words) t mode default ranks o guarded o′ hops bytes r (ok .inner)
 
-  pub rewritten-fits : (r : Rewritten) → Rewrites form t mode default o words r o′ w′ → 8 * countOf r ≤ length o′
-  rewritten-fits r ok = by-fits form (rewriteRules form t mode default (length o) words) t mode default o guarded o′ r (ok .inner)
+  pub rewritten-fits : (r : Rewritten) → Rewrites form t mode default ranks o words r o′ w′ → 8 * countOf r ≤ length o′
+  rewritten-fits r ok = by-fits form (rewriteRules form t mode default ranks (length o) words) t mode default ranks o guarded o′ r (ok .inner)
 
 -- ---- A list of what has no route.
 module _ (form : Form) (t o o′ : List ℕ) where

@@ -20,9 +20,6 @@ most-records-requires c κs = search needs
 slice-aggregate-write : tie.Need-slice-aggregate-write
 slice-aggregate-write c = search needs
 
-slice-aggregate-write-2 : tie.Need-slice-aggregate-write-2
-slice-aggregate-write-2 c = search needs
-
 write-requires : tie.Need-write-requires
 write-requires c κs = search needs
 
@@ -32,12 +29,9 @@ same-length c = search needs
 returns : tie.Need-returns
 returns c =
     let pre = c .before .before .before .before .before .before .before .before .before .before .before .before .before .before .before .pre in
-    let count = written-count _ _ _ (pre .1 .0 .valid) (c .before .before .write .ensures) in
+    let count = written-count _ _ _ _ (pre .1 .0 .valid) (c .before .before .write .ensures) in
     let short = c .if2 .taken in
-    finished-refused _ _ _ _ (omega arith)
-
-slice-aggregate-write-3 : tie.Need-slice-aggregate-write-3
-slice-aggregate-write-3 c = search needs
+    finished-refused _ _ _ _ _ (omega arith)
 
 write-requires-2 : tie.Need-write-requires-2
 write-requires-2 c κs = search needs
@@ -46,17 +40,17 @@ write-requires-2 c κs = search needs
 few : (c : tie.After-slice-known4) → (c .before .before .write2 .result < 2 ^ 62) × (c .before .before .before .before .before .before .before .before .before .before .before .before .before .before .before .args .before < 2 ^ 62)
 few c =
     let pre = c .before .before .before .before .before .before .before .before .before .before .before .before .before .before .before .pre in
-    let most = written-most _ _ _ (pre .1 .0) (c .before .before .write2 .ensures) in
+    let most = written-most _ _ _ _ (pre .1 .0) (c .before .before .write2 .ensures) in
     (omega arith, omega arith)
 
-cast-t33 : tie.Need-cast-t33
-cast-t33 c = let small = few c in search needs
+cast-t29 : tie.Need-cast-t29
+cast-t29 c = let small = few c in search needs
 
-cast-t34 : tie.Need-cast-t34
-cast-t34 c = search needs
+cast-t30 : tie.Need-cast-t30
+cast-t30 c = search needs
 
-sub-t35 : tie.Need-sub-t35
-sub-t35 c = search (change-fits, few c)
+sub-t31 : tie.Need-sub-t31
+sub-t31 c = search (change-fits, few c)
 
 same-length-2 : tie.Need-same-length-2
 same-length-2 c = search needs
@@ -69,21 +63,21 @@ returns-2 c =
     let s = c .before .before .before .before .before .before .before .before .before .before .before .before .before .before .before in
     let pre = s .pre in
     let wrote = c .before .before .write2 .ensures in
-    let count = written-count _ _ _ (pre .1 .0 .valid) wrote in
+    let count = written-count _ _ _ _ (pre .1 .0 .valid) wrote in
     let room : c .before .before .write2 .result ≤ length (s .args .output .now) / 8 =
     ⊎-elim
     (λ w.
-    let dry = written-count _ _ _ (pre .1 .0 .valid) (w .4 .ensures) in
-    let long = w .6 .left in
+    let dry = written-count _ _ _ _ (pre .1 .0 .valid) (w .3 .ensures) in
+    let long = w .5 .left in
     omega arith)
     (λ w.
-    let most = result-most _ _ (s .args .fill) (pre .0) (pre .1 .0) (pre .1 .1 .1 .1 .0) (c .before .before .before .before .before .before .before .most-records .ensures) in
+    let most = result-most _ _ (s .args .fill) (s .args .ranks .now) (pre .0) (pre .1 .0) (pre .1 .1 .1 .1 .0) (c .before .before .before .before .before .before .most-records .ensures) in
     let long = w .left in
     omega arith)
-    (c .before .before .before .before .before .before .if1 .came) in
-    finished-written _ _ _ _ count room
+    (c .before .before .before .before .before .if1 .came) in
+    finished-written _ _ _ _ _ count room
     (change-is (c .before .before .write2 .result) (s .args .before) (few c .0) (few c .1) ∙ rw (pre .1 .1 .1 .1 .0))
-    (written-bytes _ _ _ (pre .1 .0 .valid) wrote (omega arith))
+    (written-bytes _ _ _ _ (pre .1 .0 .valid) wrote (omega arith))
 
 pub rewrite-checked-spec : {M : Type 1} → statement M
 rewrite-checked-spec =
@@ -92,15 +86,13 @@ rewrite-checked-spec =
     prepare-requires
     most-records-requires
     slice-aggregate-write
-    slice-aggregate-write-2
     write-requires
     same-length
     returns
-    slice-aggregate-write-3
     write-requires-2
-    cast-t33
-    cast-t34
-    sub-t35
+    cast-t29
+    cast-t30
+    sub-t31
     same-length-2
     same-length-3
     returns-2)

@@ -6,10 +6,10 @@ use Rattle.bench.proofs.repeat.Statement.{statement}
 use Rattle.bench.proofs.repeat.Tie as tie
 
 abbrev Inv-loop : tie.InvT-loop
-Inv-loop more table mode default output₀ work₀ left₀ output work left = (length output ≡ length output₀) × (length work ≡ length work₀)
+Inv-loop more table mode default ranks output₀ work₀ left₀ output work left = (length output ≡ length output₀) × (length work ≡ length work₀)
 
 abbrev μ-loop : tie.MeasureT-loop
-μ-loop more table mode default output₀ work₀ left₀ output work left = left
+μ-loop more table mode default ranks output₀ work₀ left₀ output work left = left
 
 loop-holds : tie.Need-loop-holds Inv-loop μ-loop
 loop-holds c = search needs

@@ -6,10 +6,10 @@ use Rattle.bench.proofs.repeat_plain.Statement.{statement}
 use Rattle.bench.proofs.repeat_plain.Tie as tie
 
 abbrev Inv-loop : tie.InvT-loop
-Inv-loop more table mode default output₀ left₀ output left = length output ≡ length output₀
+Inv-loop more table mode default ranks output₀ left₀ output left = length output ≡ length output₀
 
 abbrev μ-loop : tie.MeasureT-loop
-μ-loop more table mode default output₀ left₀ output left = left
+μ-loop more table mode default ranks output₀ left₀ output left = left
 
 loop-holds : tie.Need-loop-holds Inv-loop μ-loop
 loop-holds c = search needs

@@ -16,7 +16,7 @@ use Rattle.plain.proofs.Walk.{entries-uniform, entries-halves, entries-
 use Rattle.plain.proofs.write.Reads as write
 use Rattle.plain.proofs.write.Kinds as write-kinds
 use Rattle.plain.proofs.+write.Lts-write as lts
-use Rattle.hops.proofs.assign_smallest.Reads as assign-smallest-reads
+use Rattle.hops.proofs.assign.Reads as assign-reads
 use Rattle.plain.proofs.part_of.Reads as part-of-reads
 use Rattle.plain.proofs.set_of.Reads as set-of-reads
 use Rattle.plain.proofs.write_entry.Reads as write-entry-reads
@@ -24,14 +24,14 @@ use Rattle.records.proofs.past.Reads as past-reads
 use Rattle.plain.proofs.+write.{statement}
 use Rattle.plain.proofs.+write.Tie.{close}
 
-abbrev measure : Measures 2 write-kinds.ps ℕ
+abbrev measure : Measures 3 write-kinds.ps ℕ
 measure κs a = 32 - a .1 .1 .1 .1 .0
 
-abbrev entered : ℕ → In 2 write-kinds.ps
-entered t = and 2 write-kinds.ps (is 2 write-kinds.ps measure t) write.Pre
+abbrev entered : ℕ → In 3 write-kinds.ps
+entered t = and 3 write-kinds.ps (is 3 write-kinds.ps measure t) write.Pre
 
-abbrev deeper : ℕ → In 2 write-kinds.ps
-deeper t = and 2 write-kinds.ps (falls 2 write-kinds.ps _<_ measure t) write.Pre
+abbrev deeper : ℕ → In 3 write-kinds.ps
+deeper t = and 3 write-kinds.ps (falls 3 write-kinds.ps _<_ measure t) write.Pre
 
 abbrev claims : ℕ → lts.Claims
 claims t = (
@@ -41,8 +41,8 @@ claims t = (
   write-entry-reads.Learnt,
   part-of-reads.Asked,
   part-of-reads.Learnt,
-  assign-smallest-reads.Asked,
-  assign-smallest-reads.Learnt,
+  assign-reads.Asked,
+  assign-reads.Learnt,
   past-reads.Asked,
   past-reads.Learnt,
   deeper t,
@@ -51,58 +51,58 @@ claims t = (
 
 -- The candidates of the position, at the match.
 abbrev candidates : (t : ℕ) → lts.After-known-told (claims t) (entered t) write.Post → Cand
-candidates t c = let a = c .before .before .before .before .before .before .before .before .before .before .before .args in setAt 32 (a .table .now) (a .lo) (a .hi) (a .cover) (32 - a .len) (a .addr)
+candidates t c = let a = c .before .before .before .before .before .before .before .before .before .before .before .before .args in setAt 32 (a .table .now) (a .lo) (a .hi) (a .cover) (32 - a .len) (a .addr)
 
 -- The halves that it goes down to.
 halves : (t : ℕ) (c : lts.After-known-told (claims t) (entered t) write.Post)
-    → let a = c .before .before .before .before .before .before .before .before .before .before .before .args in
+    → let a = c .before .before .before .before .before .before .before .before .before .before .before .before .args in
     let k = c .before .hop .given .0 in
     (a .len < 32) × Halved 32 (a .table .now) (a .lo) (a .hi) (a .cover) (32 - (a .len + 1)) (a .addr) (k .0) (k .1 .0) (k .1 .1 .0) (k .1 .1 .1 .0)
 halves t c =
-    let a = c .before .before .before .before .before .before .before .before .before .before .before .args in
+    let a = c .before .before .before .before .before .before .before .before .before .before .before .before .args in
     subst (PartOf (a .table .now) (a .lo) (a .hi) (a .len) (a .addr) (a .cover)) (c .before .hop .given .1) (c .before .before .before .part-of .ensures)
 
 -- Its entries are its own, then those of its halves, under the hop that it was assigned.
-entries : (t : ℕ) (c : lts.After-assign-smallest (claims t) (entered t) write.Post)
-    → let a = c .before .before .before .before .before .before .before .before .before .before .before .before .args in
+entries : (t : ℕ) (c : lts.After-assign (claims t) (entered t) write.Post)
+    → let a = c .before .before .before .before .before .before .before .before .before .before .before .before .before .args in
     let k = c .before .before .hop .given .0 in
-    entriesAt 32 (a .table .now) (a .lo) (a .hi) (a .cover) (32 - a .len) (a .addr) (a .above)
-    ≡ (entryAt 32 (candidates t (c .before)) (32 - a .len) (a .addr) (a .above)
-    ++ entriesAt 32 (a .table .now) (k .1 .0) (k .1 .1 .0) (k .0) (32 - (a .len + 1)) (a .addr) (c .assign-smallest .result))
-    ++ entriesAt 32 (a .table .now) (k .1 .1 .0) (a .hi) (k .0) (32 - (a .len + 1)) (k .1 .1 .1 .0) (c .assign-smallest .result)
+    entriesAt (a .ranks .now) 32 (a .table .now) (a .lo) (a .hi) (a .cover) (32 - a .len) (a .addr) (a .above)
+    ≡ (entryAt (a .ranks .now) 32 (candidates t (c .before)) (32 - a .len) (a .addr) (a .above)
+    ++ entriesAt (a .ranks .now) 32 (a .table .now) (k .1 .0) (k .1 .1 .0) (k .0) (32 - (a .len + 1)) (a .addr) (c .assign .result))
+    ++ entriesAt (a .ranks .now) 32 (a .table .now) (k .1 .1 .0) (a .hi) (k .0) (32 - (a .len + 1)) (k .1 .1 .1 .0) (c .assign .result)
 entries t c =
-    let a = c .before .before .before .before .before .before .before .before .before .before .before .before .args in
+    let a = c .before .before .before .before .before .before .before .before .before .before .before .before .before .args in
     let h = halves t (c .before) in
     let bits : 32 - a .len ≡ suc (32 - (a .len + 1)) = omega (arith, h .0) in
-    entries-halves (h .1) bits (a .above) (c .assign-smallest .result) (c .assign-smallest .ensures .0 (candidates t (c .before)) (c .before .before .before .before .before .before .before .before .before .set-of .ensures))
+    entries-halves (h .1) bits (a .ranks .now) (a .above) (c .assign .result) (c .assign .ensures .0 (candidates t (c .before)) (c .before .before .before .before .before .before .before .before .before .set-of .ensures))
 
 -- Its own entry was put.
 own : (t : ℕ) (c : lts.After-known-told (claims t) (entered t) write.Post)
-    → let a = c .before .before .before .before .before .before .before .before .before .before .before .args in
-    Put (entryAt 32 (candidates t c) (32 - a .len) (a .addr) (a .above)) (c .before .before .before .before .before .before .write-entry .result) (a .out .now) (c .before .before .before .before .before .before .write-entry .last .1 .1 .1 .1 .0)
+    → let a = c .before .before .before .before .before .before .before .before .before .before .before .before .args in
+    Put (entryAt (a .ranks .now) 32 (candidates t c) (32 - a .len) (a .addr) (a .above)) (c .before .before .before .before .before .before .write-entry .result) (a .out .now) (c .before .before .before .before .before .before .write-entry .last .1 .1 .1 .1 .1 .0)
 own t c = c .before .before .before .before .before .before .write-entry .ensures (candidates t c) (c .before .before .before .before .before .before .before .before .set-of .ensures)
 
 -- All of them are few.
 few : (t : ℕ) (c : lts.After-write (claims t) (entered t) write.Post)
-    → let a = c .before .before .before .before .before .before .before .before .before .before .before .before .before .before .before .args in
+    → let a = c .before .before .before .before .before .before .before .before .before .before .before .before .before .before .before .before .args in
     let k = c .before .before .before .before .before .hop .given .0 in
     c .before .before .before .before .before .before .before .before .before .before .write-entry .result + c .write .result
-    + length (entriesAt 32 (a .table .now) (k .1 .1 .0) (a .hi) (k .0) (32 - (a .len + 1)) (k .1 .1 .1 .0) (c .before .before .before .assign-smallest .result)) < 2 ^ 33
+    + length (entriesAt (a .ranks .now) 32 (a .table .now) (k .1 .1 .0) (a .hi) (k .0) (32 - (a .len + 1)) (k .1 .1 .1 .0) (c .before .before .before .assign .result)) < 2 ^ 33
 few t c =
-    let a = c .before .before .before .before .before .before .before .before .before .before .before .before .before .before .before .args in
+    let a = c .before .before .before .before .before .before .before .before .before .before .before .before .before .before .before .before .args in
     let h = halves t (c .before .before .before .before) in
     let bits : 32 - a .len ≡ suc (32 - (a .len + 1)) = omega (arith, h .0) in
     omega (
       arith,
-      entries-few (a .table .now) (a .lo) (a .hi) (a .cover) (a .len) (a .addr) (a .above),
-      entries-count (h .1) bits (a .above) (c .before .before .before .assign-smallest .result)
-          (c .before .before .before .assign-smallest .ensures .0 (candidates t (c .before .before .before .before)) (c .before .before .before .before .before .before .before .before .before .before .before .before .set-of .ensures)),
+      entries-few (a .ranks .now) (a .table .now) (a .lo) (a .hi) (a .cover) (a .len) (a .addr) (a .above),
+      entries-count (h .1) bits (a .ranks .now) (a .above) (c .before .before .before .assign .result)
+          (c .before .before .before .assign .ensures .0 (candidates t (c .before .before .before .before)) (c .before .before .before .before .before .before .before .before .before .before .before .before .set-of .ensures)),
       own t (c .before .before .before .before) .counted,
       c .write .ensures .counted,
     )
 
 set-of-requires : (t : ℕ) → lts.Need-set-of-requires (claims t) (entered t) write.Post
-set-of-requires t c κs = c .before .before .pre .1
+set-of-requires t c κs = c .before .before .before .pre .1
 
 write-entry-requires : (t : ℕ) → lts.Need-write-entry-requires (claims t) (entered t) write.Post
 write-entry-requires t c κs = search needs
@@ -116,8 +116,8 @@ enum-told t c = search needs
 enum-known-hop : (t : ℕ) → lts.Need-enum-known-hop (claims t) (entered t) write.Post
 enum-known-hop t c = search needs
 
-assign-smallest-requires : (t : ℕ) → lts.Need-assign-smallest-requires (claims t) (entered t) write.Post
-assign-smallest-requires t c κs = search needs
+assign-requires : (t : ℕ) → lts.Need-assign-requires (claims t) (entered t) write.Post
+assign-requires t c κs = search needs
 
 past-requires : (t : ℕ) → lts.Need-past-requires (claims t) (entered t) write.Post
 past-requires t c κs = search needs
@@ -136,7 +136,7 @@ part-write-end t c = search needs
 
 write-requires : (t : ℕ) → lts.Need-write-requires (claims t) (entered t) write.Post
 write-requires t c κs =
-    let start = c .before .before .before .before .before .before .before .before .before .before .before .before .before .before in
+    let start = c .before .before .before .before .before .before .before .before .before .before .before .before .before .before .before in
     let h = halves t (c .before .before .before) in
     (omega (arith, start .pre .0, h .0), ((omega (arith, h .0), h .1 .left-run), start .pre .1 .1))
 
@@ -147,7 +147,7 @@ past-requires-2 : (t : ℕ) → lts.Need-past-requires-2 (claims t) (entered t) 
 past-requires-2 t c κs = search needs
 
 add-write-2 : (t : ℕ) → lts.Need-add-write-2 (claims t) (entered t) write.Post
-add-write-2 t c = let pre = c .before .before .before .before .before .before .before .before .before .before .before .before .before .before .before .before .before .before .pre in search needs
+add-write-2 t c = let pre = c .before .before .before .before .before .before .before .before .before .before .before .before .before .before .before .before .before .before .before .pre in search needs
 
 sub-write-2 : (t : ℕ) → lts.Need-sub-write-2 (claims t) (entered t) write.Post
 sub-write-2 t c = search needs
@@ -160,7 +160,7 @@ part-write-end-2 t c = search needs
 
 write-requires-2 : (t : ℕ) → lts.Need-write-requires-2 (claims t) (entered t) write.Post
 write-requires-2 t c κs =
-    let start = c .before .before .before .before .before .before .before .before .before .before .before .before .before .before .before .before .before .before .before in
+    let start = c .before .before .before .before .before .before .before .before .before .before .before .before .before .before .before .before .before .before .before .before in
     let h = halves t (c .before .before .before .before .before .before .before .before) in
     (omega (arith, start .pre .0, h .0), ((omega (arith, h .0), h .1 .right-run), start .pre .1 .1))
 
@@ -175,10 +175,10 @@ same-length t c = search needs
 
 returns : (t : ℕ) → lts.Need-returns (claims t) (entered t) write.Post
 returns t c =
-    let a = c .before .before .before .before .before .before .before .before .before .before .args in
+    let a = c .before .before .before .before .before .before .before .before .before .before .before .args in
     let S = setAt 32 (a .table .now) (a .lo) (a .hi) (a .cover) (32 - a .len) (a .addr) in
     let one = subst (PartOf (a .table .now) (a .lo) (a .hi) (a .len) (a .addr) (a .cover)) (c .enum-told .given .1) (c .before .before .part-of .ensures) in
-    rw (entries-uniform one (a .above)) (c .before .before .before .before .before .write-entry .ensures S (c .before .before .before .before .before .before .before .set-of .ensures))
+    rw (entries-uniform one (a .ranks .now) (a .above)) (c .before .before .before .before .before .write-entry .ensures S (c .before .before .before .before .before .before .before .set-of .ensures))
 
 same-length-2 : (t : ℕ) → lts.Need-same-length-2 (claims t) (entered t) write.Post
 same-length-2 t c = search needs
@@ -198,7 +198,7 @@ pub +write-spec : {M : Type 1} → statement M
     (part-of-requires t)
     (enum-told t)
     (enum-known-hop t)
-    (assign-smallest-requires t)
+    (assign-requires t)
     (past-requires t)
     (add-write t)
     (sub-write t)

@@ -7,7 +7,7 @@ use Rattle.table.specs.Checking.{checkedSays}
 use Rattle.table.proofs.Tables.{hops-below}
 use Rattle.calls.specs.Rewriting.{takesSet}
 use Rattle.calls.proofs.Ending.{refused-by, finished-by, same-last, default-hop, checked-count, checked-lawful}
-use Rattle.plain.proofs.Replies.{not-a-mode, not-a-hop, not-a-table, only-output}
+use Rattle.plain.proofs.Replies.{not-a-mode, not-a-hop, not-a-ranking, not-a-table, only-output}
 use Rattle.plain.proofs.Whole.{mode-had, mode-known, mode-checked, all-hopped, all-bare}
 use Rattle.plain.proofs.rewrite.Statement.{statement}
 use Rattle.plain.proofs.rewrite.Tie as tie
@@ -16,15 +16,24 @@ no-mode-requires : tie.Need-no-mode-requires
 no-mode-requires c κs = search needs
 
 returns : tie.Need-returns
-returns c = refused-by _ _ _ _ _ (not-a-mode _ _ _ _ _ (not-true _ (sym (c .before .no-mode .ensures) ∙ c .if1 .taken)))
+returns c = refused-by _ _ _ _ _ _ (not-a-mode _ _ _ _ _ _ (not-true _ (sym (c .before .no-mode .ensures) ∙ c .if1 .taken)))
 
 no-hop-requires : tie.Need-no-hop-requires
 no-hop-requires c κs = search needs
 
 returns-2 : tie.Need-returns-2
 returns-2 c =
-    refused-by _ _ _ _ _
-    (not-a-hop _ _ _ _ _ (not-false _ (sym (c .before .before .before .no-mode .ensures) ∙ c .before .before .if1 .left)) (not-true _ (sym (c .before .no-hop .ensures) ∙ c .if2 .taken)))
+    refused-by _ _ _ _ _ _
+    (not-a-hop _ _ _ _ _ _ (not-false _ (sym (c .before .before .before .no-mode .ensures) ∙ c .before .before .if1 .left)) (not-true _ (sym (c .before .no-hop .ensures) ∙ c .if2 .taken)))
+
+no-ranks-requires : tie.Need-no-ranks-requires
+no-ranks-requires c κs = search needs
+
+returns-3 : tie.Need-returns-3
+returns-3 c =
+    refused-by _ _ _ _ _ _
+    (not-a-ranking _ _ _ _ _ _ (not-false _ (sym (c .before .before .before .before .before .no-mode .ensures) ∙ c .before .before .before .before .if1 .left))
+    (not-false _ (sym (c .before .before .before .no-hop .ensures) ∙ c .before .before .if2 .left)) (not-true _ (sym (c .before .no-ranks .ensures) ∙ c .if3 .taken)))
 
 check-table-requires : tie.Need-check-table-requires
 check-table-requires c κs = search needs
@@ -40,12 +49,12 @@ fill-of-requires c κs = search needs
 
 rewrite-checked-requires : tie.Need-rewrite-checked-requires
 rewrite-checked-requires c κs =
-    let a = c .before .before .before .before .before .before .before .before .before .before .before .before .args in
-    let is = not-false _ (sym (c .before .before .before .before .before .before .before .before .before .no-mode .ensures) ∙ c .before .before .before .before .before .before .before .before .if1 .left) in
+    let a = c .before .before .before .before .before .before .before .before .before .before .before .before .before .before .before .args in
+    let is = not-false _ (sym (c .before .before .before .before .before .before .before .before .before .before .before .no-mode .ensures) ∙ c .before .before .before .before .before .before .before .before .before .before .if1 .left) in
     let had = mode-had (a .mode) is in
     let valid = mode-checked had (a .form) (a .table .now) (sym (c .before .before .before .before .before .check-table .ensures) ∙ ap checkedSays (c .before .before .before .records .given .1)) in
-    let lawful = checked-lawful (a .form) (takesSet (a .mode)) (a .table .now) _ valid (λ k. omega (arith, c .before .before .before .before .before .before .before .before .before .before .before .shared-slice-known .given k)) in
-    let hop = not-false _ (sym (c .before .before .before .before .before .before .before .no-hop .ensures) ∙ c .before .before .before .before .before .before .if2 .left) in
+    let lawful = checked-lawful (a .form) (takesSet (a .mode)) (a .table .now) _ valid (λ k. omega (arith, c .before .before .before .before .before .before .before .before .before .before .before .before .before .before .shared-slice-known .given k)) in
+    let hop = not-false _ (sym (c .before .before .before .before .before .before .before .before .before .no-hop .ensures) ∙ c .before .before .before .before .before .before .before .before .if2 .left) in
     let filled = c .before .fill-of .ensures in (
       is,
       (
@@ -60,26 +69,28 @@ rewrite-checked-requires c κs =
       ),
     )
 
-returns-3 : tie.Need-returns-3
-returns-3 c =
-    let a = c .before .before .before .before .before .before .before .before .before .before .args in
-    let is = not-false _ (sym (c .before .before .before .before .before .before .before .no-mode .ensures) ∙ c .before .before .before .before .before .before .if1 .left) in
+returns-4 : tie.Need-returns-4
+returns-4 c =
+    let a = c .before .before .before .before .before .before .before .before .before .before .before .before .before .args in
+    let is = not-false _ (sym (c .before .before .before .before .before .before .before .before .before .no-mode .ensures) ∙ c .before .before .before .before .before .before .before .before .if1 .left) in
     let refused = mode-checked (mode-had (a .mode) is) (a .form) (a .table .now) (sym (c .before .before .before .check-table .ensures) ∙ ap checkedSays (c .before .number .given .1)) in
-    refused-by _ _ _ _ _ (not-a-table _ _ _ _ _ is (not-false _ (sym (c .before .before .before .before .before .no-hop .ensures) ∙ c .before .before .before .before .if2 .left)) refused)
+    let ranked = not-false _ (sym (c .before .before .before .before .before .no-ranks .ensures) ∙ c .before .before .before .before .if3 .left) in
+    refused-by _ _ _ _ _ _ (not-a-table _ _ _ _ _ _ is (not-false _ (sym (c .before .before .before .before .before .before .before .no-hop .ensures) ∙ c .before .before .before .before .before .before .if2 .left)) ranked refused)
 
 same-length : tie.Need-same-length
 same-length c = search needs
 
-returns-4 : tie.Need-returns-4
-returns-4 c =
-    let a = c .before .before .before .before .before .before .before .before .before .before .before .before .before .before .before .args in
-    let is = not-false _ (sym (c .before .before .before .before .before .before .before .before .before .before .before .before .no-mode .ensures) ∙ c .before .before .before .before .before .before .before .before .before .before .before .if1 .left) in
-    let hop = not-false _ (sym (c .before .before .before .before .before .before .before .before .before .before .no-hop .ensures) ∙ c .before .before .before .before .before .before .before .before .before .if2 .left) in
+returns-5 : tie.Need-returns-5
+returns-5 c =
+    let a = c .before .before .before .before .before .before .before .before .before .before .before .before .before .before .before .before .before .before .args in
+    let is = not-false _ (sym (c .before .before .before .before .before .before .before .before .before .before .before .before .before .before .no-mode .ensures) ∙ c .before .before .before .before .before .before .before .before .before .before .before .before .before .if1 .left) in
+    let hop = not-false _ (sym (c .before .before .before .before .before .before .before .before .before .before .before .before .no-hop .ensures) ∙ c .before .before .before .before .before .before .before .before .before .before .before .if2 .left) in
     let had = mode-had (a .mode) is in
     let valid = mode-checked had (a .form) (a .table .now) (sym (c .before .before .before .before .before .before .before .before .check-table .ensures) ∙ ap checkedSays (c .before .before .before .before .before .before .records .given .1)) in
-    finished-by _ _ _ _ _
-    (only-output _ _ _ _ _ is hop valid
-    ∙ same-last _ _ _ _ _ (mode-known had) (λ five. c .before .before .before .before .fill-of .ensures .0 five (default-hop _ _ hop five)))
+    let ranked = not-false _ (sym (c .before .before .before .before .before .before .before .before .before .before .no-ranks .ensures) ∙ c .before .before .before .before .before .before .before .before .before .if3 .left) in
+    finished-by _ _ _ _ _ _
+    (only-output _ _ _ _ _ _ is hop ranked valid
+    ∙ same-last _ _ _ _ _ _ (mode-known had) (λ five. c .before .before .before .before .fill-of .ensures .0 five (default-hop _ _ hop five)))
     (c .before .before .rewrite-checked .ensures)
 
 pub rewrite-spec : {M : Type 1} → statement M
@@ -90,11 +101,13 @@ rewrite-spec =
     returns
     no-hop-requires
     returns-2
+    no-ranks-requires
+    returns-3
     check-table-requires
     enum-known-number
     enum-known-records
     fill-of-requires
     rewrite-checked-requires
-    returns-3
+    returns-4
     same-length
-    returns-4)
+    returns-5)

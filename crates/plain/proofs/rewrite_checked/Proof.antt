@@ -20,68 +20,68 @@ slice-aggregate-write c = search needs
 
 write-requires : tie.Need-write-requires
 write-requires c κs =
-    let start = c .before .before .before .before .before in
+    let start = c .before .before .before .before .before .before in
     let pre = start .pre in
     ((omega arith, all-run (start .args .table .now) (start .args .before) (pre .1 .0 .0) (pre .1 .1 .1)), pre .1 .0 .1 .0)
 
 returns : tie.Need-returns
 returns c =
-    let start = c .before .before .before .before .before .before .before .before in
+    let start = c .before .before .before .before .before .before .before .before .before in
     let a = start .args in
     let pre = start .pre in
-    let count = whole-count (a .table .now) (a .mode) (a .fill) (a .before) (pre .1 .0 .1 .1) (pre .1 .1 .0) (pre .1 .1 .1) (mode-had (a .mode) (pre .0))
+    let count = whole-count (a .table .now) (a .mode) (a .fill) (a .ranks .now) (a .before) (pre .1 .0 .1 .1) (pre .1 .1 .0) (pre .1 .1 .1) (mode-had (a .mode) (pre .0))
     (c .before .before .write .ensures) in
     let short = c .if2 .taken in
-    finished-refused _ _ _ _ (omega arith)
+    finished-refused _ _ _ _ _ (omega arith)
 
 write-requires-2 : tie.Need-write-requires-2
 write-requires-2 c κs =
-    let start = c .before .before .before .before .before in
+    let start = c .before .before .before .before .before .before in
     let pre = start .pre in
     ((omega arith, all-run (start .args .table .now) (start .args .before) (pre .1 .0 .0) (pre .1 .1 .1)), pre .1 .0 .1 .0)
 
 -- The records that are written are few, and the table's are those of a slice.
-few : (c : tie.After-slice-known2) → (c .before .before .write2 .result < 2 ^ 62) × (c .before .before .before .before .before .before .before .before .args .before < 2 ^ 62)
+few : (c : tie.After-slice-known2) → (c .before .before .write2 .result < 2 ^ 62) × (c .before .before .before .before .before .before .before .before .before .args .before < 2 ^ 62)
 few c =
-    let start = c .before .before .before .before .before .before .before .before in
+    let start = c .before .before .before .before .before .before .before .before .before in
     let a = start .args in
     let pre = start .pre in
     let counted = c .before .before .write2 .ensures .counted in
-    let most = entries-few (a .table .now) 0 (a .before) (a .fill) 0 0 64 in
+    let most = entries-few (a .ranks .now) (a .table .now) 0 (a .before) (a .fill) 0 0 64 in
     (omega arith, omega arith)
 
-cast-t20 : tie.Need-cast-t20
-cast-t20 c = let small = few c in search needs
-
 cast-t21 : tie.Need-cast-t21
-cast-t21 c = search needs
+cast-t21 c = let small = few c in search needs
 
-sub-t22 : tie.Need-sub-t22
-sub-t22 c = search (change-fits, few c)
+cast-t22 : tie.Need-cast-t22
+cast-t22 c = search needs
+
+sub-t23 : tie.Need-sub-t23
+sub-t23 c = search (change-fits, few c)
 
 same-length : tie.Need-same-length
 same-length c = search needs
 
 returns-2 : tie.Need-returns-2
 returns-2 c =
-    let start = c .before .before .before .before .before .before .before .before in
+    let start = c .before .before .before .before .before .before .before .before .before in
     let a = start .args in
     let pre = start .pre in
     let had = mode-had (a .mode) (pre .0) in
     let put = c .before .before .write2 .ensures in
-    let count = whole-count (a .table .now) (a .mode) (a .fill) (a .before) (pre .1 .0 .1 .1) (pre .1 .1 .0) (pre .1 .1 .1) had put in
+    let count = whole-count (a .table .now) (a .mode) (a .fill) (a .ranks .now) (a .before) (pre .1 .0 .1 .1) (pre .1 .1 .0) (pre .1 .1 .1) had put in
     let room : c .before .before .write2 .result ≤ length (a .output .now) / 8 =
     ⊎-elim
     (λ w.
-    let dry = whole-count (a .table .now) (a .mode) (a .fill) (a .before) (pre .1 .0 .1 .1) (pre .1 .1 .0) (pre .1 .1 .1) had (w .2 .ensures) in
+    let dry = whole-count (a .table .now) (a .mode) (a .fill) (a .ranks .now) (a .before) (pre .1 .0 .1 .1) (pre .1 .1 .0) (pre .1 .1 .1) had (w .2 .ensures) in
     let long = w .4 .left in
     omega arith)
     (λ w.
-    let most = result-most _ _ (a .fill) (mode-known had) (pre .1 .0 .0) (pre .1 .1 .1) (c .before .before .before .before .before .most-records .ensures) in
+    let most = result-most _ _ (a .fill) (a .ranks .now) (mode-known had) (pre .1 .0 .0) (pre .1 .1 .1) (c .before .before .before .before .before .most-records .ensures) in
     let long = w .left in
     omega arith)
     (c .before .before .before .before .if1 .came) in
-    whole-finished (a .table .now) (a .mode) (a .fill) (a .before) (pre .1 .0 .1 .1) (pre .1 .1 .0) (pre .1 .1 .1) had put room
+    whole-finished (a .table .now) (a .mode) (a .fill) (a .ranks .now) (a .before) (pre .1 .0 .1 .1) (pre .1 .1 .0) (pre .1 .1 .1) had put room
     (change-is (c .before .before .write2 .result) (a .before) (few c .0) (few c .1) ∙ rw (pre .1 .1 .1))
 
 pub rewrite-checked-spec : {M : Type 1} → statement M
@@ -93,8 +93,8 @@ rewrite-checked-spec =
     write-requires
     returns
     write-requires-2
-    cast-t20
     cast-t21
-    sub-t22
+    cast-t22
+    sub-t23
     same-length
     returns-2)

@@ -11,16 +11,16 @@ use Rattle.plain.proofs.write_entry.Statement.{statement}
 use Rattle.plain.proofs.write_entry.Tie as tie
 
 returns : tie.Need-returns
-returns c = λ S p. put-none _ (entry-hole _ _ _ (c .before .before .args .above) _ S p (c .if1 .taken))
+returns c = λ S p. put-none _ (entry-hole _ _ _ _ (c .before .before .before .args .above) _ S p (c .if1 .taken))
 
 has-requires : tie.Need-has-requires
 has-requires c κs = search needs
 
 returns-2 : tie.Need-returns-2
-returns-2 c = λ S p. put-none _ (entry-taken _ _ _ (c .before .before .before .before .args .above) _ S p (c .before .before .if1 .left) (λ s q. sym (c .if2 .taken) ∙ c .before .has .ensures s q))
+returns-2 c = λ S p. put-none _ (entry-taken _ _ _ _ (c .before .before .before .before .before .args .above) _ S p (c .before .before .if1 .left) (λ s q. sym (c .if2 .taken) ∙ c .before .has .ensures s q))
 
-smallest-requires : tie.Need-smallest-requires
-smallest-requires c κs = search needs
+lowest-requires : tie.Need-lowest-requires
+lowest-requires c κs = search needs
 
 put-record-requires : tie.Need-put-record-requires
 put-record-requires c κs = search needs
@@ -30,13 +30,13 @@ same-length c = search needs
 
 returns-3 : tie.Need-returns-3
 returns-3 c = λ S p.
-    let start = c .before .before .before .before .before .before .before .before .before in
+    let start = c .before .before .before .before .before .before .before .before .before .before in
     let a = start .args in
-    let least = c .before .before .before .smallest .ensures in
-    put-one (route (a .addr) (a .len) (c .before .before .before .smallest .result)) _ _
-    (entry-chosen 32 (32 - a .len) (a .addr) (a .above) _ S _ p (c .before .before .before .before .before .before .before .if1 .left)
+    let least = c .before .before .before .lowest .ensures in
+    put-one (route (a .addr) (a .len) (c .before .before .before .lowest .result)) _ _
+    (entry-chosen (a .ranks .now) 32 (32 - a .len) (a .addr) (a .above) _ S _ p (c .before .before .before .before .before .before .before .if1 .left)
     (λ s q. sym (c .before .before .before .before .before .if2 .left) ∙ c .before .before .before .before .before .before .has .ensures s q) (least .0)
-    ∙ ap (λ l. route (a .addr) l (c .before .before .before .smallest .result) ∷ []) (back 32 (a .len) (start .pre)))
+    ∙ ap (λ l. route (a .addr) l (c .before .before .before .lowest .result) ∷ []) (back 32 (a .len) (start .pre)))
     (c .before .before .put-record .ensures)
 
 pub write-entry-spec : {M : Type 1} → statement M
@@ -46,7 +46,7 @@ write-entry-spec =
     returns
     has-requires
     returns-2
-    smallest-requires
+    lowest-requires
     put-record-requires
     same-length
     returns-3)

@@ -1,5 +1,5 @@
 -- `turn` is safe and ends. Assumes nothing.
-use Prim.Native.Nat.{ℕ, _*_, _≤_}
+use Prim.Native.Nat.{ℕ, _≤_}
 use mathlib.Core.Path.{_≡_}
 use mathlib.Core.List.{List, _++_}
 use native.Mathlib.Omega.{arith}
@@ -7,164 +7,190 @@ use lib.ListN.{length, take, drop, length-append, length-take, length-drop}
 use borrow.Author.Needs.{needs}
 use Rattle.replay.proofs.turn.Statement.{statement}
 use Rattle.replay.proofs.turn.Tie as tie
-use Rattle.replay.proofs.turn.Reads as reads
-use Rattle.replay.proofs.turn.Lts as lts
-use Rattle.io.proofs.read_full.Reads as read-full-reads
-use Rattle.replay.proofs.steps_turn.Reads as steps-turn-reads
-use Rattle.replaying.proofs.call_of.Reads as call-of-reads
-use Rattle.replaying.proofs.cases.case_turn.Reads as case-turn-reads
-use Rattle.replaying.proofs.join2.Reads as join2-reads
-use Rattle.replaying.proofs.last_line.Reads as last-line-reads
 
--- The part of a room that was read has as many bytes as were asked for.
+-- The part of a table that was read has as many bytes as were asked for.
 read-part : (n : ℕ) (table part : List ℕ) → n ≤ length table → length part ≡ length (take n table) → n ≡ length (take n (part ++ drop n table))
 read-part n table part fits same =
     let size = length-take n table in
     simp (length-take, length-append, length-drop) (omega arith)
 
--- src/main.rt:76:43
 slice-aggregate-read-full : tie.Need-slice-aggregate-read-full
 slice-aggregate-read-full c = search needs
 
--- src/main.rt:76:9
 read-full-requires : tie.Need-read-full-requires
 read-full-requires c κs = search needs
 
--- src/main.rt:78:9
 returns : tie.Need-returns
 returns c = search needs
 
--- src/main.rt:84:26
 slice-aggregate-last-line : tie.Need-slice-aggregate-last-line
 slice-aggregate-last-line c = search needs
 
--- src/main.rt:84:9
 last-line-requires : tie.Need-last-line-requires
 last-line-requires c κs = search needs
 
--- src/main.rt:84:9
 same-length : tie.Need-same-length
 same-length c = search needs
 
--- src/main.rt:84:9
 returns-2 : tie.Need-returns-2
 returns-2 c = search needs
 
--- src/main.rt:86:22
-array-read-join2 : tie.Need-array-read-join2
-array-read-join2 c = search needs
+array-read-read-ranks : tie.Need-array-read-read-ranks
+array-read-read-ranks c = search needs
 
--- src/main.rt:86:32
-array-read-join2-2 : tie.Need-array-read-join2-2
-array-read-join2-2 c = search needs
+slice-aggregate-read-ranks : tie.Need-slice-aggregate-read-ranks
+slice-aggregate-read-ranks c = search needs
 
--- src/main.rt:86:9
-join2-requires : tie.Need-join2-requires
-join2-requires c κs = search needs
+read-ranks-requires : tie.Need-read-ranks-requires
+read-ranks-requires c κs = search needs
 
--- src/main.rt:87:36
-slice-relend-prefix-read-full : tie.Need-slice-relend-prefix-read-full
-slice-relend-prefix-read-full c = search needs
-
--- src/main.rt:87:36
-slice-aggregate-read-full-2 : tie.Need-slice-aggregate-read-full-2
-slice-aggregate-read-full-2 c = simp length-take (omega arith)
-
--- src/main.rt:87:8
-read-full-requires-2 : tie.Need-read-full-requires-2
-read-full-requires-2 c κs = search needs
-
--- src/main.rt:88:26
 slice-aggregate-last-line-2 : tie.Need-slice-aggregate-last-line-2
 slice-aggregate-last-line-2 c = search needs
 
--- src/main.rt:88:9
 last-line-requires-2 : tie.Need-last-line-requires-2
 last-line-requires-2 c κs = search needs
 
--- src/main.rt:88:9
 same-length-2 : tie.Need-same-length-2
 same-length-2 c = search needs
 
--- src/main.rt:88:9
-same-length-3 : tie.Need-same-length-3
-same-length-3 c = search needs
-
--- src/main.rt:88:9
 returns-3 : tie.Need-returns-3
 returns-3 c = search needs
 
--- src/main.rt:90:24
-array-read-call-of : tie.Need-array-read-call-of
-array-read-call-of c = search needs
+slice-aggregate-as-ranks : tie.Need-slice-aggregate-as-ranks
+slice-aggregate-as-ranks c = search needs
 
--- src/main.rt:90:9
-call-of-requires : tie.Need-call-of-requires
-call-of-requires c κs = search needs
+slice-aggregate-as-ranks-2 : tie.Need-slice-aggregate-as-ranks-2
+slice-aggregate-as-ranks-2 c = search needs
 
--- src/main.rt:93:38
-slice-reshare-prefix-steps-turn : tie.Need-slice-reshare-prefix-steps-turn
-slice-reshare-prefix-steps-turn c = search needs
+as-ranks-requires : tie.Need-as-ranks-requires
+as-ranks-requires c κs = search needs
 
--- src/main.rt:93:38
-slice-aggregate-steps-turn : tie.Need-slice-aggregate-steps-turn
-slice-aggregate-steps-turn c = read-part (c .before .before .before .before .before .before .before .before .before .before .join2 .result) (c .before .before .before .before .before .before .before .before .before .before .before .before .before .before .before .before .before .before .before .before .before .before .args .table .now) (c .before .before .before .before .before .before .before .before .read-full2 .last .1 .0) (omega (arith, c .before .before .before .before .before .before .before .before .before .before .join2 .ensures .1, c .before .before .before .before .before .before .before .before .before .before .before .before .before .before .before .before .before .before .before .before .before .before .pre .0)) (c .before .before .before .before .before .before .before .before .read-full2 .kept .1 .0)
+bytes-behind-requires : tie.Need-bytes-behind-requires
+bytes-behind-requires c κs = search needs
 
--- src/main.rt:93:13
-steps-turn-requires : tie.Need-steps-turn-requires
-steps-turn-requires c κs = search needs
+slice-aggregate-last-line-3 : tie.Need-slice-aggregate-last-line-3
+slice-aggregate-last-line-3 c = search needs
 
--- src/main.rt:93:13
-same-length-4 : tie.Need-same-length-4
-same-length-4 c = search needs
+last-line-requires-3 : tie.Need-last-line-requires-3
+last-line-requires-3 c κs = search needs
 
--- src/main.rt:93:13
-same-length-5 : tie.Need-same-length-5
-same-length-5 c = search needs
+same-length-3 : tie.Need-same-length-3
+same-length-3 c = search needs
 
--- src/main.rt:93:13
-same-length-6 : tie.Need-same-length-6
-same-length-6 c = search needs
-
--- src/main.rt:93:13
-same-length-7 : tie.Need-same-length-7
-same-length-7 c = search needs
-
--- src/main.rt:93:13
 returns-4 : tie.Need-returns-4
 returns-4 c = search needs
 
--- src/main.rt:96:22
-slice-reshare-prefix-case-turn : tie.Need-slice-reshare-prefix-case-turn
-slice-reshare-prefix-case-turn c = search needs
+steps-behind-requires : tie.Need-steps-behind-requires
+steps-behind-requires c κs = search needs
 
--- src/main.rt:96:22
-slice-aggregate-case-turn : tie.Need-slice-aggregate-case-turn
-slice-aggregate-case-turn c = read-part (c .before .before .before .before .before .before .before .before .before .join2 .result) (c .before .before .before .before .before .before .before .before .before .before .before .before .before .before .before .before .before .before .before .before .before .args .table .now) (c .before .before .before .before .before .before .before .read-full2 .last .1 .0) (omega (arith, c .before .before .before .before .before .before .before .before .before .join2 .ensures .1, c .before .before .before .before .before .before .before .before .before .before .before .before .before .before .before .before .before .before .before .before .before .pre .0)) (c .before .before .before .before .before .before .before .read-full2 .kept .1 .0)
+slice-aggregate-last-line-4 : tie.Need-slice-aggregate-last-line-4
+slice-aggregate-last-line-4 c = search needs
 
--- src/main.rt:96:5
-case-turn-requires : tie.Need-case-turn-requires
-case-turn-requires c κs = search needs
+last-line-requires-4 : tie.Need-last-line-requires-4
+last-line-requires-4 c κs = search needs
 
--- src/main.rt:57:1
+same-length-4 : tie.Need-same-length-4
+same-length-4 c = search needs
+
+returns-5 : tie.Need-returns-5
+returns-5 c = search needs
+
+slice-relend-prefix-read-full : tie.Need-slice-relend-prefix-read-full
+slice-relend-prefix-read-full c = search needs
+
+slice-aggregate-read-full-2 : tie.Need-slice-aggregate-read-full-2
+slice-aggregate-read-full-2 c = simp length-take (omega (arith, c .before .before .before .before .if4 .left, c .before .before .before .before .before .before .before .before .before .before .before .before .before .before .before .before .before .before .before .before .before .before .before .before .before .pre .0))
+
+read-full-requires-2 : tie.Need-read-full-requires-2
+read-full-requires-2 c κs = search needs
+
+slice-aggregate-last-line-5 : tie.Need-slice-aggregate-last-line-5
+slice-aggregate-last-line-5 c = search needs
+
+last-line-requires-5 : tie.Need-last-line-requires-5
+last-line-requires-5 c κs = search needs
+
+same-length-5 : tie.Need-same-length-5
+same-length-5 c = search needs
+
+same-length-6 : tie.Need-same-length-6
+same-length-6 c = search needs
+
+returns-6 : tie.Need-returns-6
+returns-6 c = search needs
+
+array-read-call-of : tie.Need-array-read-call-of
+array-read-call-of c = search needs
+
+call-of-requires : tie.Need-call-of-requires
+call-of-requires c κs = search needs
+
+slice-reshare-prefix-steps-turn : tie.Need-slice-reshare-prefix-steps-turn
+slice-reshare-prefix-steps-turn c = search needs
+
+slice-aggregate-steps-turn : tie.Need-slice-aggregate-steps-turn
+slice-aggregate-steps-turn c = read-part (c .before .before .before .before .before .before .before .before .before .before .before .before .before .before .bytes-behind .result) (c .before .before .before .before .before .before .before .before .before .before .before .before .before .before .before .before .before .before .before .before .before .before .before .before .before .before .before .before .before .before .before .before .before .before .args .table .now) (c .before .before .before .before .before .before .before .before .read-full2 .last .1 .0) (omega (arith, c .before .before .before .before .before .before .before .before .before .before .before .before .before .if4 .left, c .before .before .before .before .before .before .before .before .before .before .before .before .before .before .before .before .before .before .before .before .before .before .before .before .before .before .before .before .before .before .before .before .before .before .pre .0)) (c .before .before .before .before .before .before .before .before .read-full2 .kept .1 .0)
+
+slice-relend-prefix-steps-turn : tie.Need-slice-relend-prefix-steps-turn
+slice-relend-prefix-steps-turn c = omega (arith, c .before .before .before .before .before .before .before .before .before .before .before .if5 .left, c .before .before .before .before .before .before .before .before .before .before .before .before .before .before .before .before .before .before .before .before .before .before .before .before .before .before .before .before .before .before .before .before .before .before .before .pre .1 .1 .0)
+
+slice-aggregate-steps-turn-2 : tie.Need-slice-aggregate-steps-turn-2
+slice-aggregate-steps-turn-2 c = simp length-take (omega (arith, c .before .before .before .before .before .before .before .before .before .before .before .before .if5 .left, c .before .before .before .before .before .before .before .before .before .before .before .before .before .before .before .before .before .before .before .before .before .before .before .before .before .before .before .before .before .before .before .before .before .before .before .before .pre .1 .1 .0))
+
+steps-turn-requires : tie.Need-steps-turn-requires
+steps-turn-requires c κs =
+    let pre = c .before .before .before .before .before .before .before .before .before .before .before .before .before .before .before .before .before .before .before .before .before .before .before .before .before .before .before .before .before .before .before .before .before .before .before .before .before .pre in
+    let short = c .before .before .before .before .before .before .before .before .before .before .before .before .before .if5 .left in
+    (pre .1 .0, (simp length-take (omega (arith, short)), (pre .1 .1 .1 .1 .0, pre .1 .1 .1 .1 .1)))
+
+same-length-7 : tie.Need-same-length-7
+same-length-7 c = search needs
+
 same-length-8 : tie.Need-same-length-8
 same-length-8 c = search needs
 
--- src/main.rt:57:1
 same-length-9 : tie.Need-same-length-9
 same-length-9 c = search needs
 
--- src/main.rt:57:1
 same-length-10 : tie.Need-same-length-10
 same-length-10 c = search needs
 
--- src/main.rt:57:1
+returns-7 : tie.Need-returns-7
+returns-7 c = search needs
+
+slice-reshare-prefix-case-turn : tie.Need-slice-reshare-prefix-case-turn
+slice-reshare-prefix-case-turn c = search needs
+
+slice-aggregate-case-turn : tie.Need-slice-aggregate-case-turn
+slice-aggregate-case-turn c = read-part (c .before .before .before .before .before .before .before .before .before .before .before .before .before .bytes-behind .result) (c .before .before .before .before .before .before .before .before .before .before .before .before .before .before .before .before .before .before .before .before .before .before .before .before .before .before .before .before .before .before .before .before .before .args .table .now) (c .before .before .before .before .before .before .before .read-full2 .last .1 .0) (omega (arith, c .before .before .before .before .before .before .before .before .before .before .before .before .if4 .left, c .before .before .before .before .before .before .before .before .before .before .before .before .before .before .before .before .before .before .before .before .before .before .before .before .before .before .before .before .before .before .before .before .before .pre .0)) (c .before .before .before .before .before .before .before .read-full2 .kept .1 .0)
+
+array-share-prefix-ranks : tie.Need-array-share-prefix-ranks
+array-share-prefix-ranks c = search needs
+
+slice-aggregate-case-turn-2 : tie.Need-slice-aggregate-case-turn-2
+slice-aggregate-case-turn-2 c = simp length-take (omega (arith, c .before .before .before .before .before .before .before .before .before .before .before .before .before .before .before .before .before .before .before .before .before .before .read-ranks .ensures, c .before .before .before .before .before .before .before .before .before .before .before .before .before .before .before .before .before .before .before .before .if3 .left, c .before .before .before .before .before .before .before .before .before .before .before .before .before .before .before .before .before .as-ranks .kept .1 .0))
+
+case-turn-requires : tie.Need-case-turn-requires
+case-turn-requires c κs =
+    let pre = c .before .before .before .before .before .before .before .before .before .before .before .before .before .before .before .before .before .before .before .before .before .before .before .before .before .before .before .before .before .before .before .before .before .before .before .before .before .pre in
+    let few = c .before .before .before .before .before .before .before .before .before .before .before .before .before .before .before .before .if4 .left in
+    let whole = read-part (c .before .before .before .before .before .before .before .before .before .before .before .before .before .before .before .before .before .bytes-behind .result) (c .before .before .before .before .before .before .before .before .before .before .before .before .before .before .before .before .before .before .before .before .before .before .before .before .before .before .before .before .before .before .before .before .before .before .before .before .before .args .table .now) (c .before .before .before .before .before .before .before .before .before .before .before .read-full2 .last .1 .0) (omega (arith, few, pre .0)) (c .before .before .before .before .before .before .before .before .before .before .before .read-full2 .kept .1 .0) in
+    (omega (arith, few, whole), (pre .1 .1 .0, (pre .1 .1 .1 .0, (pre .1 .1 .1 .1 .0, pre .1 .1 .1 .1 .1))))
+
 same-length-11 : tie.Need-same-length-11
 same-length-11 c = search needs
 
--- src/main.rt:57:1
-returns-5 : tie.Need-returns-5
-returns-5 c = search needs
+same-length-12 : tie.Need-same-length-12
+same-length-12 c = search needs
+
+same-length-13 : tie.Need-same-length-13
+same-length-13 c = search needs
+
+same-length-14 : tie.Need-same-length-14
+same-length-14 c = search needs
+
+returns-8 : tie.Need-returns-8
+returns-8 c = search needs
 
 pub turn-spec : {M : Type 1} → statement M
 turn-spec =
@@ -177,32 +203,53 @@ turn-spec =
     last-line-requires
     same-length
     returns-2
-    array-read-join2
-    array-read-join2-2
-    join2-requires
-    slice-relend-prefix-read-full
-    slice-aggregate-read-full-2
-    read-full-requires-2
+    array-read-read-ranks
+    slice-aggregate-read-ranks
+    read-ranks-requires
     slice-aggregate-last-line-2
     last-line-requires-2
     same-length-2
-    same-length-3
     returns-3
+    slice-aggregate-as-ranks
+    slice-aggregate-as-ranks-2
+    as-ranks-requires
+    bytes-behind-requires
+    slice-aggregate-last-line-3
+    last-line-requires-3
+    same-length-3
+    returns-4
+    steps-behind-requires
+    slice-aggregate-last-line-4
+    last-line-requires-4
+    same-length-4
+    returns-5
+    slice-relend-prefix-read-full
+    slice-aggregate-read-full-2
+    read-full-requires-2
+    slice-aggregate-last-line-5
+    last-line-requires-5
+    same-length-5
+    same-length-6
+    returns-6
     array-read-call-of
     call-of-requires
     slice-reshare-prefix-steps-turn
     slice-aggregate-steps-turn
+    slice-relend-prefix-steps-turn
+    slice-aggregate-steps-turn-2
     steps-turn-requires
-    same-length-4
-    same-length-5
-    same-length-6
     same-length-7
-    returns-4
-    slice-reshare-prefix-case-turn
-    slice-aggregate-case-turn
-    case-turn-requires
     same-length-8
     same-length-9
     same-length-10
+    returns-7
+    slice-reshare-prefix-case-turn
+    slice-aggregate-case-turn
+    array-share-prefix-ranks
+    slice-aggregate-case-turn-2
+    case-turn-requires
     same-length-11
-    returns-5)
+    same-length-12
+    same-length-13
+    same-length-14
+    returns-8)

@@ -26,16 +26,16 @@ put-rewritten-requires : tie.Need-put-rewritten-requires
 put-rewritten-requires c κs =
     let done = c .before .before .before .before .before .before .rewrite in
     let filled = c .before .before .before .before .before .before .before .before .before .before .fill .kept .0 in
-    let fits = by-fits _ _ _ _ _ _ (plain-guarded _ _ _ _ _) _ _ (done .ensures) in
-    let start = c .before .before .before .before .before .before .before .before .before .before .before .before .before .before .before in
-    (fits, omega (arith, fits, done .kept .1 .1 .1 .1 .0, filled, start .pre .0, c .before .before .room-for .ensures .1))
+    let fits = by-fits _ _ _ _ _ _ _ (plain-guarded _ _ _ _ _ _) _ _ (done .ensures) in
+    let start = c .before .before .before .before .before .before .before .before .before .before .before .before .before .before .before .before in
+    (fits, omega (arith, fits, done .kept .1 .1 .1 .1 .1 .0, filled, start .pre .0, c .before .before .room-for .ensures .1))
 
 written-requires : tie.Need-written-requires
 written-requires c κs =
     let done = c .before .before .before .before .before .before .before .before .before .before .rewrite in
     let filled = c .before .before .before .before .before .before .before .before .before .before .before .before .before .before .fill .kept .0 in
-    let start = c .before .before .before .before .before .before .before .before .before .before .before .before .before .before .before .before .before .before .before in
-    omega (arith, by-fits _ _ _ _ _ _ (plain-guarded _ _ _ _ _) _ _ (done .ensures), done .kept .1 .1 .1 .1 .0, filled, start .pre .0)
+    let start = c .before .before .before .before .before .before .before .before .before .before .before .before .before .before .before .before .before .before .before .before in
+    omega (arith, by-fits _ _ _ _ _ _ _ (plain-guarded _ _ _ _ _ _) _ _ (done .ensures), done .kept .1 .1 .1 .1 .1 .0, filled, start .pre .0)
 
 keep-output-requires : tie.Need-keep-output-requires
 keep-output-requires c κs = search needs
@@ -48,17 +48,17 @@ same-length-2 c = search needs
 
 returns : tie.Need-returns
 returns c =
-    let start = c .before .before .before .before .before .before .before .before .before .before .before .before .before .before .before .before .before .before .before .before .before .before .before .before in
+    let start = c .before .before .before .before .before .before .before .before .before .before .before .before .before .before .before .before .before .before .before .before .before .before .before .before .before in
     let s = start .args in
     let bytes = c .before .before .before .before .before .before .before .before .before .before .before .before .before .before .before .before .before .before .before .fill in
     let done = c .before .before .before .before .before .before .before .before .before .before .before .before .before .before .before .rewrite in
     let nothing =
     c .before .before .keep-output .ensures
-    (rw (c .before .before .before .before .written .ensures) (output-filled _ _ _ _ _ _ (plain-guarded _ _ _ _ _) _ 165 (length (s .output .now)) (bytes .ensures) _ (done .ensures))) in
+    (rw (c .before .before .before .before .written .ensures) (output-filled _ _ _ _ _ _ _ (plain-guarded _ _ _ _ _ _) _ 165 (length (s .output .now)) (bytes .ensures) _ (done .ensures))) in
     put-at (c .before .before .before .before .before .before .before .before .before .before .before .room-for .ensures .0) (nothing .0) (nothing .1)
     (put-as
-    (by-text _ _ _ _ _ _ (plain-guarded _ _ _ _ _) _ (ltb 2 (s .mode)) (λ k. c .before .before .before .before .before .before .before .before .before .before .before .before .before .before .before .before .before .before .before .before .before .before .before .shared-slice-known .given k .fits) _ (done .ensures)
-    ∙ ap (plainAnswer (s .form) (s .table .now) (s .mode) (s .default)) (ap length (bytes .ensures) ∙ length-replicate _ _))
+    (by-text _ _ _ _ _ _ _ (plain-guarded _ _ _ _ _ _) _ (ltb 2 (s .mode)) (λ k. c .before .before .before .before .before .before .before .before .before .before .before .before .before .before .before .before .before .before .before .before .before .before .before .before .shared-slice-known .given k .fits) _ (done .ensures)
+    ∙ ap (plainAnswer (s .form) (s .table .now) (s .mode) (s .default) (s .ranks .now)) (ap length (bytes .ensures) ∙ length-replicate _ _))
     (c .before .before .before .before .before .before .before .before .put-rewritten .ensures))
 
 pub keep-plain-spec : {M : Type 1} → statement M

@@ -36,10 +36,10 @@ slice-relend-prefix-keep-plain : tie.Need-slice-relend-prefix-keep-plain
 slice-relend-prefix-keep-plain c = search needs
 
 slice-aggregate-keep-plain : tie.Need-slice-aggregate-keep-plain
-slice-aggregate-keep-plain c = simp length-take (omega (arith, c .before .before .before .before .before .join2 .ensures .1, c .before .before .before .before .before .before .before .before .before .before .before .pre .0))
+slice-aggregate-keep-plain c = simp length-take (omega (arith, c .before .before .before .before .before .join2 .ensures .1, c .before .before .before .before .before .before .before .before .before .before .before .before .pre .0))
 
 keep-plain-requires : tie.Need-keep-plain-requires
-keep-plain-requires c κs = (simp length-take (omega (arith, c .before .before .before .before .before .before .join2 .ensures .1)), c .before .before .before .before .before .before .before .before .before .before .before .before .pre .1)
+keep-plain-requires c κs = (simp length-take (omega (arith, c .before .before .before .before .before .before .join2 .ensures .1)), c .before .before .before .before .before .before .before .before .before .before .before .before .before .pre .1)
 
 same-length : tie.Need-same-length
 same-length c = search needs
@@ -49,11 +49,11 @@ same-length-2 c = search needs
 
 returns : tie.Need-returns
 returns c =
-    let start = c .before .before .before .before .before .before .before .before .before .before .before .before .before .before .before .before .before in
+    let start = c .before .before .before .before .before .before .before .before .before .before .before .before .before .before .before .before .before .before in
     let s = start .args in
     let room = c .before .before .before .before .before .before .before .before .before .before .before .join2 in
     put-as
-    (ap₂ (λ (form : Form) (bytes : ℕ). plainAnswer form (s .table .now) (byte (s .head .now) 1) (byte (s .head .now) 2) bytes) (c .before .before .before .before .before .before .before .form-of .ensures)
+    (ap₂ (λ (form : Form) (bytes : ℕ). plainAnswer form (s .table .now) (byte (s .head .now) 1) (byte (s .head .now) 2) (s .ranks .now) bytes) (c .before .before .before .before .before .before .before .form-of .ensures)
     (length-take-le _ _ (omega (arith, room .ensures .1, start .pre .0)) ∙ room .ensures .0))
     (c .before .before .before .before .keep-plain .ensures)
 

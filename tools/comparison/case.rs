@@ -213,7 +213,7 @@ impl Answer {
             Answer::Rewritten(routes, change) => {
                 for &(address, length, hop) in routes {
                     let _ = match mode {
-                        1 | 2 => writeln!(text, "{}/{length}", dotted(address)),
+                        1 => writeln!(text, "{}/{length}", dotted(address)),
                         _ => writeln!(text, "{}/{length} {hop}", dotted(address)),
                     };
                 }

@@ -68,6 +68,9 @@ fn mask(length: u32) -> u32 {
     u32::MAX.checked_shl(32 - length).unwrap_or(0)
 }
 
+/// The modes that there are. Mode 2 is retired.
+const MODES: [u8; 4] = [1, 3, 4, 5];
+
 /// The shapes of tables. The last ones are of about 1,024 records.
 pub const SHAPES: [&str; 24] = [
     "empty",
@@ -265,7 +268,7 @@ fn without_hops(routes: Vec<Route>) -> Vec<Route> {
 }
 
 fn is_set(call: u8, mode: u8) -> bool {
-    call == COVER || call == REWRITE && mode <= 2
+    call == COVER || call == REWRITE && mode == 1
 }
 
 /// A prefix to ask for: a record's, one near it, or any.
@@ -463,7 +466,7 @@ fn whole(random: &mut Random, call: u8, mode: u8, shape: usize, rooms: usize) ->
 /// The numbers that a call can give.
 pub fn numbers(call: u8) -> &'static [u8] {
     match call {
-        REWRITE => &[1, 2, 15, 3, 4, 5, 6, 7, 8, 10, 11],
+        REWRITE => &[1, 16, 2, 15, 3, 4, 5, 6, 7, 8, 10, 11],
         COVER => &[3, 4, 5, 6, 7, 8, 9, 10],
         UNROUTED => &[3, 4, 5, 6, 7, 8, 11],
         CHIP => &[3, 4, 5, 6, 7, 8, 12],
@@ -485,8 +488,8 @@ pub fn pairs(call: u8) -> Vec<(u8, u8, Order)> {
     let mut pairs = Vec::new();
     for (i, &first) in numbers(call).iter().enumerate() {
         for &second in &numbers(call)[i + 1..] {
-            if first == 1 && (second == 2 || second == 15) {
-                continue; // one needs a mode that is not 1 to 5, the other mode 4 or 5
+            if [1, 16].contains(&first) && [16, 2, 15].contains(&second) {
+                continue; // one needs a mode that there is not, or mode 2; the other mode 2, 4 or 5
             }
             pairs.push((first, second, Order::Same));
             if (5..=8).contains(&first) && (5..=8).contains(&second) {
@@ -538,12 +541,13 @@ fn damaged(random: &mut Random, call: u8, first: u8, second: u8, order: Order, s
     let has = |number: u8| first == number || second == number;
     let mode = match call {
         REWRITE if has(1) => random.pick(&[0, 6, 255]),
+        REWRITE if has(16) => 2,
         REWRITE if has(2) => 5,
         REWRITE if has(15) => random.pick(&[4, 5]),
-        REWRITE => random.within(1, 5) as u8,
-        _ => random.pick(&[0, 1, 6, 255]),
+        REWRITE => random.pick(&MODES),
+        _ => random.pick(&[0, 1, 2, 6, 255]),
     };
-    let set = is_set(call, mode) || call == REWRITE && has(1);
+    let set = is_set(call, mode) || call == REWRITE && (has(1) || has(16));
     let mut case = blank(call, mode);
     case.default = if has(2) { random.pick(&[64, 64, 65, 255]) } else { random.pick(&[0, 62, 63]) };
     // Lengths of 13 to 30 leave a host bit to set, and no record lies in another: every mode has a result.
@@ -591,7 +595,7 @@ fn damaged(random: &mut Random, call: u8, first: u8, second: u8, order: Order, s
                 case.work = if random.chance(70) { case.work - 1 } else { 0 };
             }
         }
-    } else if has(1) || has(2) || has(15) || has(4) || has(9) {
+    } else if has(1) || has(16) || has(2) || has(15) || has(4) || has(9) {
         // The need of work room or output is not defined here, or does not matter: none, or plenty.
         case.work = if has(10) { 0 } else { 16_384 };
         case.room = if has(11) { 0 } else { 8 * (count as u16 + 1) };
@@ -675,7 +679,7 @@ pub fn seeded(seed: u64, index: u64) -> Made {
             return damaged(random, call, first, second, order, size);
         }
     }
-    let mode = if call == REWRITE { random.within(1, 5) as u8 } else { random.pick(&[0, 1, 6, 255]) };
+    let mode = if call == REWRITE { random.pick(&MODES) } else { random.pick(&[0, 1, 2, 6, 255]) };
     let shape = if random.chance(2) { random.within(LARGE, SHAPES.len() - 1) } else { random.below(LARGE) };
     let rooms = if random.chance(70) { random.below(2) } else { random.within(2, ROOMS.len() - 1) };
     whole(random, call, mode, shape, rooms)
@@ -707,13 +711,11 @@ fn prefixes(text: &str) -> Vec<Route> {
     text.split_whitespace().map(prefix).collect()
 }
 
-/// The worked routes of document 01: number, mode, default, input, result, change.
-pub const WORKED: [(u8, u8, u8, &str, &str, i64); 16] = [
+/// The worked routes of document 01, but for mode 2 in cases 3 and 4, which is retired: number, mode, default, input, result, change.
+pub const WORKED: [(u8, u8, u8, &str, &str, i64); 14] = [
     (1, 1, 0, "", "", 0),
     (2, 1, 0, "10.0.0.0/9 10.128.0.0/9", "10.0.0.0/8", -1),
-    (3, 2, 0, "10.0.0.0/9 10.128.0.0/9", "10.0.0.0/9 10.128.0.0/9", 0),
     (4, 1, 0, "10.0.0.0/8 10.1.0.0/16", "10.0.0.0/8", -1),
-    (4, 2, 0, "10.0.0.0/8 10.1.0.0/16", "10.0.0.0/8", -1),
     (5, 1, 0, "0.0.0.0/1 128.0.0.0/1", "0.0.0.0/0", -1),
     (6, 1, 0, "192.0.2.0/32 192.0.2.1/32", "192.0.2.0/31", -1),
     (7, 1, 0, "192.0.2.1/32 192.0.2.2/32", "192.0.2.1/32 192.0.2.2/32", 0),
@@ -749,7 +751,7 @@ pub fn fixed() -> Vec<Made> {
         }
     };
     for shape in 0..LARGE {
-        for mode in 1..=5 {
+        for mode in MODES {
             list.push(small(random, REWRITE, mode, shape, 0));
             let rooms = random.within(1, 4);
             list.push(small(random, REWRITE, mode, shape, rooms));
@@ -760,7 +762,7 @@ pub fn fixed() -> Vec<Made> {
         }
     }
     for (mode, shape, rooms) in
-        [(1, 21, 0), (1, 20, 0), (2, 22, 0), (3, 23, 0), (4, 23, 0), (4, 20, 2), (4, 19, 0), (5, 22, 3), (5, 20, 0)]
+        [(1, 21, 0), (1, 20, 0), (1, 22, 0), (3, 23, 0), (4, 23, 0), (4, 20, 2), (4, 19, 0), (5, 22, 3), (5, 20, 0)]
     {
         list.push(small(random, REWRITE, mode, shape, rooms));
     }
@@ -808,7 +810,7 @@ pub fn fixed() -> Vec<Made> {
     // The edges of modes, defaults and query lengths.
     let table = table_of(&[prefix("10.0.0.0/8>63"), prefix("10.0.0.0/9>0")]);
     let set = table_of(&[prefix("0.0.0.0/1"), prefix("128.0.0.0/1")]);
-    for mode in [0, 6, 255] {
+    for mode in [0, 2, 6, 255] {
         list.push(edge(REWRITE, mode, 0, 0, &table));
     }
     for (mode, default) in [(5, 63), (5, 64), (5, 255), (4, 64), (3, 255)] {
@@ -819,8 +821,8 @@ pub fn fixed() -> Vec<Made> {
     let turned = |by: u8| (0..64).map(|hop| (hop + by) % 64).collect::<Vec<u8>>();
     let lists = [Vec::new(), turned(0), turned(1), turned(2), turned(62), turned(63), (0..64).rev().collect(), vec![0; 64], turned(0)[..63].to_vec()];
     for ranks in lists.into_iter().chain([[&turned(0)[..], &[64]].concat(), [&turned(0)[..63], &[64]].concat(), vec![0; 255]]) {
-        for mode in [1, 3, 4, 5] {
-            let mut made = edge(REWRITE, mode, 62, 0, if mode == 1 { &set } else { &side_by_side });
+        for mode in [1, 2, 3, 4, 5] {
+            let mut made = edge(REWRITE, mode, 62, 0, if mode <= 2 { &set } else { &side_by_side });
             made.case.ranks = Some(ranks.clone());
             list.push(made);
         }

@@ -108,7 +108,7 @@ fn followed_by_crate(old: &[Route], new: &[Route], steps: &[plans::Step], good: 
     good == (table == goal) || every > 1 && !good
 }
 
-/// The answer that is expected: refusals 1 to 9, 12 to 15 and 23 to 28, the list of what has no route, the chip's image and plans by the model, all else by
+/// The answer that is expected: refusals 1 to 9, 12 to 16 and 23 to 28, the list of what has no route, the chip's image and plans by the model, all else by
 /// the crate, which is asked about those all the same.
 fn expected(case: &Case) -> Answer {
     if case.call == CHECK || case.call == PLAN {
@@ -134,6 +134,10 @@ fn expected(case: &Case) -> Answer {
         REWRITE if work_short() => Answer::Refused(10, 0),
         REWRITE | PLAIN => {
             let (out, change) = rewritten_by_crate(case, &routes);
+            if case.mode == 1 {
+                let of_retired = oracle::rewrite(1, 0, &oracle::consistent_set(&routes)).0;
+                assert!(of_retired == out, "the crate's mode 1 makes something else of what its mode 2 wrote");
+            }
             if (case.room as usize) < 8 * out.len() {
                 Answer::Refused(11, 0)
             } else {

@@ -17,7 +17,6 @@ pub enum Fault {
     NodeEdgeInherits,
     DefaultIsZero,
     AnyAncestor,
-    ParentOnly,
     MergeUnaligned,
     NoMerge,
     ChangeBackwards,
@@ -71,10 +70,12 @@ pub enum Fault {
     RanksReadInMode3,
     RankTwiceTaken,
     FewRanksTaken,
+    RetiredIsUnknown,
+    RetiredAnswers,
 }
 
 /// Each planted mistake and what it does wrong.
-pub const FAULTS: [(Fault, &str); 61] = [
+pub const FAULTS: [(Fault, &str); 62] = [
     (Fault::LargestHop, "modes 4, 5: the largest hop of a set instead of the smallest"),
     (Fault::HoleIsEmptySet, "mode 4: a hole taken as an empty set"),
     (Fault::AlwaysSmallest, "modes 4, 5: the smallest hop even where the hop above is in the set"),
@@ -82,10 +83,9 @@ pub const FAULTS: [(Fault, &str); 61] = [
     (Fault::NodeEdgeInherits, "modes 4, 5: a node's position 0 assumed equal to the position above it"),
     (Fault::DefaultIsZero, "mode 5: the default read as 0"),
     (Fault::AnyAncestor, "mode 3: compared with any entry above instead of the nearest"),
-    (Fault::ParentOnly, "mode 2: only members one bit longer dropped"),
     (Fault::MergeUnaligned, "mode 1: neighbours merged without alignment"),
     (Fault::NoMerge, "mode 1: neighbours not merged"),
-    (Fault::ChangeBackwards, "modes 1 to 5: the change with the other sign"),
+    (Fault::ChangeBackwards, "every mode: the change with the other sign"),
     (Fault::QueryTailCounts, "cover query: query bits past the length are read"),
     (Fault::CoverWithoutMerge, "cover query: only a member at or above the query covers it"),
     (Fault::ShortestMatch, "lookup: the shortest match"),
@@ -136,6 +136,8 @@ pub const FAULTS: [(Fault, &str); 61] = [
     (Fault::RanksReadInMode3, "number 15: given in mode 3"),
     (Fault::RankTwiceTaken, "number 15: not given where a number is there twice"),
     (Fault::FewRanksTaken, "number 15: not given where there are fewer than 64"),
+    (Fault::RetiredIsUnknown, "number 16: mode 2 given 1, as an unknown mode"),
+    (Fault::RetiredAnswers, "number 16: mode 2 answered as mode 1"),
 ];
 
 /// The first `length` bits set.
@@ -213,12 +215,14 @@ fn chosen(set: u64, ranks: &[u8], fault: Fault) -> u8 {
     hop.expect("a set has a hop")
 }
 
-/// The routes of an accepted call's table, or the refusal by a number of 1 to 9, 14 or 15.
+/// The routes of an accepted call's table, or the refusal by a number of 1 to 9 or 14 to 16.
 pub fn accepted(case: &Case, fault: Fault) -> Result<Vec<Route>, (u8, usize)> {
     if case.call == REWRITE || case.call == PLAIN {
         let known = match case.call {
+            _ if case.mode == 2 && fault == Fault::RetiredAnswers => true,
+            _ if case.mode == 2 && fault != Fault::RetiredIsUnknown => return Err((16, 0)),
             PLAIN => [1, 4, 5].contains(&case.mode) || case.mode == 3 && fault == Fault::PlainTakesMode3,
-            _ => (1..=5).contains(&case.mode),
+            _ => [1, 3, 4, 5].contains(&case.mode),
         };
         if !known {
             return Err((1, 0));
@@ -413,11 +417,16 @@ fn nearest_above<'a>(routes: &'a [Route], route: &Route) -> Option<&'a Route> {
     routes.iter().filter(|other| lies_in(route, other)).max_by_key(|other| other.1)
 }
 
+/// The records that lie in no other.
+fn outermost(routes: &[Route]) -> Vec<Route> {
+    routes.iter().copied().filter(|route| nearest_above(routes, route).is_none()).collect()
+}
+
 fn rewritten(mode: u8, default: u8, ranks: &[u8], routes: &[Route], fault: Fault) -> Vec<Route> {
     let mut out = Vec::new();
     match mode {
-        1 if fault == Fault::NoMerge => return rewritten(2, default, ranks, routes, Fault::None),
-        1 => {
+        1 if fault == Fault::NoMerge => return outermost(routes),
+        1 | 2 => {
             Position::root(routes).maximal_covered(&mut out);
             if fault == Fault::MergeUnaligned {
                 let mut merged: Vec<Route> = Vec::new();
@@ -428,17 +437,6 @@ fn rewritten(mode: u8, default: u8, ranks: &[u8], routes: &[Route], fault: Fault
                     }
                 }
                 return merged;
-            }
-        }
-        2 => {
-            for route in routes {
-                let kept = match fault {
-                    Fault::ParentOnly => !routes.iter().any(|other| other.1 + 1 == route.1 && lies_in(route, other)),
-                    _ => nearest_above(routes, route).is_none(),
-                };
-                if kept {
-                    out.push(*route);
-                }
             }
         }
         3 => {

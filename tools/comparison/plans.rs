@@ -443,8 +443,8 @@ pub fn damaged(random: &mut Random, call: u8, first: u8, second: u8) -> Made {
 /// Any case of either call.
 pub fn seeded(random: &mut Random, call: u8) -> Made {
     if random.chance(20) {
-        if random.chance(30) {
-            let number = random.pick(numbers(call));
+        if random.chance(40) {
+            let number = if call == CHECK && random.chance(40) { 13 } else { random.pick(numbers(call)) };
             return damaged(random, call, number, 0);
         }
         let (first, second) = random.pick(&pairs(call));

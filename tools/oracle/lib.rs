@@ -72,7 +72,7 @@ pub fn nodes(routes: &[Route]) -> usize {
     count
 }
 
-/// Modes 1 to 5: the entries afterwards, sorted, and the change that the crate's method answers.
+/// Modes 1 and 3 to 5: the entries afterwards, sorted, and the change that the crate's method answers.
 pub fn rewrite(mode: u8, default: u8, routes: &[Route]) -> (Vec<Route>, i64) {
     let set = || filled(routes.iter().copied(), |_| ());
     let map = || filled(routes.iter().copied(), |hop| hop);
@@ -81,11 +81,6 @@ pub fn rewrite(mode: u8, default: u8, routes: &[Route]) -> (Vec<Route>, i64) {
         1 => {
             let mut table = set();
             let (_, change) = unsafe { table.aggregate_set(Loc::root(), 0) };
-            (entries(&table, |_| 0), change)
-        }
-        2 => {
-            let mut table = set();
-            let change = unsafe { table.aggregate_consistent_set(Loc::root(), 0) };
             (entries(&table, |_| 0), change)
         }
         3 => {
@@ -103,8 +98,16 @@ pub fn rewrite(mode: u8, default: u8, routes: &[Route]) -> (Vec<Route>, i64) {
             let change = table.aggregate_map::<u32, _>(Aggregation::Fill(|| default));
             (entries(&table, |hop| *hop), change)
         }
-        _ => panic!("the crate has no mode {mode}"),
+        _ => panic!("mode {mode} is not asked of the crate"),
     }
+}
+
+/// The crate's mode that the library has not: the records that lie in no other.
+pub fn consistent_set(routes: &[Route]) -> Vec<Route> {
+    let mut table = filled(routes.iter().copied(), |_| ());
+    // SAFETY: the root is always a live node.
+    unsafe { table.aggregate_consistent_set(Loc::root(), 0) };
+    entries(&table, |_| 0)
 }
 
 /// How far `rewrite_records` goes.
@@ -145,15 +148,12 @@ fn write_entries<T>(table: &Table<T>, hop: impl Fn(&T) -> u8, output: &mut [u8])
     count
 }
 
-/// Modes 1 to 5 from records to records: fills a table, aggregates it, and writes its entries. Says how many there are, 0 where it stops
+/// Modes 1 and 3 to 5 from records to records: fills a table, aggregates it, and writes its entries. Says how many there are, 0 where it stops
 /// at an earlier stage.
 pub fn rewrite_records(mode: u8, default: u8, records: &[u8], output: &mut [u8], stage: Stage) -> usize {
-    if mode <= 2 {
-        rewrite_in(records, |_| (), |_| 0, output, stage, |table| match mode {
-            // SAFETY: the root is always a live node.
-            1 => unsafe { table.aggregate_set(Loc::root(), 0) }.1,
-            _ => unsafe { table.aggregate_consistent_set(Loc::root(), 0) },
-        })
+    if mode == 1 {
+        // SAFETY: the root is always a live node.
+        rewrite_in(records, |_| (), |_| 0, output, stage, |table| unsafe { table.aggregate_set(Loc::root(), 0) }.1)
     } else {
         rewrite_in(records, |hop| hop, |hop| *hop, output, stage, |table| match mode {
             // SAFETY: the root is always a live node.

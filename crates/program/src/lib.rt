@@ -1,5 +1,5 @@
 // What the programs share: a table rewritten in a mode, its host bits masked, and the result's records and the change as text, or the refusal; and
-// document 01's five, which read the table from standard input.
+// document 01's programs of a mode, which read the table from standard input.
 
 use libc::STDIN_FILENO;
 use libc::STDOUT_FILENO;
@@ -26,7 +26,7 @@ pub fn answer_in(table: &[u8], mode: u32, default: u32, work: &mut [u32], out: &
         &mut output,
         work,
     );
-    put_rewritten(answered, &output, 2 < mode, 0, out)
+    put_rewritten(answered, &output, 1 < mode, 0, out)
 }
 
 // The same in the mode's program of document 01.

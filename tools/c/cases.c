@@ -14,6 +14,9 @@ enum { HEADER = 16, MOST_BYTES = 65535, MOST_LIST = 262144, EDGE = 64, SHIFTS = 
 static uint8_t table_room[EDGE + SHIFTS + MOST_BYTES + EDGE], kept[sizeof table_room], output_room[EDGE + SHIFTS + MOST_LIST + EDGE];
 static uint32_t work_room[EDGE + SHIFTS + SUOVVAMET_MOST_WORK + EDGE];
 
+/* What stood in the room of a live map before a call. */
+static uint32_t room_before[SUOVVAMET_MOST_WORK];
+
 /* Where the rooms of this case begin. */
 static uint8_t *table, *output;
 static uint32_t *work;
@@ -297,6 +300,94 @@ static void special_use(size_t length, uint32_t flags, uint32_t edition)
     }
 }
 
+/* ---- The live map: commands on one room, which is filled with a pattern that is none. */
+enum { COMMAND = 8 };
+static const uint32_t LIVE_FILLER = 2779096485u;
+
+/* Prints a refusal, or says that there is none. */
+static int done(uint32_t refusal)
+{
+    if (refusal == SUOVVAMET_ANSWERED)
+        return 1;
+    print("refused ");
+    print_number(refusal);
+    print(" at 0\n");
+    return 0;
+}
+
+static void live_command(const uint8_t *command, uint32_t ignored, size_t words)
+{
+    uint32_t flags = (command[0] < STRICT_CASE ? 0 : SUOVVAMET_STRICT) | ignored;
+    uint32_t hop = (uint32_t)command[1] << 8 | command[2], length = command[3], address = 0;
+    for (int i = 4; i < COMMAND; i++)
+        address = address << 8 | command[i];
+    struct guarded32 present = unset32, found = unset32, matched = unset32, by = unset32;
+    int stays = 1;
+    for (size_t i = 0; i < words; i++)
+        room_before[i] = work[i];
+    switch (command[0] % STRICT_CASE) {
+    case 0:
+    case 1: {
+        uint32_t refusal =
+            command[0] % STRICT_CASE == 0 ? suovvamet_live_make(work, words) : suovvamet_live_put(work, words, flags, address, length, hop);
+        if (done(refusal)) {
+            print("done\n");
+            stays = 0;
+        }
+        break;
+    }
+    case 2:
+        if (done(suovvamet_live_take(work, words, flags, address, length, &present.value))) {
+            print(present.value ? "done\n" : "absent\n");
+            promise(present.value <= 1, "present is no 0 or 1");
+            stays = present.value == 0;
+        } else
+            promise(present.value == 0, "value in a refusal");
+        promise_guards32(&present);
+        break;
+    case 3: {
+        int zero;
+        uint32_t refusal = suovvamet_live_lookup(work, words, address, &found.value, &by.value, &matched.value);
+        zero = found.value == 0 && by.value == 0 && matched.value == 0;
+        promise_guards32(&found);
+        promise_guards32(&by);
+        promise_guards32(&matched);
+        if (!done(refusal))
+            promise(zero, "value in a refusal");
+        else if (found.value == 1) {
+            print("hop ");
+            print_number(by.value);
+            print(" length ");
+            print_number(matched.value);
+            print("\n");
+        } else {
+            print("no route\n");
+            promise(zero, "value without a route");
+        }
+        break;
+    }
+    case 4:
+        if (address < words)
+            work[address] ^= (uint32_t)1 << length % 32;
+        print("flipped\n");
+        stays = 0;
+        break;
+    default: print("no such command\n");
+    }
+    uint32_t changed = 0;
+    for (size_t i = 0; stays && i < words; i++)
+        changed |= work[i] ^ room_before[i];
+    promise(changed == 0, "room touched");
+}
+
+static void live_map(size_t length, uint32_t ignored, size_t words)
+{
+    for (size_t i = 0; i < words; i++)
+        work[i] = LIVE_FILLER;
+    for (size_t at = 0; at + COMMAND <= length; at += COMMAND)
+        live_command(table + at, ignored, words);
+}
+
 /* ---- The cases. */
 static uint32_t number(const uint8_t *bytes, int size)
 {
@@ -317,24 +408,29 @@ static const char *run(void)
         table = table_room + EDGE + at % SHIFTS;
         output = output_room + EDGE + (at + 1) % SHIFTS;
         work = work_room + EDGE + at % SHIFTS;
-        size_t length = number(header + 14, 2), around = (size_t)(table - table_room) + length + EDGE;
+        uint32_t call = header[0] % STRICT_CASE;
+        size_t length = call == 10 ? COMMAND * (size_t)number(header + 12, 2) : number(header + 14, 2);
+        if (got == HEADER && length > MOST_BYTES)
+            return "too many commands";
+        if (got < HEADER)
+            length = 0;
+        size_t around = (size_t)(table - table_room) + length + EDGE;
         for (size_t i = 0; i < around; i++)
             table_room[i] = pattern(i);
         if (got < HEADER || platform_read(table, length) < length)
             return "case cut short";
-        uint32_t call = header[0] % STRICT_CASE;
-        if (call > 6 && call != 9)
+        if (call > 6 && call != 9 && call != 10)
             return "no such call";
         uint32_t flags = header[0] < STRICT_CASE ? 0 : SUOVVAMET_STRICT;
         flags |= filler(at) & ~(uint32_t)SUOVVAMET_STRICT; /* bits that are ignored */
         size_t words = number(header + 8, 4), room = number(header + 12, 2);
         if (call == 4 && words > MOST_LIST)
             return "output too large";
-        if (call < 4 && words > SUOVVAMET_MOST_WORK)
+        if ((call < 4 || call == 10) && words > SUOVVAMET_MOST_WORK)
             return "work room too large";
         for (size_t i = 0; i < around; i++)
             kept[i] = table_room[i];
-        int borrows = call <= 1;
+        int borrows = call <= 1 || call == 10;
         size_t before = (size_t)(work - work_room), all = before + words + EDGE;
         for (size_t i = 0; borrows && i < all; i++)
             work_room[i] = filler(i);
@@ -347,12 +443,13 @@ static const char *run(void)
         case 5: rewrite(1, length, flags, header[1], header[2], room, 0); break;
         case 6: chip_image(length, flags, room); break;
         case 9: special_use(length, flags, number(header + 4, 4)); break;
+        case 10: live_map(length, filler(at) & ~(uint32_t)SUOVVAMET_STRICT, words); break;
         }
         uint32_t left = 0, round = 0;
         for (size_t i = 0; borrows && i < all; i++)
             if (i < before || i >= before + words)
                 round |= work_room[i] ^ filler(i);
-            else
+            else if (call != 10)
                 left |= work_room[i];
         promise(left == 0, "work not zero");
         promise(round == 0, "beside the work room touched");

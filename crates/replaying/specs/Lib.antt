@@ -3,3 +3,4 @@ pub mod Kept
 pub mod Lines
 pub mod SpecialKept
 pub mod ChipKept
+pub mod LiveKept

@@ -4,6 +4,7 @@
 pub mod cases;
 mod chip_cases;
 mod counted;
+mod live_turns;
 mod special_cases;
 
 use libc::STDOUT_FILENO;
@@ -58,6 +59,16 @@ pub fn join2(a: u8, b: u8) -> usize
     ensures { λ r. ⌜ r ≤ 65535 ⌝ }
 {
     (a as usize) * 256 + (b as usize)
+}
+
+// How many bytes follow the first 16 of a case: those of its table; of call 10, of so many commands of 8 bytes.
+pub fn bytes_behind(head: &[u8; 16]) -> usize
+    ensures { λ r. ⌜ r ≤ 524280 ⌝ }
+{
+    if call_of(head[0]) == 10 {
+        return 8 * join2(head[12], head[13]);
+    }
+    join2(head[14], head[15])
 }
 
 // Writes the kept text.

@@ -12,6 +12,7 @@ use Rattle.refusals.specs.Rules.{Rule, rule, Reply, gives, refuses, judge}
 use Rattle.refusals.specs.Order.{First, None, rank}
 use Rattle.refusals.proofs.Judged.{Broken, InOrder, gives-exactly, refuses-exactly}
 use Rattle.refusals.proofs.Ranked.{ahead-in-order}
+use Rattle.records.specs.declared.Form.{Form}
 use Rattle.lookup.specs.Calls.{lookupSays}
 use Rattle.lookup.specs.declared.answers.Lookup.{Lookup}
 use Rattle.liveroom.specs.Rooms.{shown, fit, Words}
@@ -67,26 +68,26 @@ make-numbered (short-room h) = (omega arith, refl)
 look-numbered : {room : List ℕ} {n i : ℕ} → LookCondition room n i → (1 ≤ n) × (i ≡ 0)
 look-numbered (no-map h) = (omega arith, refl)
 
-take-numbered : {room : List ℕ} {flags a l n i : ℕ} → TakeCondition room (formBy flags) a l n i → (1 ≤ n) × (i ≡ 0)
+take-numbered : {room : List ℕ} {form : Form} {a l n i : ℕ} → TakeCondition room form a l n i → (1 ≤ n) × (i ≡ 0)
 take-numbered (of-room c) = look-numbered c
 take-numbered (too-long h) = (omega arith, refl)
 take-numbered (host-bits s h) = (omega arith, refl)
 
-put-numbered : {room : List ℕ} {flags a l h n i : ℕ} → PutCondition room (formBy flags) a l h n i → (1 ≤ n) × (i ≡ 0)
-put-numbered {flags = flags} (of-prefix c) = take-numbered {flags = flags} c
+put-numbered : {room : List ℕ} {form : Form} {a l h n i : ℕ} → PutCondition room form a l h n i → (1 ≤ n) × (i ≡ 0)
+put-numbered (of-prefix c) = take-numbered c
 put-numbered (bad-hop k) = (omega arith, refl)
 put-numbered (too-many k) = (omega arith, refl)
 put-numbered (too-wide k) = (omega arith, refl)
 
 -- ---- Any reply that is judged by rules which test such conditions.
 module _ {A : Type 0} (rs : List Rule) {Holds : ℕ → ℕ → Type 0} (tests : (n i : ℕ) → Broken rs n i ↔ Holds n i) (order : InOrder rs)
-    (named : {n i : ℕ} → Holds n i → (1 ≤ n) × (i ≡ 0)) (v : A) (q : Reply A) (judged : q ≡ judge rs v) {number : ℕ} (number-is : number ≡ numberOf q) where
+    (named : (n i : ℕ) → Holds n i → (1 ≤ n) × (i ≡ 0)) (v : A) (q : Reply A) (judged : q ≡ judge rs v) {number : ℕ} (number-is : number ≡ numberOf q) where
   first-is : (n i : ℕ) → q ≡ refuses n i → First Holds n i
   first-is n i e = refuses-exactly rs tests v order n i .0 (sym judged ∙ e)
 
   to-none : (p : Reply A) → q ≡ p → numberOf p ≡ 0 → None Holds
   to-none (gives a) e z = gives-exactly rs tests v {b = a} .0 (sym judged ∙ e) .0
-  to-none (refuses n i) e z = let f = named (first-is n i e .0) in absurd (omega arith)
+  to-none (refuses n i) e z = let f = named n i (first-is n i e .0) in absurd (omega arith)
 
   -- The number is 0 exactly when no condition holds,
   answered : number ≡ 0 ↔ None Holds
@@ -97,13 +98,13 @@ module _ {A : Type 0} (rs : List Rule) {Holds : ℕ → ℕ → Type 0} (tests :
 
   to-first : (p : Reply A) → q ≡ p → (n : ℕ) → 1 ≤ n → numberOf p ≡ n → First Holds n 0
   to-first (gives a) e n le d = absurd (omega arith)
-  to-first (refuses m j) e n le d = let f = first-is m j e in rw (d, named (f .0) .1) at f
+  to-first (refuses m j) e n le d = let f = first-is m j e in rw (d, named m j (f .0) .1) at f
 
   -- and is n, not 0, exactly when that is the first that does.
   numbered : (n : ℕ) → ((1 ≤ n) × (number ≡ n)) ↔ First Holds n 0
   numbered n = (
     λ f. to-first q refl n (f .0) (sym number-is ∙ f .1),
-    λ f. (named (f .0) .0, number-is ∙ ap numberOf (judged ∙ refuses-exactly rs tests v order n 0 .1 f)),
+    λ f. (named n 0 (f .0) .0, number-is ∙ ap numberOf (judged ∙ refuses-exactly rs tests v order n 0 .1 f)),
   )
 
 -- ---- Making an empty map.
@@ -111,12 +112,12 @@ module _ {room after : List ℕ} {number : ℕ} (ok : MakeInC room number after)
   pub make-in-c-answered : number ≡ 0 ↔ None (MakeCondition room)
   unfolding rank
   make-in-c-answered =
-      answered (rule 10 0 (leb 160 (length room)) ∷ []) (make-tests room) (ahead-in-order _ refl) make-numbered true _ (ok .makes .reply) (ok .number-is)
+      answered (rule 10 0 (leb 160 (length room)) ∷ []) (make-tests room) (ahead-in-order _ refl) (λ n i c. make-numbered c) true _ (ok .makes .reply) (ok .number-is)
 
   pub make-in-c-refused : (n : ℕ) → ((1 ≤ n) × (number ≡ n)) ↔ First (MakeCondition room) n 0
   unfolding rank
   make-in-c-refused =
-      numbered (rule 10 0 (leb 160 (length room)) ∷ []) (make-tests room) (ahead-in-order _ refl) make-numbered true _ (ok .makes .reply) (ok .number-is)
+      numbered (rule 10 0 (leb 160 (length room)) ∷ []) (make-tests room) (ahead-in-order _ refl) (λ n i c. make-numbered c) true _ (ok .makes .reply) (ok .number-is)
 
 -- ---- A put.
 module _ {room after : List ℕ} (words : Words room) {flags a l h number : ℕ} (ok : PutInC room flags a l h number after) where
@@ -126,12 +127,12 @@ module _ {room after : List ℕ} (words : Words room) {flags a l h number : ℕ}
   pub put-in-c-answered : number ≡ 0 ↔ None (PutCondition room (formBy flags) a l h)
   unfolding rank
   put-in-c-answered =
-      answered of-put (put-tests room words (formBy flags) a l h) (ahead-in-order of-put refl) (λ c. put-numbered {flags = flags} c) true _ (ok .puts .reply) (ok .number-is)
+      answered of-put (put-tests room words (formBy flags) a l h) (ahead-in-order of-put refl) (λ n i c. put-numbered c) true _ (ok .puts .reply) (ok .number-is)
 
   pub put-in-c-refused : (n : ℕ) → ((1 ≤ n) × (number ≡ n)) ↔ First (PutCondition room (formBy flags) a l h) n 0
   unfolding rank
   put-in-c-refused =
-      numbered of-put (put-tests room words (formBy flags) a l h) (ahead-in-order of-put refl) (λ c. put-numbered {flags = flags} c) true _ (ok .puts .reply) (ok .number-is)
+      numbered of-put (put-tests room words (formBy flags) a l h) (ahead-in-order of-put refl) (λ n i c. put-numbered c) true _ (ok .puts .reply) (ok .number-is)
 
 -- ---- A take.
 module _ {room after : List ℕ} (words : Words room) {flags a l number present : ℕ} (ok : TakeInC room flags a l number present after) where
@@ -141,21 +142,21 @@ module _ {room after : List ℕ} (words : Words room) {flags a l number present 
   pub take-in-c-answered : number ≡ 0 ↔ None (TakeCondition room (formBy flags) a l)
   unfolding rank
   take-in-c-answered =
-      answered of-take (take-tests room words (formBy flags) a l) (ahead-in-order of-take refl) (λ c. take-numbered {flags = flags} c) _ _ (ok .takes .reply) (ok .number-is)
+      answered of-take (take-tests room words (formBy flags) a l) (ahead-in-order of-take refl) (λ n i c. take-numbered c) _ _ (ok .takes .reply) (ok .number-is)
 
   pub take-in-c-refused : (n : ℕ) → ((1 ≤ n) × (number ≡ n)) ↔ First (TakeCondition room (formBy flags) a l) n 0
   unfolding rank
   take-in-c-refused =
-      numbered of-take (take-tests room words (formBy flags) a l) (ahead-in-order of-take refl) (λ c. take-numbered {flags = flags} c) _ _ (ok .takes .reply) (ok .number-is)
+      numbered of-take (take-tests room words (formBy flags) a l) (ahead-in-order of-take refl) (λ n i c. take-numbered c) _ _ (ok .takes .reply) (ok .number-is)
 
 -- ---- A lookup.
 module _ {room : List ℕ} (words : Words room) {x number found hop len : ℕ} (ok : LiveLookupInC room x number found hop len) where
   pub live-lookup-in-c-answered : number ≡ 0 ↔ None (LookCondition room)
   unfolding rank
   live-lookup-in-c-answered =
-      answered (liveRules room []) (look-tests room words) (ahead-in-order (liveRules room []) refl) look-numbered _ _ (ok .looked) (ok .number-is)
+      answered (liveRules room []) (look-tests room words) (ahead-in-order (liveRules room []) refl) (λ n i c. look-numbered c) _ _ (ok .looked) (ok .number-is)
 
   pub live-lookup-in-c-refused : (n : ℕ) → ((1 ≤ n) × (number ≡ n)) ↔ First (LookCondition room) n 0
   unfolding rank
   live-lookup-in-c-refused =
-      numbered (liveRules room []) (look-tests room words) (ahead-in-order (liveRules room []) refl) look-numbered _ _ (ok .looked) (ok .number-is)
+      numbered (liveRules room []) (look-tests room words) (ahead-in-order (liveRules room []) refl) (λ n i c. look-numbered c) _ _ (ok .looked) (ok .number-is)

@@ -109,15 +109,18 @@ module _ {A : Type 0} (rs : List Rule) {Holds : ℕ → ℕ → Type 0} (tests :
 
 -- ---- Making an empty map.
 module _ {room after : List ℕ} {number : ℕ} (ok : MakeInC room number after) where
+  abbrev of-make : List Rule
+  of-make = rule 10 0 (leb 160 (length room)) ∷ []
+
   pub make-in-c-answered : number ≡ 0 ↔ None (MakeCondition room)
   unfolding rank
   make-in-c-answered =
-      answered (rule 10 0 (leb 160 (length room)) ∷ []) (make-tests room) (ahead-in-order _ refl) (λ n i c. make-numbered c) true _ (ok .makes .reply) (ok .number-is)
+      answered of-make (make-tests room) (ahead-in-order of-make refl) (λ n i c. make-numbered c) true _ (ok .makes .reply) (ok .number-is)
 
   pub make-in-c-refused : (n : ℕ) → ((1 ≤ n) × (number ≡ n)) ↔ First (MakeCondition room) n 0
   unfolding rank
   make-in-c-refused =
-      numbered (rule 10 0 (leb 160 (length room)) ∷ []) (make-tests room) (ahead-in-order _ refl) (λ n i c. make-numbered c) true _ (ok .makes .reply) (ok .number-is)
+      numbered of-make (make-tests room) (ahead-in-order of-make refl) (λ n i c. make-numbered c) true _ (ok .makes .reply) (ok .number-is)
 
 -- ---- A put.
 module _ {room after : List ℕ} (words : Words room) {flags a l h number : ℕ} (ok : PutInC room flags a l h number after) where

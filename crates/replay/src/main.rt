@@ -19,14 +19,12 @@ fn turn(
     table: &mut [u8],
     output: &mut [u8],
     work: &mut [u32],
-    copy: &mut [u32],
     at: usize,
     kept: &mut [u8],
 ) -> Turn
     requires { ⌜ 65535 ≡ length (now table) ⌝ }
     requires { ⌜ 262144 ≡ length (now output) ⌝ }
     requires { ⌜ 824480 ≡ length (now work) ⌝ }
-    requires { ⌜ 824480 ≡ length (now copy) ⌝ }
     requires { ⌜ at ≤ length (now kept) ⌝ }
     requires { ⌜ 1048576 ≤ length (now kept) ⌝ }
     ensures { λ r. ⌜ r .at ≤ length (now (kept .entry)) ⌝ }
@@ -49,7 +47,7 @@ fn turn(
     if io::read_full(STDIN_FILENO, &mut table[..size]) < size {
         return last_line(b"case cut short\n", at, kept);
     }
-    case_turn(&head, &table[..size], output, work, copy, at, kept)
+    case_turn(&head, &table[..size], output, work, at, kept)
 }
 
 // A proved loop has to end, so the turns are counted down from a number that no input uses up.
@@ -57,12 +55,11 @@ fn main() {
     let mut table = [0u8; 65535];
     let mut output = [0u8; 262144];
     let mut work = [0u32; 824480];
-    let mut copy = [0u32; 824480];
     let mut kept = [0u8; 1048576];
     let mut at: usize = 0;
     let mut turns = u64::MAX;
     while turns > 0 {
-        let next = turn(&mut table, &mut output, &mut work, &mut copy, at, &mut kept);
+        let next = turn(&mut table, &mut output, &mut work, at, &mut kept);
         at = next.at;
         turns = turns_left(turns, next.more);
     }

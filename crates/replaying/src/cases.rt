@@ -258,14 +258,12 @@ pub fn case_turn(
     table: &[u8],
     output: &mut [u8],
     work: &mut [u32],
-    copy: &mut [u32],
     at: usize,
     kept: &mut [u8],
 ) -> Turn
     requires { ⌜ length (now table) ≤ 65535 ⌝ }
     requires { ⌜ 262144 ≡ length (now output) ⌝ }
     requires { ⌜ 824480 ≡ length (now work) ⌝ }
-    requires { ⌜ 824480 ≡ length (now copy) ⌝ }
     requires { ⌜ at ≤ length (now kept) ⌝ }
     requires { ⌜ 1048576 ≤ length (now kept) ⌝ }
     ensures { λ r. ⌜ r .at ≤ length (now (kept .entry)) ⌝ }
@@ -285,7 +283,7 @@ pub fn case_turn(
     }
     let asked = join4(head[8], head[9], head[10], head[11]) as usize;
     if call == 10 {
-        return live_turn(asked, table, work, copy, at, kept);
+        return live_turn(asked, table, work, at, kept);
     }
     if 5 < call {
         return last_line(b"no such call\n", at, kept);

@@ -32,18 +32,34 @@ fn keep_commands(
     put_commands(commands, room, before, begin, kept)
 }
 
+// A room of zeros. Made by a call, it is to the caller an array of that length and no list of that many zeros.
+fn zeros() -> [u32; 824480] {
+    [0; 824480]
+}
+
+// The same, with that room.
+fn keep_beside(commands: &[u8], room: &mut [u32], at: usize, kept: &mut [u8]) -> usize
+    requires { ⌜ length (now commands) ≤ 65535 ⌝ }
+    requires { ⌜ length (now room) ≤ 824480 ⌝ }
+    requires { ⌜ at ≤ length (now kept) ⌝ }
+    requires { ⌜ 1048576 ≤ length (now kept) ⌝ }
+    ensures { λ r. ⌜ Put (liveAnswer (now (commands .entry)) (length (now (room .entry)))) (beginOf at) r (now (kept .entry)) (now (kept .exit)) ⌝ }
+{
+    let mut before = zeros();
+    let size = room.len();
+    keep_commands(commands, room, &mut before[..size], at, kept)
+}
+
 // The turn of a case with call 10: as many words of the rooms are lent as are asked for, if there are so many; else the line that ends the run.
 pub fn live_turn(
     asked: usize,
     commands: &[u8],
     work: &mut [u32],
-    copy: &mut [u32],
     at: usize,
     kept: &mut [u8],
 ) -> Turn
     requires { ⌜ length (now commands) ≤ 65535 ⌝ }
     requires { ⌜ 824480 ≡ length (now work) ⌝ }
-    requires { ⌜ 824480 ≡ length (now copy) ⌝ }
     requires { ⌜ at ≤ length (now kept) ⌝ }
     requires { ⌜ 1048576 ≤ length (now kept) ⌝ }
     ensures { λ r. ⌜ (asked ≤ 824480 → Put (liveAnswer (now (commands .entry)) asked) (beginOf at) (r .at) (now (kept .entry)) (now (kept .exit))) ⌝ }
@@ -52,7 +68,7 @@ pub fn live_turn(
     if work.len() < asked {
         return last_line(b"work room too large\n", at, kept);
     }
-    let end = keep_commands(commands, &mut work[..asked], &mut copy[..asked], at, kept);
+    let end = keep_beside(commands, &mut work[..asked], at, kept);
     Turn {
         at: end,
         more: true,

@@ -1,9 +1,8 @@
 -- `live_turns::live_turn` meets its contract: as many words are lent as are asked for. Assumes nothing.
 use Prim.Native.Nat.{_≤_}
-use mathlib.Core.Path.{_≡_, ap, sym, _∙_}
+use mathlib.Core.Path.{_≡_, ap}
 use native.Mathlib.Omega.{arith}
 use lib.ListN.{length, take, length-take}
-use lib.Seq.{length-take-le}
 use borrow.Author.Needs.{needs}
 use Rattle.text.proofs.Puts.{put-as}
 use Rattle.replaying.specs.LiveKept.{liveAnswer}
@@ -20,28 +19,18 @@ same-length : tie.Need-same-length
 same-length c = search needs
 
 returns : tie.Need-returns
-returns c = (λ h. absurd (omega (arith, c .before .before .before .before .before .before .before .before .before .before .pre .1 .0, c .before .before .before .before .before .if1 .taken)), search needs)
+returns c = (λ h. absurd (omega arith), search needs)
 
-slice-relend-prefix-keep-commands : tie.Need-slice-relend-prefix-keep-commands
-slice-relend-prefix-keep-commands c = search needs
+slice-relend-prefix-keep-beside : tie.Need-slice-relend-prefix-keep-beside
+slice-relend-prefix-keep-beside c = search needs
 
-slice-aggregate-keep-commands : tie.Need-slice-aggregate-keep-commands
-slice-aggregate-keep-commands c = simp length-take (omega (arith, c .before .if1 .left))
+slice-aggregate-keep-beside : tie.Need-slice-aggregate-keep-beside
+slice-aggregate-keep-beside c = simp length-take (omega arith)
 
-slice-relend-prefix-keep-commands-2 : tie.Need-slice-relend-prefix-keep-commands-2
-slice-relend-prefix-keep-commands-2 c = omega (arith, c .before .if1 .left, c .before .before .before .before .before .before .pre .1 .0, c .before .before .before .before .before .before .pre .1 .1 .0)
-
-slice-aggregate-keep-commands-2 : tie.Need-slice-aggregate-keep-commands-2
-slice-aggregate-keep-commands-2 c = simp length-take (omega (arith, c .before .before .if1 .left, c .before .before .before .before .before .before .before .pre .1 .0, c .before .before .before .before .before .before .before .pre .1 .1 .0))
-
-keep-commands-requires : tie.Need-keep-commands-requires
-keep-commands-requires c κs =
-    let start = c .before .before .before .before .before .before .before .before in
-    let pre = start .pre in
-    let enough = c .before .before .before .if1 .left in
-    let work = length-take-le (start .args .asked) (start .args .work .now) (omega (arith, enough)) in
-    let copy = length-take-le (start .args .asked) (start .args .copy .now) (omega (arith, enough, pre .1 .0, pre .1 .1 .0)) in
-    (pre .0, (copy ∙ sym work, pre .1 .1 .1))
+keep-beside-requires : tie.Need-keep-beside-requires
+keep-beside-requires c κs =
+    let pre = c .before .before .before .before .before .before .pre in
+    (pre .0, (simp length-take (omega (arith, pre .1 .0)), pre .1 .1))
 
 same-length-2 : tie.Need-same-length-2
 same-length-2 c = search needs
@@ -49,14 +38,12 @@ same-length-2 c = search needs
 same-length-3 : tie.Need-same-length-3
 same-length-3 c = search needs
 
-same-length-4 : tie.Need-same-length-4
-same-length-4 c = search needs
-
 returns-2 : tie.Need-returns-2
 returns-2 c =
-    let s = c .before .before .before .before .before .before .before .before .before .before .before .before .before .before .before .args in
-    let lent = length-take-le (s .asked) (s .work .now) (omega (arith, c .before .before .before .before .before .before .before .before .before .before .if1 .left)) in
-    (λ h. put-as (ap (liveAnswer (s .commands .now)) lent) (c .before .before .before .before .before .before .keep-commands .ensures), search needs)
+    let s = c .before .before .before .before .before .before .before .before .before .before .before .args in
+    let enough : s .asked ≤ length (s .work .now) = omega arith in
+    let lent : length (take (s .asked) (s .work .now)) ≡ s .asked = simp length-take (omega arith) in
+    (λ h. put-as (ap (liveAnswer (s .commands .now)) lent) (c .before .before .before .before .keep-beside .ensures), search needs)
 
 pub live-turn-spec : {M : Type 1} → statement M
 live-turn-spec =
@@ -66,12 +53,9 @@ live-turn-spec =
     last-line-requires
     same-length
     returns
-    slice-relend-prefix-keep-commands
-    slice-aggregate-keep-commands
-    slice-relend-prefix-keep-commands-2
-    slice-aggregate-keep-commands-2
-    keep-commands-requires
+    slice-relend-prefix-keep-beside
+    slice-aggregate-keep-beside
+    keep-beside-requires
     same-length-2
     same-length-3
-    same-length-4
     returns-2)

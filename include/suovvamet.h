@@ -24,7 +24,8 @@
  *   - *index is the index of the record that a refusal 5 to 8 or 25 to 28 names, or of the step that 13 names, counted from 0; it is 0 for the other
  *     refusals and for an answer;
  *   - every number that is set through a pointer is set in every case, and a refusal sets all but *index to 0;
- *   - a table and ranks are only read; a work room is 0 throughout afterwards, answered or refused; nothing past a length is read or written.
+ *   - a table and ranks are only read; a work room is 0 throughout afterwards, answered or refused, but for the room of a live map; nothing past a
+ *     length is read or written.
  *
  * A call clears the whole room that it is lent, so it costs by that room too: lend what the table needs, which suovvamet_work_words tells, and
  * not all that there is.
@@ -39,7 +40,7 @@ extern "C" {
 #endif
 
 /* One more whenever something that is declared or promised here changes. */
-#define SUOVVAMET_VERSION 8
+#define SUOVVAMET_VERSION 10
 
 /*
  * How a table is read, in every call: 0, or SUOVVAMET_STRICT for the strict choice. The other bits of the flags are kept for later and ignored;
@@ -50,6 +51,7 @@ extern "C" {
 /* The refusals, in the order in which they are checked, but that 5 to 8 go record by record: the first bad record, its lowest number. */
 enum suovvamet_refusal {
     SUOVVAMET_ANSWERED = 0,       /* no refusal */
+    SUOVVAMET_NO_LIVE_MAP = 18,   /* the room holds no live map */
     SUOVVAMET_EDITION = 14,       /* the edition is not 5735 or 6890 */
     SUOVVAMET_MODE = 1,           /* the mode is not 1 to 5; by the plain engine: not 1, 4 or 5, nor 2 */
     SUOVVAMET_RETIRED = 16,       /* the mode is 2, which is retired: use SUOVVAMET_SET, which serves the tables that it wrote */
@@ -62,7 +64,8 @@ enum suovvamet_refusal {
     SUOVVAMET_HOP = 7,            /* a record's hop is above 63, or not 0 in a set, or one of its last two bytes is not 0 */
     SUOVVAMET_ORDER = 8,          /* a record is not strictly after the one before it, both masked */
     SUOVVAMET_QUERY_LENGTH = 9,   /* the cover query's length is above 32 */
-    SUOVVAMET_WORK_ROOM = 10,     /* the work room has fewer than 160 words for each node of the table */
+    SUOVVAMET_MAP_RECORDS = 17,   /* the live map would have more than 1,024 records */
+    SUOVVAMET_WORK_ROOM = 10,     /* the room has fewer than 160 words for each node of the table, or of the live map as it would be */
     SUOVVAMET_OUTPUT = 11,        /* the output has fewer than 8 bytes for each record of the result or the list */
     SUOVVAMET_IMAGE = 12,         /* the chip's image has not 8,192 bytes */
     SUOVVAMET_NEW_TABLE = 20,     /* 23 to 28: the faults 3 to 8 in the new table of a plan, each by 20 higher */
@@ -164,6 +167,28 @@ uint32_t suovvamet_chip_image(const uint8_t *table, uint64_t table_length, uint3
                               uint64_t *index);
 
 /*
+ * A live map: a map that stays in a room of 32-bit words between calls (docs/LIVE-MAP.md). suovvamet_live_make makes an empty one in a room, whatever
+ * is in it; the others refuse a room that holds none (18). The room is never cleared; after a refusal, a lookup and a take of an absent prefix it is as
+ * it was, word for word. No refusal names a record, so there is no index. Nothing is kept outside the room: it may be copied, and used where the
+ * copy stands. The flags say how the prefix is read, as that of a record.
+ *
+ * The room needs 160 words for each node, as document 01 counts those of a table with the map's records: 160 for an empty map,
+ * SUOVVAMET_MOST_WORK for any. A call costs by the records that the map has, not by the room.
+ */
+
+/* Makes an empty map. Refusal 10, under 160 words. */
+uint32_t suovvamet_live_make(uint32_t *room, uint64_t room_words);
+
+/* Puts a route: a prefix that is present gets the new hop. Refusals 18, 5, 6, 7, 17, 10, in this order. */
+uint32_t suovvamet_live_put(uint32_t *room, uint64_t room_words, uint32_t flags, uint32_t address, uint32_t length, uint32_t hop);
+
+/* Takes a prefix: *present is 1, or 0 where it was not there, and then nothing changes. Refusals 18, 5, 6, in this order. */
+uint32_t suovvamet_live_take(uint32_t *room, uint64_t room_words, uint32_t flags, uint32_t address, uint32_t length, uint32_t *present);
+
+/* The longest match of an address: *found is 1 with its *hop and *length, or all three are 0. Refusal 18. */
+uint32_t suovvamet_live_lookup(const uint32_t *room, uint64_t room_words, uint32_t address, uint32_t *found, uint32_t *hop, uint32_t *length);
+
+/*
  * A step of a plan, 8 bytes without padding, as one CAN frame carries it: put the record of this prefix and hop, a present prefix gets the new hop; or
  * take the prefix away. The address is a number, its first octet the most significant.
  */
@@ -209,6 +234,8 @@ static inline const char *suovvamet_refusal_text(uint32_t refusal)
     case SUOVVAMET_WORK_ROOM: return "the work room is shorter than the table needs";
     case SUOVVAMET_OUTPUT: return "the output is shorter than the result or the list";
     case SUOVVAMET_IMAGE: return "the image has not 8,192 bytes";
+    case SUOVVAMET_MAP_RECORDS: return "the live map would have more than 1,024 records";
+    case SUOVVAMET_NO_LIVE_MAP: return "the room holds no live map";
     case SUOVVAMET_STEP: return "a step's length is above 32, its address has bits set past it, or a put's hop is above 63";
     case SUOVVAMET_NEW_TABLE + SUOVVAMET_TABLE_LENGTH: return "the new table is not made of whole records of 8 bytes";
     case SUOVVAMET_NEW_TABLE + SUOVVAMET_RECORDS: return "the new table has more than 1,024 records";

@@ -21,6 +21,9 @@ const LIST: u8 = 0;
 /// What is added to the mode there for the plain engine.
 const PLAIN: u8 = 128;
 
+/// And for calls on a live map, which library.c alone makes: a lookup, a put of a prefix that is present, a put of a new one with its take.
+const LIVE: [(u8, &str); 3] = [(64, "lookup"), (65, "put, present"), (66, "put, new, and its take")];
+
 /// A table, and what it is called.
 struct Table {
     name: &'static str,
@@ -368,6 +371,30 @@ impl Bench {
 
 impl Bench {
     /// What a rewrite takes on the board: instructions, and what they come to at 180 MHz, one a cycle.
+    /// Calls on a live map beside a rewrite of the same records, in a room with one node to spare.
+    fn live(&self, words: &[String], with_times: bool) {
+        println!("\n| records | call |{}", if with_times { " µs | mode 4 of all, µs |" } else { " instr. | mode 4 of all, instr. |" });
+        println!("|--:|---|--:|--:|");
+        for count in [100, 1_000] {
+            let routes = mixed(count);
+            let nodes = nodes(&routes);
+            for (kind, name) in LIVE {
+                let answer = run(words, &input(1, kind, 160 * (nodes + 6), &routes)).0;
+                if !answer.starts_with("records ") {
+                    fail(&format!("live map, {name}: this library answers '{answer}'"));
+                }
+                print!("| {} | {name} |", thousands_of(count as i64));
+                if with_times {
+                    let (call, all) = (self.time(words, kind, 160 * (nodes + 6), &routes), self.time(words, 4, 160 * nodes, &routes));
+                    println!(" {} | {} |", microseconds(call), microseconds(all));
+                } else {
+                    let call = self.instructions(words, kind, 160 * (nodes + 6), &routes);
+                    println!(" {} | {} |", thousands_of(call), thousands_of(self.instructions(words, 4, 160 * nodes, &routes)));
+                }
+            }
+        }
+    }
+
     fn on_board(&self, tables: &[Table]) {
         println!("\nCortex-M4, instructions of a rewrite, and milliseconds at 180 MHz if each took one cycle.\n");
         println!("| table | records | nodes | mode 1 | mode 3 | mode 4 | mode 5 | plain, mode 1 | mode 4 | mode 5 |");
@@ -432,6 +459,10 @@ fn main() {
     }
     println!("\nThe list of what has no route, in an output of 180,224 bytes: the holes are not counted first.");
     bench.lists(&tables);
+    if bench.ours.last().is_some_and(|word| word.ends_with("/library")) {
+        println!("\nThe live map, beside a rewrite of its records.");
+        bench.live(&bench.ours, true);
+    }
     println!("\nThe plain engine beside the one over nodes.");
     bench.engines(&tables);
     println!("\nHow it grows: scattered records of mixed lengths.\n");
@@ -450,5 +481,7 @@ fn main() {
     bench.memory(&tables);
     if !bench.board.is_empty() {
         bench.on_board(&tables);
+        println!("\nThe live map on the Cortex-M4.");
+        bench.live(&bench.board, false);
     }
 }

@@ -2,6 +2,7 @@
 
 use std::fmt::Write;
 
+use crate::live::{self, Said};
 use crate::plans::{self, Step};
 
 /// Address, length, hop.
@@ -22,12 +23,17 @@ pub const CHECK: u8 = 7;
 pub const PLAN: u8 = 8;
 /// The first record in a special-use range.
 pub const SPECIAL: u8 = 9;
+/// A sequence of commands to a live map.
+pub const LIVE: u8 = 10;
 
 /// Added to the call where host bits are refused, not masked.
 pub const STRICT: u8 = 128;
 
 /// Added to the call where ranks are lent.
 pub const RANKED: u8 = 64;
+
+/// The most commands to a live map.
+const MOST_COMMANDS: u32 = 8_191;
 
 /// The most words of work room that a case asks for: 160 for each of 5,153 nodes.
 pub const MOST_WORK: u32 = 824_480;
@@ -49,10 +55,10 @@ pub struct Case {
     /// Words of work room; bytes of output for a list of what has no route; 65,536 times the bytes of a plan's new table, and the steps; not read by
     /// the plain engine.
     pub work: u32,
-    /// Bytes of output; of the image room for the chip's image.
+    /// Bytes of output; of the image room for the chip's image; the number of commands to a live map.
     pub room: u16,
     pub table: Vec<u8>,
-    /// What follows the table: a plan's new table, and the steps that are to be checked.
+    /// What follows the table: a plan's new table, and the steps that are to be checked; the commands to a live map, which has no table.
     pub more: Vec<u8>,
 }
 
@@ -88,10 +94,14 @@ impl Case {
             }
             _ => return Err("case cut short"),
         };
-        let length = (word(12) & 0xFFFF) as usize;
+        if call == LIVE && word(12) >> 16 > MOST_COMMANDS {
+            return Err("too many commands");
+        }
+        let length = if call == LIVE { 0 } else { (word(12) & 0xFFFF) as usize };
         let more = match call {
             CHECK => (word(8) >> 16) as usize + 8 * (word(8) & 0xFFFF) as usize,
             PLAN => (word(8) >> 16) as usize,
+            LIVE => 8 * (word(12) >> 16) as usize,
             _ => 0,
         };
         if rest.len() < length + more {
@@ -110,13 +120,13 @@ impl Case {
             table: rest[..length].to_vec(),
             more: rest[length..length + more].to_vec(),
         };
-        if case.call > SPECIAL {
+        if case.call > LIVE {
             return Err("no such call");
         }
         if case.call == UNROUTED && case.work > MOST_LIST {
             return Err("output too large");
         }
-        if case.call < UNROUTED && case.work > MOST_WORK {
+        if (case.call < UNROUTED || case.call == LIVE) && case.work > MOST_WORK {
             return Err("work room too large");
         }
         Ok((case, &rest[length + more..]))
@@ -136,6 +146,7 @@ impl Case {
             SPECIAL => format!("special use by RFC {}", self.query),
             CHECK => "check of a plan".to_string(),
             PLAN => "plan".to_string(),
+            LIVE => "live map".to_string(),
             _ => "list of what has no route".to_string(),
         };
         if self.strict {
@@ -149,6 +160,7 @@ impl Case {
             PLAIN => writeln!(text, "; {} bytes of output, {} bytes of table", self.room, self.table.len()),
             CHIP => writeln!(text, "; {} bytes of image, {} bytes of table", self.room, self.table.len()),
             SPECIAL => writeln!(text, "; {} bytes of table", self.table.len()),
+            LIVE => writeln!(text, "; {} words of room, {} commands", self.work, self.room),
             CHECK | PLAN => {
                 let (installed, new, _) = plans::parts(self);
                 writeln!(text, "; {} bytes installed, {} bytes new, {} steps", installed.len(), new.len(), self.work & 0xFFFF)
@@ -162,6 +174,11 @@ impl Case {
             ),
         };
         list_records(&mut text, &self.table);
+        if self.call == LIVE {
+            for command in live::commands(self) {
+                let _ = writeln!(text, "  {}", live::in_words(command));
+            }
+        }
         if self.call == CHECK || self.call == PLAN {
             let (_, new, steps) = plans::parts(self);
             text.push_str("  new:\n");
@@ -204,6 +221,8 @@ pub enum Answer {
     Judged(bool),
     /// A plan's steps, or none where the planner gives up.
     Planned(Option<Vec<Step>>),
+    /// A word for each command to a live map.
+    Lived(Vec<Said>),
 }
 
 impl Answer {
@@ -240,6 +259,20 @@ impl Answer {
             Answer::Special(Some(at)) => writeln!(text, "special at {at}"),
             Answer::Special(None) => writeln!(text, "none special"),
             Answer::Judged(good) => writeln!(text, "{}", if *good { "yes" } else { "no" }),
+            Answer::Lived(said) => {
+                for said in said {
+                    let _ = match said {
+                        Said::Done => writeln!(text, "done"),
+                        Said::Absent => writeln!(text, "absent"),
+                        Said::Match(Some((hop, length))) => writeln!(text, "hop {hop} length {length}"),
+                        Said::Match(None) => writeln!(text, "no route"),
+                        Said::Refused(number) => writeln!(text, "refused {number} at 0"),
+                        Said::Flipped => writeln!(text, "flipped"),
+                        Said::NoCommand => writeln!(text, "no such command"),
+                    };
+                }
+                Ok(())
+            }
             Answer::Planned(None) => writeln!(text, "gave up"),
             Answer::Planned(Some(steps)) => {
                 for step in steps {

@@ -4,10 +4,10 @@
 use std::collections::BTreeMap;
 
 use crate::case::{
-    table_of, Answer, Case, Route, CHECK, CHIP, COVER, HELD, LOOKUP, MOST_LIST, MOST_WORK, PLAIN, PLAN, REWRITE, SPECIAL, UNROUTED,
+    table_of, Answer, Case, Route, CHECK, CHIP, COVER, HELD, LIVE, LOOKUP, MOST_LIST, MOST_WORK, PLAIN, PLAN, REWRITE, SPECIAL, UNROUTED,
 };
 use crate::model::{self, Fault};
-use crate::plans;
+use crate::{live, plans};
 
 /// A case, what it is, and the refusal that its damage was planned to give.
 pub struct Made {
@@ -655,9 +655,13 @@ pub fn seeded(seed: u64, index: u64) -> Made {
         76..=81 => UNROUTED,
         82..=86 => CHIP,
         87..=90 => SPECIAL,
-        91..=96 => CHECK,
-        _ => PLAN,
+        91..=94 => CHECK,
+        95..=96 => PLAN,
+        _ => LIVE,
     };
+    if call == LIVE {
+        return live::seeded(random);
+    }
     if call == CHECK || call == PLAN {
         return plans::seeded(random, call);
     }
@@ -915,6 +919,8 @@ pub fn fixed() -> Vec<Made> {
     }
     // Plans, and checks of plans as they are proposed and damaged.
     list.extend(plans::fixed(random));
+    // Sequences of commands to a live map.
+    list.extend(live::fixed(random));
     // Every rewrite of the list by the plain engine.
     let again: Vec<Made> = list.iter().filter_map(plain).collect();
     list.extend(again);

@@ -5,6 +5,7 @@
 
 mod case;
 mod generate;
+mod live;
 mod model;
 mod plans;
 
@@ -16,7 +17,7 @@ use std::process::{exit, Command, Stdio};
 use std::sync::{Mutex, OnceLock};
 use std::thread;
 
-use case::{Answer, Case, Route, CHECK, CHIP, COVER, HELD, LOOKUP, PLAIN, PLAN, REWRITE, SPECIAL, UNROUTED};
+use case::{Answer, Case, Route, CHECK, CHIP, COVER, HELD, LIVE, LOOKUP, PLAIN, PLAN, REWRITE, SPECIAL, UNROUTED};
 use generate::Made;
 use model::Fault;
 
@@ -111,6 +112,9 @@ fn followed_by_crate(old: &[Route], new: &[Route], steps: &[plans::Step], good: 
 /// The answer that is expected: refusals 1 to 9, 12 to 16 and 23 to 28, the list of what has no route, the chip's image and plans by the model, all else by
 /// the crate, which is asked about those all the same.
 fn expected(case: &Case) -> Answer {
+    if case.call == LIVE {
+        return live::by_crate(case);
+    }
     if case.call == CHECK || case.call == PLAN {
         let answer = model::answer(case, Fault::None);
         if let Ok((old, new, steps)) = plans::accepted(case, Fault::None) {
@@ -230,6 +234,7 @@ impl Counts {
             SPECIAL => format!("special use, RFC {}", if [5735, 6890].contains(&made.case.query) { made.case.query } else { 0 }),
             CHECK => "check of a plan".to_string(),
             PLAN => "plan".to_string(),
+            LIVE => "live map".to_string(),
             _ => "list of what has no route".to_string(),
         };
         let outcome = match answer {
@@ -249,6 +254,8 @@ impl Counts {
             Answer::Slots(_) => "slots",
             Answer::Special(Some(_)) => "a record",
             Answer::Special(None) => "none",
+            Answer::Lived(said) if said.contains(&live::Said::Refused(18)) => "with no map at times",
+            Answer::Lived(_) => "a map throughout",
             Answer::Judged(true) => "yes",
             Answer::Judged(false) => "no",
             Answer::Planned(None) => "gave up",
@@ -256,6 +263,15 @@ impl Counts {
             Answer::Planned(Some(_)) => "steps",
         };
         self.add(format!("call     {call}: {outcome}"));
+        if let Answer::Lived(said) = answer {
+            for said in said {
+                let word = format!("{said:?}");
+                self.add(format!("command  {}", word.split('(').next().unwrap_or("")));
+                if let live::Said::Refused(number) = said {
+                    self.add(format!("refusal  {number:2}"));
+                }
+            }
+        }
         if let Answer::Refused(number, _) = answer {
             self.add(format!("refusal  {number:2}"));
         }
@@ -500,7 +516,7 @@ fn check_ends(command: &str) {
         tries.push(([&good[..], &good[..cut]].concat(), text.clone()));
     }
     for bytes in
-        [&[(0, SPECIAL + 1)][..], &[(0, 255)], &[(8, 1)], &[(0, UNROUTED), (8, 0), (9, 4), (10, 0), (11, 1)]]
+        [&[(0, LIVE + 1)][..], &[(0, 191)], &[(8, 1)], &[(0, UNROUTED), (8, 0), (9, 4), (10, 0), (11, 1)]]
     {
         let mut odd = good.clone();
         bytes.iter().for_each(|&(at, byte)| odd[at] = byte);

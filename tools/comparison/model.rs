@@ -4,8 +4,8 @@
 //! A call of the model can be given a fault, a planted mistake: `tools/compare --self-test` shows with them that the comparison
 //! finds mistakes. `Fault::None` is the model itself.
 
-use crate::case::{Answer, Case, Route, CHECK, CHIP, COVER, HELD, LOOKUP, PLAIN, PLAN, REWRITE, SPECIAL, UNROUTED};
-use crate::plans;
+use crate::case::{Answer, Case, Route, CHECK, CHIP, COVER, HELD, LIVE, LOOKUP, PLAIN, PLAN, REWRITE, SPECIAL, UNROUTED};
+use crate::{live, plans};
 
 #[derive(Clone, Copy, PartialEq, Eq, Debug)]
 pub enum Fault {
@@ -72,10 +72,18 @@ pub enum Fault {
     FewRanksTaken,
     RetiredIsUnknown,
     RetiredAnswers,
+    MarkUnread,
+    OrderUnread,
+    LiveHostBitsRefused,
+    AbsentDone,
+    ReplaceForgets,
+    NodesBeforePut,
+    NodesNeverGivenUp,
+    NodesBeforeRecords,
 }
 
 /// Each planted mistake and what it does wrong.
-pub const FAULTS: [(Fault, &str); 62] = [
+pub const FAULTS: [(Fault, &str); 70] = [
     (Fault::LargestHop, "modes 4, 5: the largest hop of a set instead of the smallest"),
     (Fault::HoleIsEmptySet, "mode 4: a hole taken as an empty set"),
     (Fault::AlwaysSmallest, "modes 4, 5: the smallest hop even where the hop above is in the set"),
@@ -138,6 +146,14 @@ pub const FAULTS: [(Fault, &str); 62] = [
     (Fault::FewRanksTaken, "number 15: not given where there are fewer than 64"),
     (Fault::RetiredIsUnknown, "number 16: mode 2 given 1, as an unknown mode"),
     (Fault::RetiredAnswers, "number 16: mode 2 answered as mode 1"),
+    (Fault::MarkUnread, "live map: a room without the mark taken"),
+    (Fault::OrderUnread, "live map: a room with records out of order taken"),
+    (Fault::LiveHostBitsRefused, "live map: 6 given without the strict choice"),
+    (Fault::AbsentDone, "live map: an absent prefix taken and done said"),
+    (Fault::ReplaceForgets, "live map: a record forgotten where it is put again"),
+    (Fault::NodesBeforePut, "live map: 10 by the nodes before the put"),
+    (Fault::NodesNeverGivenUp, "live map: nodes that empty not given up"),
+    (Fault::NodesBeforeRecords, "live map: 10 before 17"),
 ];
 
 /// The first `length` bits set.
@@ -601,6 +617,9 @@ fn special(routes: &[Route], ranges: &[Route], fault: Fault) -> Option<usize> {
 pub fn answer(case: &Case, fault: Fault) -> Answer {
     if case.call == CHECK || case.call == PLAN {
         return plans::answer(case, fault);
+    }
+    if case.call == LIVE {
+        return live::answer(case, fault);
     }
     let routes = match accepted(case, fault) {
         Err((number, at)) => return Answer::Refused(number, at),

@@ -450,7 +450,7 @@ pub fn seeded(random: &mut Random, call: u8) -> Made {
         let (first, second) = random.pick(&pairs(call));
         return damaged(random, call, first, second);
     }
-    if random.chance(1) {
+    if random.chance(3) {
         return crowded(random, call);
     }
     let shape = if random.below(300) == 0 { random.within(generate::LARGE, generate::SHAPES.len() - 1) } else { random.below(generate::LARGE) };

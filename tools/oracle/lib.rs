@@ -211,6 +211,58 @@ pub fn within(ranges: &[Route], prefixes: &[Route]) -> Vec<bool> {
     prefixes.iter().map(|&(address, length, _)| table.find_lpm(address, length as u32).is_some()).collect()
 }
 
+/// The crate's own map, to which prefixes are put and from which they are taken, one by one.
+pub struct Map {
+    table: Table<u8>,
+    len: usize,
+}
+
+impl Map {
+    pub fn of(routes: &[Route]) -> Self {
+        Map { table: filled(routes.iter().copied(), |hop| hop), len: routes.len() }
+    }
+
+    /// Puts a prefix, and says the hop that it had.
+    pub fn insert(&mut self, address: u32, length: u8, hop: u8) -> Option<u8> {
+        match self.table.find_or_insert_mut(address, length as u32) {
+            Ok(present) => Some(present.replace(hop)),
+            Err(empty) => {
+                empty.insert(hop);
+                self.len += 1;
+                None
+            }
+        }
+    }
+
+    /// Takes a prefix away, and the nodes that are empty then; says whether it was there.
+    pub fn remove(&mut self, address: u32, length: u8) -> bool {
+        let Some((location, mut path)) = self.table.find_mut_with_path(address, length as u32) else { return false };
+        let node = location.node_loc();
+        let Some(present) = location.present() else { return false };
+        present.take();
+        self.len -= 1;
+        // SAFETY: the value was taken out of a live node, and the path to it was had from the table as it is.
+        unsafe { self.table.cleanup_tree(node, &mut path) };
+        true
+    }
+
+    pub fn lookup(&self, address: u32) -> Option<(u8, u8)> {
+        let present = self.table.find_lpm(address, 32)?;
+        let (_, length): (u32, u8) = present.prefix(address);
+        Some((*present.get(), length))
+    }
+
+    pub fn len(&self) -> usize {
+        self.len
+    }
+
+    pub fn nodes(&self) -> usize {
+        let mut count = 0;
+        walk(&self.table, Loc::root(), 0, 0, &mut |_, _, value| count += value.is_none() as usize);
+        count
+    }
+}
+
 /// The crate's count of the addresses that the prefixes cover. It gives none where they are all 2^32: a /0, or a sum that 32 bits do not hold.
 pub fn addresses(routes: &[Route]) -> Option<u32> {
     filled(routes.iter().copied(), |hop| hop).address_count::<(u32, u8)>()

@@ -12,17 +12,17 @@ use Rattle.records.specs.Wire.{route}
 use Rattle.nodecount.specs.Nodes.{nodes, bare}
 use Rattle.steps.specs.Steps.{putting, present, put}
 use Rattle.steps.proofs.Tables.{table-step, length-new, length-old}
+use Rattle.liveroom.specs.Rooms.{shownFrom, shown, countIn, stored, fit, Words}
+use Rattle.liveroom.specs.Inner.{Holds, InRange, Placed, isAt, withAt, written, inserted, removed}
+use Rattle.liveroom.proofs.Changing.{inserted-stored, written-stored, removed-stored}
+use Rattle.liveroom.proofs.Placing.{at-small, put-at, present-at, without-at, put-new, absent-at, without-none}
+use Rattle.liveroom.proofs.Reading.{length-shown, shown-all}
+use Rattle.liveroom.proofs.Sound.{Proper, Mapped, Live, live-mapped, mapped-table}
+use Rattle.liveroom.proofs.Storing.{room-stored}
 use Rattle.live.specs.declared.answers.Kept.the-variants.{Done, Absent, Refused}
 use Rattle.live.specs.Tables.{roomRules}
-use Rattle.live.specs.Rooms.{shownFrom, shown, countIn, stored, fit}
-use Rattle.live.specs.Inner.{Holds, InRange, Placed, isAt, withAt, written, inserted, removed, PutsKept, TakesKept}
-use Rattle.live.specs.Conditions.{Words}
-use Rattle.live.proofs.Changing.{inserted-stored, written-stored, removed-stored}
-use Rattle.live.proofs.Placing.{at-small, put-at, present-at, without-at, put-new, absent-at, without-none}
+use Rattle.live.specs.Inner.{PutsKept, TakesKept}
 use Rattle.live.proofs.Present.{nodes-old, nodes-hop, own-words}
-use Rattle.live.proofs.Reading.{length-shown, shown-all}
-use Rattle.live.proofs.Sound.{Proper, Mapped, Live, live-mapped, mapped-table}
-use Rattle.live.proofs.Storing.{room-stored}
 
 module _ (room : List ℕ) (words : Words room) (l : Live room) where
   n : ℕ

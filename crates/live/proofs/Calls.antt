@@ -24,12 +24,12 @@ use Rattle.lookup.specs.declared.answers.Lookup.{Lookup}
 use Rattle.lookup.specs.declared.answers.Lookup.the-variants.{Route as Found, NoRoute, Refused as NotLooked}
 use Rattle.lookup.proofs.Calls.{lookup-same}
 use Rattle.steps.specs.Steps.{present}
+use Rattle.liveroom.specs.Rooms.{shown, fit, live, Words}
 use Rattle.live.specs.declared.answers.Kept.{Kept}
 use Rattle.live.specs.declared.answers.Kept.the-variants.{Done, Absent, Refused}
-use Rattle.live.specs.Rooms.{shown, fit, live}
 use Rattle.live.specs.Tables.{masked, putting, prefixRules, putRules}
 use Rattle.live.specs.Calls.{keptSays, leftBy, liveRules, Makes, Puts, Takes, lookReply}
-use Rattle.live.specs.Conditions.{Words, Holding, MakeCondition, short-room, LookCondition, no-map}
+use Rattle.live.specs.Conditions.{Holding, MakeCondition, short-room, LookCondition, no-map}
 use Rattle.live.specs.Conditions.{TakeCondition, of-room, too-long, host-bits, PutCondition, of-prefix, bad-hop, too-many, too-wide}
 use Rattle.live.proofs.Maps.{live-holds, holds-live}
 

@@ -9,11 +9,10 @@ use Rattle.theory.specs.Routes.{miss, hit}
 use Rattle.refusals.specs.Rules.{gives, refuses, judge}
 use Rattle.records.specs.Forms.{byDefault, strictly}
 use Rattle.nodecount.specs.Nodes.{fresh, brought, nodes}
+use Rattle.liveroom.specs.Rooms.{fit, Words}
 use Rattle.live.specs.declared.answers.Kept.the-variants.{Done}
-use Rattle.live.specs.Rooms.{fit}
 use Rattle.live.specs.Calls.{Makes}
 use Rattle.live.specs.Sequences.{Call, puts, takes, looks, Said, changed, found, tableAnswers, Runs}
-use Rattle.live.specs.Conditions.{Words}
 use Rattle.live.proofs.Demands.{Addressed, sequence}
 
 -- Calls in a room of so many nodes, and what is said to them.

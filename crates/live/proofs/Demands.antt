@@ -19,18 +19,17 @@ use Rattle.records.specs.Wire.{route}
 use Rattle.records.specs.declared.Form.{Form}
 use Rattle.nodecount.specs.Nodes.{nodes, brought}
 use Rattle.steps.specs.Steps.{same, present, put, without}
+use Rattle.liveroom.specs.Rooms.{shown, fit, Words}
+use Rattle.liveroom.proofs.Reading.{length-shown}
+use Rattle.liveroom.proofs.Sound.{Mapped, is-live, live-mapped, mapped-table, sound-proper}
 use Rattle.live.specs.declared.answers.Kept.{Kept}
 use Rattle.live.specs.declared.answers.Kept.the-variants.{Done}
-use Rattle.live.specs.Rooms.{shown, fit}
 use Rattle.live.specs.Tables.{masked, tablePut, tableTake}
 use Rattle.live.specs.Calls.{keptSays, leftBy, Makes, putReply, Puts, takeReply, Takes, lookReply}
 use Rattle.live.specs.Sequences.{Call, puts, takes, looks, Said, changed, found, keptBy, tableAnswers, Runs, nothing, put-then, take-then, look-then}
-use Rattle.live.specs.Conditions.{Words}
 use Rattle.live.proofs.Maps.{Good, good-stored, put-mapped, take-mapped}
 use Rattle.live.proofs.Present.{nodes-less}
-use Rattle.live.proofs.Reading.{length-shown}
 use Rattle.live.proofs.Replies.{masked-sound}
-use Rattle.live.proofs.Sound.{Mapped, is-live, live-mapped, mapped-table, sound-proper}
 
 -- ---- One call on a good room.
 

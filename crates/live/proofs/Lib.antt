@@ -1,13 +1,4 @@
 -- The laws of the live map, in the order to read them. The theorems to look for are those of Demands, Calls, Promises, Wrong and Cases.
-pub mod Reading
-pub mod Storing
-pub mod Sound
-pub mod Moving
-pub mod Passing
-pub mod Holding
-pub mod Placing
-pub mod Looking
-pub mod Changing
 pub mod Present
 pub mod Calling
 pub mod Replies

@@ -14,13 +14,13 @@ use Rattle.theory.proofs.Parts.{all-part}
 use Rattle.nodecount.specs.Nodes.{nodes}
 use Rattle.steps.specs.Steps.{taking, same, put, without}
 use Rattle.steps.proofs.Tables.{all-put, ascending-put, table-step}
-use Rattle.live.specs.Rooms.{mark, shown, pairs, wordsOf, stored, fit, live}
-use Rattle.live.specs.Conditions.{Words, HoldsMap}
-use Rattle.live.specs.Inner.{Holds}
+use Rattle.liveroom.specs.Rooms.{mark, shown, pairs, wordsOf, stored, fit, live, Words}
+use Rattle.liveroom.specs.Inner.{Holds}
+use Rattle.liveroom.proofs.Reading.{length-shown, length-pairs}
+use Rattle.liveroom.proofs.Sound.{Proper, Mapped, Live, live-is, is-live, live-mapped, mapped-table, mapped-is, is-mapped, mapped-lawful}
+use Rattle.liveroom.proofs.Storing.{stored-is, stored-mark, stored-count, shown-stored, length-stored, room-stored, Narrow}
+use Rattle.live.specs.Conditions.{HoldsMap}
 use Rattle.live.proofs.Present.{own-words}
-use Rattle.live.proofs.Reading.{length-shown, length-pairs}
-use Rattle.live.proofs.Sound.{Proper, Mapped, Live, live-is, is-live, live-mapped, mapped-table, mapped-is, is-mapped, mapped-lawful}
-use Rattle.live.proofs.Storing.{stored-is, stored-mark, stored-count, shown-stored, length-stored, room-stored, Narrow}
 
 -- ---- Which rooms hold a map, said by the map.
 

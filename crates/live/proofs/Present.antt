@@ -15,7 +15,7 @@ use Rattle.nodecount.proofs.NodeRuns.{Has, Prefixes, nodes-prefixes}
 use Rattle.steps.specs.Steps.{putting, taking, same, entry, present, put, without}
 use Rattle.steps.proofs.Entries.{same-true, entry-put, entry-step, ascending-distinct, member-entry, entry-member}
 use Rattle.steps.proofs.Tables.{table-step}
-use Rattle.live.proofs.Holding.{nodes-some}
+use Rattle.liveroom.proofs.Holding.{nodes-some}
 
 -- The prefixes present in s are present in t.
 abbrev pub Presents : List Route → List Route → Type 0

@@ -24,19 +24,19 @@ use Rattle.lookup.proofs.Calls.{lookup-same}
 use Rattle.steps.specs.Steps.{same, entry, present, taking as takingStep}
 use Rattle.steps.proofs.Entries.{entry-put, entry-step}
 use Rattle.steps.proofs.Tables.{length-old}
+use Rattle.liveroom.specs.Rooms.{shown, stored, fit, live, Words}
+use Rattle.liveroom.proofs.Sound.{live-is, is-live, sound-proper}
 use Rattle.live.specs.declared.answers.Kept.{Kept}
 use Rattle.live.specs.declared.answers.Kept.the-variants.{Done, Absent, Refused}
-use Rattle.live.specs.Rooms.{shown, stored, fit, live}
 use Rattle.live.specs.Tables.{masked, putting, taking, roomRules, tablePut, tableTake}
 use Rattle.live.specs.Calls.{keptSays, leftBy, Makes, Puts, Takes, lookReply}
 use Rattle.live.specs.Sequences.{keptBy}
-use Rattle.live.specs.Conditions.{Words, HoldsMap, Holding}
+use Rattle.live.specs.Conditions.{HoldsMap, Holding}
 use Rattle.live.proofs.Calls.{kept-same, is-dead, take-absent}
 use Rattle.live.proofs.Demands.{gives-not, put-said, put-good, take-said, take-good, make-good}
 use Rattle.live.proofs.Maps.{Good, live-holds, holds-live, holds-shown}
 use Rattle.live.proofs.Present.{without-absent, nodes-old, nodes-less}
 use Rattle.live.proofs.Replies.{masked-sound}
-use Rattle.live.proofs.Sound.{live-is, is-live, sound-proper}
 
 -- ---- A room that holds no live map is refused with 18, whatever else is asked.
 module _ (room : List ℕ) (words : Words room) (other : Holding room → ⊥) where

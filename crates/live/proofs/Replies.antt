@@ -15,13 +15,13 @@ use Rattle.refusals.proofs.Judged.{kept-next, broken-here, all-next, some-here}
 use Rattle.records.specs.Wire.{route}
 use Rattle.records.specs.declared.Form.{Form}
 use Rattle.steps.specs.Steps.{present}
+use Rattle.liveroom.specs.Rooms.{mark, wordsOf, pairs, shown, sound, stored, live, fit}
+use Rattle.liveroom.proofs.Sound.{true-and}
 use Rattle.live.specs.declared.answers.Kept.{Kept}
 use Rattle.live.specs.declared.answers.Kept.the-variants.{Done, Refused}
-use Rattle.live.specs.Rooms.{mark, wordsOf, pairs, shown, sound, stored, live, fit}
 use Rattle.live.specs.Tables.{masked, putting, taking, prefixRules, roomRules}
 use Rattle.live.specs.Calls.{keptSays, leftBy, makeReply, Makes, putReply, Puts, takeReply, Takes, lookReply}
 use Rattle.live.specs.Inner.{PutsKept, TakesKept}
-use Rattle.live.proofs.Sound.{true-and}
 
 -- ---- An empty map.
 

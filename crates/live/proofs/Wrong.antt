@@ -9,13 +9,13 @@ use Rattle.theory.specs.Routes.{Match, hit}
 use Rattle.refusals.specs.Rules.{gives, refuses}
 use Rattle.records.specs.Forms.{byDefault}
 use Rattle.nodecount.specs.Nodes.{fresh, brought, nodes}
+use Rattle.liveroom.specs.Rooms.{shown, fit, Words}
 use Rattle.live.specs.declared.answers.Kept.{Kept}
 use Rattle.live.specs.declared.answers.Kept.the-variants.{Done}
-use Rattle.live.specs.Rooms.{shown, fit}
 use Rattle.live.specs.Tables.{putting}
 use Rattle.live.specs.Calls.{Makes, Puts}
 use Rattle.live.specs.Sequences.{Said, changed, found, Runs}
-use Rattle.live.specs.Conditions.{Words, MakeCondition, short-room}
+use Rattle.live.specs.Conditions.{MakeCondition, short-room}
 use Rattle.live.proofs.Calls.{make-done}
 use Rattle.live.proofs.Cases.{emptied, replaced, worked}
 use Rattle.live.proofs.Maps.{holds-shown}

@@ -9,9 +9,9 @@ use Rattle.theory.specs.Routes.{Route, Match, lookup}
 use Rattle.refusals.specs.Rules.{Rule, rule, Reply, gives, refuses, judge}
 use Rattle.records.specs.declared.Form.{Form}
 use Rattle.steps.specs.Steps.{present}
+use Rattle.liveroom.specs.Rooms.{shown, stored, live, fit}
 use Rattle.live.specs.declared.answers.Kept.{Kept}
 use Rattle.live.specs.declared.answers.Kept.the-variants.{Done, Absent, Refused}
-use Rattle.live.specs.Rooms.{shown, stored, live, fit}
 use Rattle.live.specs.Tables.{masked, putting, taking, prefixRules, putRules}
 
 -- ---- Answers.

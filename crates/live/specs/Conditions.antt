@@ -4,17 +4,13 @@ use Prim.Native.Nat.{ℕ, _-_, _%_, _^_, _≤_, _<_}
 use mathlib.Core.Path.{_≡_}
 use mathlib.Core.Bool.{true, false}
 use mathlib.Core.List.{List}
-use lib.ListN.{length, getD}
+use lib.ListN.{length}
 use Rattle.theory.specs.Routes.{Route}
 use Rattle.records.specs.declared.Form.{Form}
 use Rattle.table.specs.Conditions.{Lawful}
 use Rattle.nodecount.specs.Nodes.{nodes}
-use Rattle.live.specs.Rooms.{stored, shown, fit}
+use Rattle.liveroom.specs.Rooms.{stored, shown, fit}
 use Rattle.live.specs.Tables.{putting}
-
--- The words of a room are below 2 ^ 32, as those of every `&[u32]` are.
-abbrev pub Words : List ℕ → Type 0
-Words room = (k : ℕ) → getD room k 0 < 2 ^ 32
 
 -- The room holds the map of the routes t: they are such as an accepted map's table has, their nodes fit, and the room is as if they had been stored in it.
 pub record HoldsMap (room : List ℕ) (t : List Route) : Type 0 where

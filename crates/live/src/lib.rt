@@ -1,21 +1,17 @@
 // A live map: a table that stays in a lent room of 32-bit words, with put, take and lookup.
 
 pub mod answers;
-mod changes;
-mod check;
-mod fields;
-mod matching;
 
 use answers::Kept;
-use changes::insert;
-use changes::remove;
-use changes::set_record;
-use check::held_with;
-use check::nodes_held;
+use liveroom::changes::insert;
+use liveroom::changes::remove;
+use liveroom::changes::set_record;
+use liveroom::check::held_with;
+use liveroom::check::nodes_held;
+use liveroom::matching::is_at;
+use liveroom::matching::longest_in;
+use liveroom::matching::place;
 use lookup::answers::Lookup;
-use matching::is_at;
-use matching::longest_in;
-use matching::place;
 use records::Form;
 use words::prefix::host_bits_clear;
 use words::prefix::masked;
@@ -25,7 +21,7 @@ ghost use Rattle.lookup.specs.Calls.{lookupSays};
 ghost use Rattle.nodecount.specs.Nodes.{nodes};
 ghost use Rattle.records.specs.Wire.{route};
 ghost use Rattle.refusals.specs.Rules.{broken};
-ghost use Rattle.live.specs.Rooms.{live, shown, sound};
+ghost use Rattle.liveroom.specs.Rooms.{live, shown, sound};
 ghost use Rattle.live.specs.Tables.{prefixRules};
 ghost use Rattle.live.specs.Calls.{Makes, Puts, Takes, lookReply};
 ghost use Rattle.live.specs.Inner.{PutsKept, TakesKept};

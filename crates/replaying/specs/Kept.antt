@@ -89,7 +89,7 @@ listAnswer form t room = listText true (judge (unroutedRules form t room) (holes
 
 -- Of a case, by its call: 0 rewrite, 1 cover query, 2 lookup, 3 addresses held. Call 4, a list of what has no route, has `listAnswer` for an output of
 -- as many bytes as `wordsOf` says, call 5, a rewrite by the plain engine, `plainCase`, call 6, the chip loader, `chipCase`, and call 9, special use,
--- `specialCase`. Any other ends the run.
+-- `specialCase`, and call 10, the live map, `liveAnswer` in a room of as many words as `wordsOf` says. Any other ends the run.
 unfoldable pub answerText : List ℕ → List ℕ → List ℕ → List ℕ
 answerText head t ranks =
     let form = formBy (byte head 0) in

@@ -3,4 +3,5 @@ pub mod Kept
 pub mod Lines
 pub mod SpecialKept
 pub mod ChipKept
+pub mod LiveKept
 pub mod PlanKept

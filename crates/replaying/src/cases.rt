@@ -11,6 +11,7 @@ use super::join2;
 use super::keep_output;
 use super::keep_work;
 use super::last_line;
+use super::live_turns::live_turn;
 use super::room_for;
 use super::special_cases::special_turn;
 use aggregate::covers;
@@ -275,6 +276,7 @@ pub fn case_turn(
     at: usize,
     kept: &mut [u8],
 ) -> Turn
+    requires { ⌜ length (now table) ≤ 65535 ⌝ }
     requires { ⌜ 262144 ≡ length (now output) ⌝ }
     requires { ⌜ 824480 ≡ length (now work) ⌝ }
     requires { ⌜ at ≤ length (now kept) ⌝ }
@@ -294,10 +296,13 @@ pub fn case_turn(
             more: true,
         };
     }
+    let asked = join4(head[8], head[9], head[10], head[11]) as usize;
+    if call == 10 {
+        return live_turn(asked, table, work, at, kept);
+    }
     if 5 < call {
         return last_line(b"no such call\n", at, kept);
     }
-    let asked = join4(head[8], head[9], head[10], head[11]) as usize;
     if call == 4 {
         return listed_turn(asked, table, form_of(head[0]), output, at, kept);
     }

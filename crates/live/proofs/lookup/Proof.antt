@@ -3,12 +3,11 @@ use mathlib.Core.Bool.{true}
 use mathlib.Core.Path.{_≡_, refl, _∙_}
 use native.Mathlib.Omega.{arith}
 use borrow.Author.Needs.{needs}
-use Rattle.live.specs.Rooms.{shown, live}
-use Rattle.live.specs.Conditions.{Words}
+use Rattle.liveroom.specs.Rooms.{shown, live, Words}
+use Rattle.liveroom.proofs.Holding.{held-live, held-dead}
+use Rattle.liveroom.proofs.Sound.{Live, live-is}
 use Rattle.live.proofs.Calling.{table-from, in-range}
-use Rattle.live.proofs.Holding.{held-live, held-dead}
 use Rattle.live.proofs.Replies.{looks-dead, looks-past}
-use Rattle.live.proofs.Sound.{Live, live-is}
 use Rattle.live.proofs.lookup.Statement.{statement}
 use Rattle.live.proofs.lookup.Tie as tie
 

@@ -5,8 +5,8 @@ use native.Mathlib.Omega.{arith}
 use borrow.Author.Needs.{needs}
 use Rattle.records.specs.Wire.{route}
 use Rattle.nodecount.specs.Nodes.{nodes}
-use Rattle.live.specs.Rooms.{shown, sound, live}
-use Rattle.live.proofs.Holding.{held-live, held-dead}
+use Rattle.liveroom.specs.Rooms.{shown, sound, live}
+use Rattle.liveroom.proofs.Holding.{held-live, held-dead}
 use Rattle.live.proofs.Replies.{prefix-short, masked-sound, puts-dead, puts-faulty, puts-hop, puts-past}
 use Rattle.live.proofs.put.Statement.{statement}
 use Rattle.live.proofs.put.Tie as tie

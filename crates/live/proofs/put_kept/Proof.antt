@@ -7,11 +7,10 @@ use native.Mathlib.Omega.{arith}
 use borrow.Author.Needs.{needs}
 use Rattle.records.specs.Wire.{route}
 use Rattle.nodecount.specs.Nodes.{nodes}
-use Rattle.live.specs.Conditions.{Words}
-use Rattle.live.specs.Inner.{isAt}
-use Rattle.live.specs.Rooms.{countIn, shownFrom, shown}
+use Rattle.liveroom.specs.Inner.{isAt}
+use Rattle.liveroom.specs.Rooms.{countIn, shownFrom, shown, Words}
+use Rattle.liveroom.proofs.Sound.{Proper, Live, live-is, sound-proper}
 use Rattle.live.proofs.Calling.{table-from, small, put-done-old, with-table, put-17, put-10, more-holds, put-done-new}
-use Rattle.live.proofs.Sound.{Proper, Live, live-is, sound-proper}
 use Rattle.live.proofs.put_kept.Statement.{statement}
 use Rattle.live.proofs.put_kept.Tie as tie
 

@@ -4,8 +4,8 @@ use mathlib.Core.Path.{_≡_}
 use native.Mathlib.Omega.{arith}
 use borrow.Author.Needs.{needs}
 use Rattle.nodecount.specs.Nodes.{nodes}
-use Rattle.live.specs.Rooms.{shown, live}
-use Rattle.live.proofs.Holding.{held-live, held-dead}
+use Rattle.liveroom.specs.Rooms.{shown, live}
+use Rattle.liveroom.proofs.Holding.{held-live, held-dead}
 use Rattle.live.proofs.Replies.{prefix-short, takes-dead, takes-faulty, takes-past}
 use Rattle.live.proofs.take.Statement.{statement}
 use Rattle.live.proofs.take.Tie as tie

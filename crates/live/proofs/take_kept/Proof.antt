@@ -5,11 +5,10 @@ use mathlib.Core.Path.{_≡_, sym, _∙_}
 use mathlib.Core.List.{List}
 use native.Mathlib.Omega.{arith}
 use borrow.Author.Needs.{needs}
-use Rattle.live.specs.Conditions.{Words}
-use Rattle.live.specs.Inner.{isAt}
-use Rattle.live.specs.Rooms.{countIn}
+use Rattle.liveroom.specs.Inner.{isAt}
+use Rattle.liveroom.specs.Rooms.{countIn, Words}
+use Rattle.liveroom.proofs.Sound.{Live, live-is}
 use Rattle.live.proofs.Calling.{table-from, small, take-done, take-absent}
-use Rattle.live.proofs.Sound.{Live, live-is}
 use Rattle.live.proofs.take_kept.Statement.{statement}
 use Rattle.live.proofs.take_kept.Tie as tie
 

@@ -7,22 +7,15 @@ use Rattle.replay.proofs.main.Statement.{statement}
 use Rattle.replay.proofs.main.Tie as tie
 
 abbrev Inv-loop : tie.InvT-loop
-Inv-loop table₀ new₀ steps₀ output₀ work₀ kept₀ at₀ turns₀ table new steps output work kept at turns =
-    (length table ≡ 65535) × (length new ≡ 65535) × (length steps ≡ 524280) × (length output ≡ 262144) × (length work ≡ 824480) × (length kept ≡ 1048576) × (at ≤ 1048576)
+Inv-loop table₀ new₀ output₀ work₀ kept₀ at₀ turns₀ table new output work kept at turns =
+    (length table ≡ 65535) × (length new ≡ 65535) × (length output ≡ 262144) × (length work ≡ 824480) × (length kept ≡ 1048576) × (at ≤ 1048576)
 
 abbrev μ-loop : tie.MeasureT-loop
-μ-loop table₀ new₀ steps₀ output₀ work₀ kept₀ at₀ turns₀ table new steps output work kept at turns = turns
+μ-loop table₀ new₀ output₀ work₀ kept₀ at₀ turns₀ table new output work kept at turns = turns
 
 loop-holds : tie.Need-loop-holds Inv-loop μ-loop
-loop-holds c = (
-  length-replicate {A = ℕ} 65535 0,
-  length-replicate {A = ℕ} 65535 0,
-  length-replicate {A = ℕ} 524280 0,
-  length-replicate {A = ℕ} 262144 0,
-  length-replicate {A = ℕ} 824480 0,
-  length-replicate {A = ℕ} 1048576 0,
-  omega arith,
-)
+loop-holds c =
+    (length-replicate {A = ℕ} 65535 0, length-replicate {A = ℕ} 65535 0, length-replicate {A = ℕ} 262144 0, length-replicate {A = ℕ} 824480 0, length-replicate {A = ℕ} 1048576 0, omega arith)
 
 slice-aggregate-turn : tie.Need-slice-aggregate-turn Inv-loop μ-loop
 slice-aggregate-turn c = sym (c .before .before .loop .inv .0)
@@ -39,34 +32,31 @@ slice-aggregate-turn-4 c = sym (c .before .before .before .before .before .loop 
 slice-aggregate-turn-5 : tie.Need-slice-aggregate-turn-5 Inv-loop μ-loop
 slice-aggregate-turn-5 c = sym (c .before .before .before .before .before .before .loop .inv .4)
 
-slice-aggregate-turn-6 : tie.Need-slice-aggregate-turn-6 Inv-loop μ-loop
-slice-aggregate-turn-6 c = sym (c .before .before .before .before .before .before .before .loop .inv .5)
-
 turn-requires : tie.Need-turn-requires Inv-loop μ-loop
 turn-requires c κs =
-    let inv = c .before .before .before .before .before .before .before .loop .inv in
-    let fits : c .before .before .before .before .before .before .before .loop .at ≤ length (c .before .before .before .before .before .before .before .loop .kept) = omega (arith, inv .5, inv .6) in
-    let large : 1048576 ≤ length (c .before .before .before .before .before .before .before .loop .kept) = omega (arith, inv .5) in
-    (sym (inv .0), (sym (inv .1), (sym (inv .2), (sym (inv .3), (sym (inv .4), (fits, large))))))
+    let inv = c .before .before .before .before .before .before .loop .inv in
+    let fits : c .before .before .before .before .before .before .loop .at ≤ length (c .before .before .before .before .before .before .loop .kept) = omega (arith, inv .4, inv .5) in
+    let large : 1048576 ≤ length (c .before .before .before .before .before .before .loop .kept) = omega (arith, inv .4) in
+    (sym (inv .0), (sym (inv .1), (sym (inv .2), (sym (inv .3), (fits, large)))))
 
 turns-left-requires : tie.Need-turns-left-requires Inv-loop μ-loop
-turns-left-requires c κs = c .before .before .before .before .before .before .before .before .before .before .before .before .before .loop-test .taken
+turns-left-requires c κs = c .before .before .before .before .before .before .before .before .before .before .before .loop-test .taken
 
 loop-less : tie.Need-loop-less Inv-loop μ-loop
 loop-less c = c .turns-left .ensures
 
 loop-again : tie.Need-loop-again Inv-loop μ-loop
 loop-again c =
-    let inv = c .before .before .before .before .before .before .before .before .before .before .before .before .before .before .before .loop .inv in
-    let kept = c .before .before .before .before .before .before .before .turn .kept in
-    let end = c .before .before .before .before .before .before .before .turn .ensures in
-    (kept .0 ∙ inv .0, kept .1 .0 ∙ inv .1, kept .1 .1 .0 ∙ inv .2, kept .1 .1 .1 .0 ∙ inv .3, kept .1 .1 .1 .1 .0 ∙ inv .4, kept .1 .1 .1 .1 .1 .1 .0 ∙ inv .5, omega (arith, end, inv .5))
+    let inv = c .before .before .before .before .before .before .before .before .before .before .before .before .before .loop .inv in
+    let kept = c .before .before .before .before .before .before .turn .kept in
+    let end = c .before .before .before .before .before .before .turn .ensures in
+    (kept .0 ∙ inv .0, kept .1 .0 ∙ inv .1, kept .1 .1 .0 ∙ inv .2, kept .1 .1 .1 .0 ∙ inv .3, kept .1 .1 .1 .1 .1 .0 ∙ inv .4, omega (arith, end, inv .4))
 
 slice-aggregate-send : tie.Need-slice-aggregate-send Inv-loop μ-loop
-slice-aggregate-send c = sym (c .before .before .loop .inv .5)
+slice-aggregate-send c = sym (c .before .before .loop .inv .4)
 
 send-requires : tie.Need-send-requires Inv-loop μ-loop
-send-requires c κs = let inv = c .before .before .loop .inv in omega (arith, inv .5, inv .6)
+send-requires c κs = let inv = c .before .before .loop .inv in omega (arith, inv .4, inv .5)
 
 returns : tie.Need-returns Inv-loop μ-loop
 returns c = tt
@@ -83,7 +73,6 @@ main-spec =
     slice-aggregate-turn-3
     slice-aggregate-turn-4
     slice-aggregate-turn-5
-    slice-aggregate-turn-6
     turn-requires
     turns-left-requires
     loop-less

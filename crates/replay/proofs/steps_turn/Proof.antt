@@ -1,194 +1,115 @@
 -- `steps_turn` is safe and ends. Assumes nothing.
-use Prim.Native.Nat.{ℕ, _*_, _≤_}
+use Prim.Native.Nat.{ℕ, _≤_}
 use mathlib.Core.Path.{_≡_}
 use mathlib.Core.List.{List, _++_}
 use native.Mathlib.Omega.{arith}
-use Rattle.records.specs.Wire.{records}
 use lib.ListN.{length, take, drop, length-append, length-take, length-drop}
 use borrow.Author.Needs.{needs}
 use Rattle.replay.proofs.steps_turn.Statement.{statement}
 use Rattle.replay.proofs.steps_turn.Tie as tie
-use Rattle.replay.proofs.steps_turn.Reads as reads
-use Rattle.replay.proofs.steps_turn.Lts as lts
-use Rattle.io.proofs.read_full.Reads as read-full-reads
-use Rattle.replaying.proofs.call_of.Reads as call-of-reads
-use Rattle.replaying.proofs.join2.Reads as join2-reads
-use Rattle.replaying.proofs.last_line.Reads as last-line-reads
-use Rattle.replaying.proofs.plan_cases.check_turn.Reads as check-turn-reads
-use Rattle.replaying.proofs.plan_cases.plan_turn.Reads as plan-turn-reads
 
--- The part of a room that was read has as many bytes as were asked for.
+-- The part of a table that was read has as many bytes as were asked for.
 read-part : (n : ℕ) (table part : List ℕ) → n ≤ length table → length part ≡ length (take n table) → n ≡ length (take n (part ++ drop n table))
 read-part n table part fits same =
     let size = length-take n table in
     simp (length-take, length-append, length-drop) (omega arith)
 
--- So many steps were read.
-few-read : (m : ℕ) (room part : List ℕ) → m ≤ 65535 → 8 * m ≤ length room → length part ≡ length (take (8 * m) room)
-    → records (take (8 * m) (part ++ drop (8 * m) room)) ≤ 65535
-few-read m room part few fits same = let e = read-part (8 * m) room part fits same in omega (arith, e)
-
--- src/main.rt:36:22
 element-copy-out-join2 : tie.Need-element-copy-out-join2
 element-copy-out-join2 c = search needs
 
--- src/main.rt:36:31
 element-copy-out-join2-2 : tie.Need-element-copy-out-join2-2
 element-copy-out-join2-2 c = search needs
 
--- src/main.rt:36:9
 join2-requires : tie.Need-join2-requires
 join2-requires c κs = search needs
 
--- src/main.rt:37:36
 slice-relend-prefix-read-full : tie.Need-slice-relend-prefix-read-full
 slice-relend-prefix-read-full c = search needs
 
--- src/main.rt:37:36
 slice-aggregate-read-full : tie.Need-slice-aggregate-read-full
 slice-aggregate-read-full c = simp length-take (omega arith)
 
--- src/main.rt:37:8
 read-full-requires : tie.Need-read-full-requires
 read-full-requires c κs = search needs
 
--- src/main.rt:38:26
 slice-aggregate-last-line : tie.Need-slice-aggregate-last-line
 slice-aggregate-last-line c = search needs
 
--- src/main.rt:38:9
 last-line-requires : tie.Need-last-line-requires
 last-line-requires c κs = search needs
 
--- src/main.rt:38:9
 same-length : tie.Need-same-length
 same-length c = search needs
 
--- src/main.rt:38:9
 same-length-2 : tie.Need-same-length-2
 same-length-2 c = search needs
 
--- src/main.rt:38:9
 returns : tie.Need-returns
 returns c = search needs
 
--- src/main.rt:40:16
 element-copy-out-call-of : tie.Need-element-copy-out-call-of
 element-copy-out-call-of c = search needs
 
--- src/main.rt:40:8
 call-of-requires : tie.Need-call-of-requires
 call-of-requires c κs = search needs
 
--- src/main.rt:42:44
 slice-reshare-prefix-plan-turn : tie.Need-slice-reshare-prefix-plan-turn
 slice-reshare-prefix-plan-turn c = search needs
 
--- src/main.rt:42:44
 slice-aggregate-plan-turn : tie.Need-slice-aggregate-plan-turn
 slice-aggregate-plan-turn c = read-part (c .before .before .before .before .before .before .before .before .before .join2 .result) (c .before .before .before .before .before .before .before .before .before .before .before .before .before .before .before .before .args .new .now) (c .before .before .before .before .before .before .before .read-full .last .1 .0) (omega (arith, c .before .before .before .before .before .before .before .before .before .join2 .ensures .1, c .before .before .before .before .before .before .before .before .before .before .before .before .before .before .before .before .pre .0)) (c .before .before .before .before .before .before .before .read-full .kept .1 .0)
 
--- src/main.rt:42:17
 plan-turn-requires : tie.Need-plan-turn-requires
 plan-turn-requires c κs = search needs
 
--- src/main.rt:41:9
 same-length-3 : tie.Need-same-length-3
 same-length-3 c = search needs
 
--- src/main.rt:41:9
 same-length-4 : tie.Need-same-length-4
 same-length-4 c = search needs
 
--- src/main.rt:41:9
 returns-2 : tie.Need-returns-2
 returns-2 c = search needs
 
--- src/main.rt:46:25
-element-copy-out-join2-3 : tie.Need-element-copy-out-join2-3
-element-copy-out-join2-3 c = search needs
-
--- src/main.rt:46:35
-element-copy-out-join2-4 : tie.Need-element-copy-out-join2-4
-element-copy-out-join2-4 c = search needs
-
--- src/main.rt:46:19
-join2-requires-2 : tie.Need-join2-requires-2
-join2-requires-2 c κs = search needs
-
--- src/main.rt:46:15
-mul-all : tie.Need-mul-all
-mul-all c = search needs
-
--- src/main.rt:47:36
-slice-relend-prefix-read-full-2 : tie.Need-slice-relend-prefix-read-full-2
-slice-relend-prefix-read-full-2 c = search needs
-
--- src/main.rt:47:36
-slice-aggregate-read-full-2 : tie.Need-slice-aggregate-read-full-2
-slice-aggregate-read-full-2 c = simp length-take (omega arith)
-
--- src/main.rt:47:8
 read-full-requires-2 : tie.Need-read-full-requires-2
 read-full-requires-2 c κs = search needs
 
--- src/main.rt:48:26
 slice-aggregate-last-line-2 : tie.Need-slice-aggregate-last-line-2
 slice-aggregate-last-line-2 c = search needs
 
--- src/main.rt:48:9
 last-line-requires-2 : tie.Need-last-line-requires-2
 last-line-requires-2 c κs = search needs
 
--- src/main.rt:48:9
 same-length-5 : tie.Need-same-length-5
 same-length-5 c = search needs
 
--- src/main.rt:48:9
 same-length-6 : tie.Need-same-length-6
 same-length-6 c = search needs
 
--- src/main.rt:48:9
 same-length-7 : tie.Need-same-length-7
 same-length-7 c = search needs
 
--- src/main.rt:48:9
 returns-3 : tie.Need-returns-3
 returns-3 c = search needs
 
--- src/main.rt:51:41
 slice-reshare-prefix-check-turn : tie.Need-slice-reshare-prefix-check-turn
 slice-reshare-prefix-check-turn c = search needs
 
--- src/main.rt:51:41
 slice-aggregate-check-turn : tie.Need-slice-aggregate-check-turn
-slice-aggregate-check-turn c = read-part (c .before .before .before .before .before .before .before .before .before .before .before .before .before .before .before .before .before .join2 .result) (c .before .before .before .before .before .before .before .before .before .before .before .before .before .before .before .before .before .before .before .before .before .before .before .before .args .new .now) (c .before .before .before .before .before .before .before .before .before .before .before .before .before .before .before .read-full .last .1 .0) (omega (arith, c .before .before .before .before .before .before .before .before .before .before .before .before .before .before .before .before .before .join2 .ensures .1, c .before .before .before .before .before .before .before .before .before .before .before .before .before .before .before .before .before .before .before .before .before .before .before .before .pre .0)) (c .before .before .before .before .before .before .before .before .before .before .before .before .before .before .before .read-full .kept .1 .0)
+slice-aggregate-check-turn c = read-part (c .before .before .before .before .before .before .before .before .before .before .before .before .before .before .join2 .result) (c .before .before .before .before .before .before .before .before .before .before .before .before .before .before .before .before .before .before .before .before .before .args .new .now) (c .before .before .before .before .before .before .before .before .before .before .before .before .read-full .last .1 .0) (omega (arith, c .before .before .before .before .before .before .before .before .before .before .before .before .before .before .join2 .ensures .1, c .before .before .before .before .before .before .before .before .before .before .before .before .before .before .before .before .before .before .before .before .before .pre .0)) (c .before .before .before .before .before .before .before .before .before .before .before .before .read-full .kept .1 .0)
 
--- src/main.rt:51:55
-slice-reshare-prefix-check-turn-2 : tie.Need-slice-reshare-prefix-check-turn-2
-slice-reshare-prefix-check-turn-2 c = search needs
-
--- src/main.rt:51:55
-slice-aggregate-check-turn-2 : tie.Need-slice-aggregate-check-turn-2
-slice-aggregate-check-turn-2 c = read-part (8 * c .before .before .before .before .before .before .before .join22 .result) (c .before .before .before .before .before .before .before .before .before .before .before .before .before .before .before .before .before .before .before .before .before .before .before .before .before .args .steps .now) (c .before .before .before .before .before .read-full2 .last .1 .0) (omega (arith, c .before .before .before .before .before .before .before .join22 .ensures .1, c .before .before .before .before .before .before .before .before .before .before .before .before .before .before .before .before .before .before .before .before .before .before .before .before .before .pre .1)) (c .before .before .before .before .before .read-full2 .kept .1 .0)
-
--- src/main.rt:51:13
 check-turn-requires : tie.Need-check-turn-requires
-check-turn-requires c κs = (few-read (c .before .before .before .before .before .before .before .before .join22 .result) (c .before .before .before .before .before .before .before .before .before .before .before .before .before .before .before .before .before .before .before .before .before .before .before .before .before .before .args .steps .now) (c .before .before .before .before .before .before .read-full2 .last .1 .0) (c .before .before .before .before .before .before .before .before .join22 .ensures .1) (omega (arith, c .before .before .before .before .before .before .before .before .join22 .ensures .1, c .before .before .before .before .before .before .before .before .before .before .before .before .before .before .before .before .before .before .before .before .before .before .before .before .before .before .pre .1)) (c .before .before .before .before .before .before .read-full2 .kept .1 .0), (c .before .before .before .before .before .before .before .before .before .before .before .before .before .before .before .before .before .before .before .before .before .before .before .before .before .before .pre .1 .1 .0, c .before .before .before .before .before .before .before .before .before .before .before .before .before .before .before .before .before .before .before .before .before .before .before .before .before .before .pre .1 .1 .1))
+check-turn-requires c κs = search needs
 
--- src/main.rt:22:1
 same-length-8 : tie.Need-same-length-8
 same-length-8 c = search needs
 
--- src/main.rt:22:1
 same-length-9 : tie.Need-same-length-9
 same-length-9 c = search needs
 
--- src/main.rt:22:1
 same-length-10 : tie.Need-same-length-10
 same-length-10 c = search needs
 
--- src/main.rt:22:1
 returns-4 : tie.Need-returns-4
 returns-4 c = search needs
 
@@ -215,12 +136,6 @@ steps-turn-spec =
     same-length-3
     same-length-4
     returns-2
-    element-copy-out-join2-3
-    element-copy-out-join2-4
-    join2-requires-2
-    mul-all
-    slice-relend-prefix-read-full-2
-    slice-aggregate-read-full-2
     read-full-requires-2
     slice-aggregate-last-line-2
     last-line-requires-2
@@ -230,8 +145,6 @@ steps-turn-spec =
     returns-3
     slice-reshare-prefix-check-turn
     slice-aggregate-check-turn
-    slice-reshare-prefix-check-turn-2
-    slice-aggregate-check-turn-2
     check-turn-requires
     same-length-8
     same-length-9

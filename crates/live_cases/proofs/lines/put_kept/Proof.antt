@@ -1,0 +1,83 @@
+-- `lines::put_kept` puts the line of an answer. Assumes nothing.
+use Prim.Native.Nat.{_≤_}
+use mathlib.Core.Path.{sym, ap}
+use native.Mathlib.Omega.{arith}
+use Rattle.live.specs.declared.answers.Kept.{Kept}
+use Rattle.live.specs.Calls.{keptSays}
+use Rattle.text.proofs.Puts.{put-as}
+use Rattle.live_cases.specs.Lines.{keptLine}
+use Rattle.live_cases.proofs.Laid.{put-short, refused-short}
+use borrow.Author.Needs.{needs}
+use Rattle.live_cases.proofs.lines.put_kept.Statement.{statement}
+use Rattle.live_cases.proofs.lines.put_kept.Tie as tie
+
+enum-told : tie.Need-enum-told
+enum-told c = search needs
+
+slice-aggregate-put-bytes : tie.Need-slice-aggregate-put-bytes
+slice-aggregate-put-bytes c = search needs
+
+put-bytes-requires : tie.Need-put-bytes-requires
+put-bytes-requires c κs = search needs
+
+enum-told-2 : tie.Need-enum-told-2
+enum-told-2 c = search needs
+
+slice-aggregate-put-bytes-2 : tie.Need-slice-aggregate-put-bytes-2
+slice-aggregate-put-bytes-2 c = search needs
+
+put-bytes-requires-2 : tie.Need-put-bytes-requires-2
+put-bytes-requires-2 c κs = search needs
+
+enum-known-answer : tie.Need-enum-known-answer
+enum-known-answer c = search needs
+
+put-refused-requires : tie.Need-put-refused-requires
+put-refused-requires c κs = search needs
+
+same-length : tie.Need-same-length
+same-length c = search needs
+
+returns : tie.Need-returns
+unfolding keptLine
+returns c =
+    let p = c .before .before .put-bytes .ensures in
+    (put-as (sym (ap (λ (k : Kept). keptLine (keptSays k)) (c .before .before .before .before .before .enum-told .given .1))) p, put-short p (let h : 5 ≤ 36 = omega arith in h))
+
+same-length-2 : tie.Need-same-length-2
+same-length-2 c = search needs
+
+returns-2 : tie.Need-returns-2
+unfolding keptLine
+returns-2 c =
+    let p = c .before .before .put-bytes2 .ensures in
+    (put-as (sym (ap (λ (k : Kept). keptLine (keptSays k)) (c .before .before .before .before .before .enum-told2 .given .1))) p, put-short p (let h : 7 ≤ 36 = omega arith in h))
+
+same-length-3 : tie.Need-same-length-3
+same-length-3 c = search needs
+
+returns-3 : tie.Need-returns-3
+unfolding keptLine
+returns-3 c =
+    let p = c .before .before .put-refused .ensures in
+    let k = c .before .before .before .before .known-told .given in
+    (put-as (sym (ap (λ (k : Kept). keptLine (keptSays k)) (c .before .before .before .before .before .answer .given .1))) p, put-short p (refused-short _ _ (k .0 .1) (k .1 .0 .1)))
+
+pub put-kept-spec : {M : Type 1} → statement M
+put-kept-spec =
+    tie.close
+    (tie.spec
+    enum-told
+    slice-aggregate-put-bytes
+    put-bytes-requires
+    enum-told-2
+    slice-aggregate-put-bytes-2
+    put-bytes-requires-2
+    enum-known-answer
+    put-refused-requires
+    same-length
+    returns
+    same-length-2
+    returns-2
+    same-length-3
+    returns-3)

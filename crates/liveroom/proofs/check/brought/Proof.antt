@@ -1,0 +1,26 @@
+-- `check::brought` is the table's count for two routes. Assumes nothing.
+use Prim.Native.Nat.{_/_}
+use mathlib.Core.List.{[], _∷_}
+use native.Mathlib.Omega.{arith}
+use borrow.Author.Needs.{needs}
+use Rattle.nodecount.proofs.NodePass.{fresh-small}
+use Rattle.nodecount.specs.Nodes.{bare}
+use Rattle.liveroom.proofs.check.brought.Statement.{statement}
+use Rattle.liveroom.proofs.check.brought.Tie as tie
+
+cast-new-nodes : tie.Need-cast-new-nodes
+cast-new-nodes c = search needs
+
+cast-new-nodes-2 : tie.Need-cast-new-nodes-2
+cast-new-nodes-2 c = search needs
+
+new-nodes-requires : tie.Need-new-nodes-requires
+new-nodes-requires c κs = search needs
+
+returns : tie.Need-returns
+returns c =
+    let a = c .before .args in
+    (c .new-nodes .ensures, omega (arith, c .new-nodes .ensures, c .before .pre, fresh-small 32 (bare (a .last-addr) (a .last-len) ∷ []) (a .addr) (a .len / 5)))
+
+pub brought-spec : {M : Type 1} → statement M
+brought-spec = tie.close (tie.spec cast-new-nodes cast-new-nodes-2 new-nodes-requires returns)

@@ -1,7 +1,6 @@
 // The walks of the five modes over a whole table.
 
-use consistent::maps::aggregate_consistent_map;
-use consistent::sets::aggregate_consistent_set;
+use consistent::aggregate_consistent_map;
 use hops::NO_HOP;
 use maximal::aggregate_set;
 use maximal::collect_coverage;

@@ -1,4 +1,2 @@
--- The laws of modes 2 and 3.
-pub mod KeptSlots
-pub mod SetLaws
+-- The laws of mode 3.
 pub mod MapLaws

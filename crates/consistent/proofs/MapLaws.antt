@@ -17,20 +17,21 @@ use Rattle.words.specs.Positions.{position}
 use Rattle.words.proofs.BitLaws.{if-lt, if-eq}
 use Rattle.words.proofs.PositionLaws.{in-word, above}
 use Rattle.positions.specs.Runs.{noHop, hopOf, headHop, own, orElse, sizeAt, placeAt, cover, coverOver}
-use Rattle.positions.specs.Walk.{walk, slots}
-use Rattle.positions.specs.Walks.{entryUnless, keptOut, isSame, consistentMapOut, consistentMapNext}
+use Rattle.positions.specs.Walk.{walk, stateAt, slots}
+use Rattle.positions.specs.Walks.{isSame, entryUnless, consistentMapOut, consistentMapNext}
+use Rattle.positions.proofs.Counts.{kept-few}
 use Rattle.positions.proofs.Hops.{hop-via}
-use Rattle.positions.proofs.Modes.{consistent-map-state}
+use Rattle.positions.proofs.Modes.{kept-walk-inside, kept-walk-nothing, consistent-map-state}
 use Rattle.positions.proofs.RunsNode.{above-lt, cover-own}
-use Rattle.positions.proofs.Slots.{slots-agree}
+use Rattle.positions.proofs.Slots.{slots-agree, walk-slots}
 use Rattle.nodes.specs.Node.{wide, run, slotSize, Node}
 use Rattle.nodes.specs.Output.{entryAt}
+use Rattle.nodes.proofs.RoomBlocks.{run-length}
 use Rattle.gather.specs.Gathered.{runAt, Gathered, overAt, coveringAt}
-use Rattle.gather.proofs.GatherLaws.{position-run, covering-is, covering-le}
+use Rattle.gather.proofs.GatherLaws.{node-run, position-run, slot-records, no-child, covering-is, covering-le}
 use Rattle.gather.proofs.GatherRuns.{run-none, run-first}
 use Rattle.gather.proofs.BusySlots.{next-steps}
 use Rattle.gather.proofs.MarkedBits.{Marked, passes-up, marked-skip}
-use Rattle.consistent.proofs.KeptSlots.{keptWalk, keptState, kept-no-child, kept-slots, kept-most}
 
 -- ---- The bits.
 
@@ -78,7 +79,7 @@ hop-same h o lt =
 -- The entry of a position with the records from..upto, whose own hop is o and which `hop` covers, where `over` covers it from above.
 entry-is : (t : List ℕ) (from upto hop over place size len : ℕ) (o : Answer) → wide - size ≡ len → o ≡ headHop (run t from upto)
     → hopOf hop ≡ orElse o (hopOf over)
-    → cond (isEntry from upto hop over) (route place len hop ∷ []) [] ≡ entryUnless isSame wide size place o (hopOf over)
+    → cond (isEntry from upto hop over) (route place len hop ∷ []) [] ≡ entryUnless wide size place o (hopOf over)
 entry-is t from upto hop over place size len o long own covers = go (decLt from upto)
   where
     same : (b : Bool) → cond (not b) (route place len hop ∷ []) [] ≡ cond b [] (route place len hop ∷ [])
@@ -86,7 +87,7 @@ entry-is t from upto hop over place size len o long own covers = go (decLt from 
     same false = refl
 
     go : Dec (from < upto)
-        → cond (isEntry from upto hop over) (route place len hop ∷ []) [] ≡ entryUnless isSame wide size place o (hopOf over)
+        → cond (isEntry from upto hop over) (route place len hop ∷ []) [] ≡ entryUnless wide size place o (hopOf over)
     go (yes has) =
         let e : o ≡ via (routeAt t from .hop) = own ∙ ap headHop (run-first t from upto has) in
         let z = hop-via hop (routeAt t from .hop) (covers ∙ ap (λ (a : Answer). orElse a (hopOf over)) e) in
@@ -96,15 +97,31 @@ entry-is t from upto hop over place size len o long own covers = go (decLt from 
         let e : o ≡ none = own ∙ ap headHop (run-none t from upto le) in
         rw (e, le-ltb from upto le)
 
--- The walk of slot c, over its own records, by the hop that covers it.
+-- ---- The walk.
+
+-- That of some routes, where s is the hop of the nearest route above.
+abbrev pub mapWalk : List Route → ℕ → ℕ → Answer → List Route
+mapWalk rs n a s = walk (consistentMapOut wide rs) (consistentMapNext wide rs) n a s
+
+-- That of slot c, over its own records, by the hop that covers it.
 abbrev pub mapSlot : List ℕ → List ℕ → List ℕ → List ℕ → ℕ → ℕ → ℕ → List Route
 mapSlot t first end hops depth key c =
-    keptWalk isSame orElse (runAt t first end (31 + c)) (slotSize depth) (placeAt (slotSize depth) key 5 c) (hopOf (getD hops (15 + c / 2) 0))
+    mapWalk (runAt t first end (31 + c)) (slotSize depth) (placeAt (slotSize depth) key 5 c) (hopOf (getD hops (15 + c / 2) 0))
 
--- Where the slot has no records it is empty.
-pub map-no-child : {t : List ℕ} {lo hi depth key : ℕ} {first end : List ℕ} {present : ℕ} → Gathered t lo hi depth key first end present
-    → (hops : List ℕ) (c : ℕ) → c < 32 → getD end (31 + c) 0 ≤ getD first (31 + c) 0 → mapSlot t first end hops depth key c ≡ []
-map-no-child g hops c lt le = kept-no-child isSame orElse g c lt le (hopOf (getD hops (15 + c / 2) 0))
+module _ {t : List ℕ} {lo hi depth key : ℕ} {first end : List ℕ} {present : ℕ} (g : Gathered t lo hi depth key first end present) where
+  -- The walk of a slot reads the records of the slot only.
+  slot-reads : (c : ℕ) → c < 32 → (s : Answer)
+      → mapWalk (run t lo hi) (slotSize depth) (placeAt (slotSize depth) key 5 c) s
+      ≡ mapWalk (runAt t first end (31 + c)) (slotSize depth) (placeAt (slotSize depth) key 5 c) s
+  slot-reads c lt s =
+      kept-walk-inside wide (run t lo hi) (slotSize depth) (placeAt (slotSize depth) key 5 c) s
+      ∙ ap (λ (rs : List Route). mapWalk rs (slotSize depth) (placeAt (slotSize depth) key 5 c) s) (sym (slot-records g c lt))
+
+  -- Where the slot has no records it is empty.
+  pub map-no-child : (hops : List ℕ) (c : ℕ) → c < 32 → getD end (31 + c) 0 ≤ getD first (31 + c) 0 → mapSlot t first end hops depth key c ≡ []
+  map-no-child hops c lt le =
+      sym (slot-reads c lt (hopOf (getD hops (15 + c / 2) 0)))
+      ∙ kept-walk-nothing wide (run t lo hi) (slotSize depth) (placeAt (slotSize depth) key 5 c) (hopOf (getD hops (15 + c / 2) 0)) (no-child g c lt le)
 
 -- What the code finds of a node before it writes: the records of each place, the hops that cover the positions, and which have an entry.
 pub record Found (t : List ℕ) (lo hi depth key inherited : ℕ) (first end hops : List ℕ) (entries : ℕ) : Type 0 where
@@ -131,7 +148,8 @@ module _ {t : List ℕ} {lo hi depth key inherited : ℕ} {first end hops : List
 
   -- and what covers the slots.
   hops-slot : (c : ℕ) → c < 32
-      → hopOf (getD hops (15 + c / 2) 0) ≡ keptState isSame orElse (run t lo hi) (slotSize depth) key (hopOf inherited) 5 c
+      → hopOf (getD hops (15 + c / 2) 0)
+      ≡ stateAt (consistentMapOut wide (run t lo hi)) (consistentMapNext wide (run t lo hi)) (slotSize depth) key (hopOf inherited) 5 c
   hops-slot c lt =
       hops-cover 4 (c / 2) (le-refl 4) (omega arith) ∙ sym (consistent-map-state wide (slotSize depth) key (run t lo hi) (hopOf inherited) 5 c)
 
@@ -143,8 +161,8 @@ module _ {t : List ℕ} {lo hi depth key inherited : ℕ} {first end hops : List
 
   -- A position has the entry that the walk puts out there.
   map-entry : (l j : ℕ) → l ≤ 4 → j < 2 ^ l → entryAt entries hops depth key l j
-      ≡ keptOut isSame wide (run t lo hi) (sizeAt (slotSize depth) l) (placeAt (slotSize depth) key l j)
-      (keptState isSame orElse (run t lo hi) (slotSize depth) key (hopOf inherited) l j)
+      ≡ consistentMapOut wide (run t lo hi) (sizeAt (slotSize depth) l) (placeAt (slotSize depth) key l j)
+      (stateAt (consistentMapOut wide (run t lo hi)) (consistentMapNext wide (run t lo hi)) (slotSize depth) key (hopOf inherited) l j)
   map-entry l j le lt =
       rw (
         f .bits (position l j) (in-word l j le lt),
@@ -158,24 +176,24 @@ module _ {t : List ℕ} {lo hi depth key inherited : ℕ} {first end hops : List
       (hops-cover l j le lt ∙ cover-own wide (slotSize depth) key (run t lo hi) (hopOf inherited) l j
       ∙ ap (orElse (own wide (sizeAt (slotSize depth) l) (placeAt (slotSize depth) key l j) (run t lo hi))) (sym (hops-over l j le lt))))
 
-  -- The walk of mode 3 through the node, by its slots.
-  pub map-slots : walk (consistentMapOut wide (run t lo hi)) (consistentMapNext wide (run t lo hi)) (wide - depth) key (hopOf inherited)
-      ≡ slots (entryAt entries hops depth key) (mapSlot t first end hops depth key) 32
+  -- The walk through the node, by its slots.
+  pub map-slots : mapWalk (run t lo hi) (wide - depth) key (hopOf inherited) ≡ slots (entryAt entries hops depth key) (mapSlot t first end hops depth key) 32
   map-slots =
-      kept-slots isSame orElse (f .gathered) (f .node) (hopOf inherited) entries hops map-entry
-      ∙ slots-agree 5 (entryAt entries hops depth key) (entryAt entries hops depth key) (λ l j lt small. refl) _ _
-      (λ c lt. ap (keptWalk isSame orElse (runAt t first end (31 + c)) (slotSize depth) (placeAt (slotSize depth) key 5 c)) (sym (hops-slot c lt)))
-      32 (le-refl 32)
+      let size : wide - depth ≡ slotSize depth + 5 = omega (arith, f .node .deep) in
+      rw size (walk-slots (consistentMapOut wide (run t lo hi)) (consistentMapNext wide (run t lo hi)) (slotSize depth) key (hopOf inherited)
+      ∙ slots-agree 5 _ (entryAt entries hops depth key) (λ l j lt small. sym (map-entry l j (omega arith) small)) _ (mapSlot t first end hops depth key)
+      (λ c lt. slot-reads (f .gathered) c lt _
+      ∙ ap (mapWalk (runAt t first end (31 + c)) (slotSize depth) (placeAt (slotSize depth) key 5 c)) (sym (hops-slot c lt))) 32 (le-refl 32))
 
   -- It has no more entries than the node has records.
   pub map-most : length (slots (entryAt entries hops depth key) (mapSlot t first end hops depth key) 32) ≤ hi - lo
-  map-most = omega (arith, ap length map-slots, kept-most isSame orElse (f .node) (hopOf inherited))
+  map-most =
+      let size : wide - depth ≡ slotSize depth + 5 = omega (arith, f .node .deep) in
+      rw (← map-slots, size) (omega (arith, kept-few (node-run (f .node)) (hopOf inherited), run-length t lo hi))
 
   -- A slot with records has what the walk of its node has.
   pub map-child : (c place : ℕ) → place ≡ placeAt (slotSize depth) key 5 c
-      → walk (consistentMapOut wide (runAt t first end (31 + c))) (consistentMapNext wide (runAt t first end (31 + c))) (wide - (depth + 5)) place
-      (hopOf (getD hops (15 + c / 2) 0))
-      ≡ mapSlot t first end hops depth key c
+      → mapWalk (runAt t first end (31 + c)) (wide - (depth + 5)) place (hopOf (getD hops (15 + c / 2) 0)) ≡ mapSlot t first end hops depth key c
   map-child c place e =
       let size : wide - (depth + 5) ≡ slotSize depth = omega (arith, f .node .deep) in
       rw (size, e)

@@ -17,7 +17,7 @@ use Rattle.theory.proofs.Routed.{length-unhopped}
 use Rattle.theory.proofs.Shortest.{answer-unhopped, fewest}
 use Rattle.positions.specs.Runs.{isAt, Run, headHop, orElse}
 use Rattle.positions.specs.Walk.{walk, slotsOf}
-use Rattle.positions.specs.Walks.{maximalOut, maximalNext, entryUnless, keptOut, keptNext}
+use Rattle.positions.specs.Walks.{maximalOut, maximalNext, isSame, entryUnless, consistentMapOut, consistentMapNext}
 use Rattle.positions.proofs.Modes.{maximal-covered, maximal-walk}
 use Rattle.positions.proofs.Runs.{inside-all, inside-walk}
 
@@ -84,28 +84,27 @@ maximal-few {w} {n} {a} {t} run false =
       length-unhopped t,
     )
 
--- ---- Modes 2 and 3.
+-- ---- Mode 3.
 
-module _ {S : Type 0} (leftOut : ℕ → S → Bool) (step : Answer → S → S) where
-  -- A position puts out no more than the routes that stand there.
-  out-few : (w n a : ℕ) (s : S) (t : List Route) → length (keptOut leftOut w t n a s) ≤ length (part (isAt w n a) t)
-  out-few w n a s t = go (part (isAt w n a) t)
-    where
-      one : (h : ℕ) (b : Bool) → length {A = Route} (cond b [] (record { addr = a; len = w - n; hop = h } ∷ [])) ≤ 1
-      one h true = omega arith
-      one h false = omega arith
+-- A position puts out no more than the routes that stand there.
+out-few : (w n a : ℕ) (s : Answer) (t : List Route) → length (consistentMapOut w t n a s) ≤ length (part (isAt w n a) t)
+out-few w n a s t = go (part (isAt w n a) t)
+  where
+    one : (h : ℕ) (b : Bool) → length {A = Route} (cond b [] (record { addr = a; len = w - n; hop = h } ∷ [])) ≤ 1
+    one h true = omega arith
+    one h false = omega arith
 
-      go : (u : List Route) → length (entryUnless leftOut w n a (headHop u) s) ≤ length u
-      go [] = omega arith
-      go (r ∷ u) = omega (arith, one (r .hop) (leftOut (r .hop) s))
+    go : (u : List Route) → length (entryUnless w n a (headHop u) s) ≤ length u
+    go [] = omega arith
+    go (r ∷ u) = omega (arith, one (r .hop) (isSame (r .hop) s))
 
-  -- So the routes of a run that are kept are no more than its routes.
-  pub kept-few : {w n a : ℕ} {t : List Route} → Run w n a t → (s : S)
-      → length (walk (keptOut leftOut w t) (keptNext step w t) n a s) ≤ length t
-  kept-few {w} {n} {a} {t} run s =
-      omega (
-        arith,
-        walk-fewer (keptOut leftOut w t) (λ k b u. part (isAt w k b) t) (keptNext step w t) (λ k b u. out-few w k b u t) n a s,
-        ap length (inside-walk (keptNext step w t) w n a (run .fits) (run .aligned) (run .table) s),
-        ap length (inside-all w n a (run .within)),
-      )
+-- So the routes of a run that are kept are no more than its routes.
+pub kept-few : {w n a : ℕ} {t : List Route} → Run w n a t → (s : Answer)
+    → length (walk (consistentMapOut w t) (consistentMapNext w t) n a s) ≤ length t
+kept-few {w} {n} {a} {t} run s =
+    omega (
+      arith,
+      walk-fewer (consistentMapOut w t) (λ k b u. part (isAt w k b) t) (consistentMapNext w t) (λ k b u. out-few w k b u t) n a s,
+      ap length (inside-walk (consistentMapNext w t) w n a (run .fits) (run .aligned) (run .table) s),
+      ap length (inside-all w n a (run .within)),
+    )

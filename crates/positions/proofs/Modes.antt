@@ -1,28 +1,27 @@
--- Each mode is a walk down the positions: the rewrites of modes 4 and 5, the maximal prefixes of mode 1, and the routes that modes 2 and 3 keep.
+-- Each mode is a walk down the positions: the rewrites of modes 4 and 5, the maximal prefixes of mode 1, and the routes that mode 3 keeps.
 use Prim.Native.Nat.{ℕ, zero, suc, _+_, _-_, _/_, _^_, _≤_}
 use mathlib.Core.Path.{_≡_, refl, sym, ap, ap₂, _∙_}
-use mathlib.Core.Bool.{Bool, true, false, cond, not, _||_, or-false, or-assoc, or-comm, Bool·not-not}
+use mathlib.Core.Bool.{Bool, true, false, cond, not, Bool·not-not}
 use mathlib.Core.List.{List, [], _∷_, _++_}
 use mathlib.Core.Logic.{inl, inr}
 use native.Mathlib.Nat.{le-refl}
 use native.Mathlib.Omega.{arith}
 use lib.Dec.{eqb}
 use borrow.Author.Tests.{lt-ltb, le-ltb, ltb-true, ltb-false}
-use Rattle.theory.specs.Shapes.{routed}
 use Rattle.theory.specs.Longest.{IsLongest}
-use Rattle.theory.specs.Results.{In, throughout, prefix, maximal, sets, assigned, here, ortc, part, nearest, isMiss, isOther, result, aggregateSet, aggregateConsistentSet, aggregateConsistentMap, aggregateMapDrop, aggregateMapFill}
+use Rattle.theory.specs.Results.{In, throughout, prefix, maximal, sets, assigned, here, ortc, part, nearest, isOther, result, aggregateSet, aggregateConsistentMap, aggregateMapDrop, aggregateMapFill}
 use Rattle.theory.specs.Routes.{Route, Match, miss, hit, lookup, Answer, none, via, under, Aligned, held, answer, filled, Table, Member, head, Valid, matches, nil}
 use Rattle.theory.proofs.Blocks.{pow-pos, aligned-zero, aligned-left, aligned-right, start-is, in→block}
-use Rattle.theory.proofs.Kept.{isShorter, passes, kept, noneAbove}
+use Rattle.theory.proofs.Kept.{isShorter, isKept, kept}
 use Rattle.theory.proofs.Lists.{all-member, member-all}
 use Rattle.theory.proofs.LongestMatch.{lookup-none, lookup-is, lookup-bits}
 use Rattle.theory.proofs.Parts.{table-part, rest, lookup-part, member-part, member-rest, part-twice, part-whole, part-none, part-append}
 use Rattle.theory.proofs.Preserve.{back}
 use Rattle.theory.proofs.Routed.{matches-in}
-use Rattle.positions.specs.Runs.{isAt, isIn, inside, own, orElse, sizeAt, placeAt, coverOver, memberOver}
+use Rattle.positions.specs.Runs.{isAt, isIn, inside, own, orElse, coverOver}
 use Rattle.positions.specs.Walk.{walk, stateOf, stateAt}
-use Rattle.positions.specs.Walks.{ortcOut, ortcNext, maximalOut, maximalNext, entryUnless, keptOut, keptNext, isBelow, orRouted, consistentSetOut, consistentSetNext, isSame, consistentMapOut, consistentMapNext}
-use Rattle.positions.proofs.Runs.{is-at, is-in, own-nested, AtMostOne, at-most-one, Half, half-nested, routed-else, inside-splits, inside-walk}
+use Rattle.positions.specs.Walks.{ortcOut, ortcNext, maximalOut, maximalNext, isSame, entryUnless, consistentMapOut, consistentMapNext}
+use Rattle.positions.proofs.Runs.{is-at, is-in, own-nested, AtMostOne, at-most-one, Half, half-nested, inside-splits, inside-walk}
 use Rattle.positions.proofs.RunsNode.{cover-own}
 use Rattle.positions.proofs.Slots.{reached-keeps, reached-nested, walk-agree, walk-nothing}
 
@@ -63,7 +62,7 @@ module _ (w : ℕ) (p : ℕ → Bool) where
       go true l r = ap (λ (t : List Route). prefix w (suc n) a ∷ t) (sym (ap₂ _++_ (maximal-covered n a) (maximal-covered n (a + 2 ^ n))))
       go false l r = ap₂ _++_ l r
 
--- ---- Modes 2 and 3: the routes that a test keeps.
+-- ---- Mode 3: the routes that it keeps.
 
 -- What the routes shorter than k say of x.
 abbrev pub overhead : ℕ → List Route → ℕ → ℕ → Answer
@@ -130,94 +129,84 @@ module _ (w : ℕ) {t : List Route} (table : Table w t) where
                   longest = λ s i z. omega (arith, ltb-true (s .len) (w - n) (member-part (isShorter (w - n)) t .0 i .1));
                 }
 
--- The routes that pass a test of the nearest entry. A state stands for the answer above: leftOut reads it as the test does, step adds an own hop.
-module _ {S : Type 0} (test : ℕ → Match → Bool) (leftOut : ℕ → S → Bool) (step : Answer → S → S) (state : Answer → S)
-    (reads : (h : ℕ) (m : Match) → leftOut h (state (under none m)) ≡ not (test h m)) (steps : (o g : Answer) → step o (state g) ≡ state (orElse o g))
-    (w : ℕ) {t : List Route} (table : Table w t) where
+-- A route is left out by the state exactly where it is not kept by the match that the state is of.
+same-reads : (h : ℕ) (m : Match) → isSame h (under none m) ≡ not (isOther h m)
+same-reads h miss = refl
+same-reads h (hit k i) = sym (Bool·not-not (eqb i h))
+
+module _ (w : ℕ) {t : List Route} (table : Table w t) where
   -- The route at a position.
-  kept-own : (n a : ℕ) → part (passes test w t) (part (isAt w n a) t) ≡ keptOut leftOut w t n a (state (overhead w t (w - n) a))
+  kept-own : (n a : ℕ) → part (isKept w t) (part (isAt w n a) t) ≡ consistentMapOut w t n a (overhead w t (w - n) a)
   kept-own n a = go (at-most-one w n a table)
     where
       one : (r : Route) → r .len ≡ w - n → r .addr ≡ a
-          → part (passes test w t) (r ∷ []) ≡ entryUnless leftOut w n a (via (r .hop)) (state (overhead w t (w - n) a))
-      one r l q = rw (← l, ← q, reads (r .hop) (nearest w t r)) (same (passes test w t r))
+          → part (isKept w t) (r ∷ []) ≡ entryUnless w n a (via (r .hop)) (overhead w t (w - n) a)
+      one r l q = rw (← l, ← q, same-reads (r .hop) (nearest w t r)) (same (isKept w t r))
         where
           same : (b : Bool) → cond b (r ∷ []) [] ≡ cond (not b) [] (r ∷ [])
           same true = refl
           same false = refl
 
       go : AtMostOne w n a (part (isAt w n a) t)
-          → part (passes test w t) (part (isAt w n a) t) ≡ keptOut leftOut w t n a (state (overhead w t (w - n) a))
+          → part (isKept w t) (part (isAt w n a) t) ≡ consistentMapOut w t n a (overhead w t (w - n) a)
       go (inl e) = rw e
       go (inr (r, e, l, q)) = rw e (one r l q)
 
   -- The routes inside a position.
   kept-inside : (n a : ℕ) → n ≤ w → Aligned n a
-      → part (passes test w t) (inside w n a t) ≡ walk (keptOut leftOut w t) (keptNext step w t) n a (state (overhead w t (w - n) a))
+      → part (isKept w t) (inside w n a t) ≡ walk (consistentMapOut w t) (consistentMapNext w t) n a (overhead w t (w - n) a)
   unfolding walk
   kept-inside zero a le d =
-      ap (part (passes test w t)) (inside-walk (keptNext step w t) w zero a le d table (state none)) ∙ kept-own zero a
+      ap (part (isKept w t)) (inside-walk (consistentMapNext w t) w zero a le d table none) ∙ kept-own zero a
   kept-inside (suc n) a le d =
-      ap (part (passes test w t)) (inside-splits w n a refl le d table)
-      ∙ part-append (passes test w t) (part (isAt w (suc n) a) t) (inside w n a t ++ inside w n (a + 2 ^ n) t)
+      ap (part (isKept w t)) (inside-splits w n a refl le d table)
+      ∙ part-append (isKept w t) (part (isAt w (suc n) a) t) (inside w n a t ++ inside w n (a + 2 ^ n) t)
       ∙ ap₂ _++_ (kept-own (suc n) a)
-      (part-append (passes test w t) (inside w n a t) (inside w n (a + 2 ^ n) t)
+      (part-append (isKept w t) (inside w n a t) (inside w n (a + 2 ^ n) t)
       ∙ ap₂ _++_ (kept-inside n a (omega arith) (aligned-left n a d) ∙ handed a (inl refl))
       (kept-inside n (a + 2 ^ n) (omega arith) (aligned-right n a d) ∙ handed (a + 2 ^ n) (inr refl)))
     where
       handed : (b : ℕ) → Half n a b
-          → walk (keptOut leftOut w t) (keptNext step w t) n b (state (overhead w t (w - n) b))
-          ≡ walk (keptOut leftOut w t) (keptNext step w t) n b (step (own w (suc n) a t) (state (overhead w t (w - suc n) a)))
-      handed b h = rw (overhead-next w table n a b le d h, steps (own w (suc n) a t) (overhead w t (w - suc n) a))
+          → walk (consistentMapOut w t) (consistentMapNext w t) n b (overhead w t (w - n) b)
+          ≡ walk (consistentMapOut w t) (consistentMapNext w t) n b (orElse (own w (suc n) a t) (overhead w t (w - suc n) a))
+      handed b h = rw (overhead-next w table n a b le d h)
 
   -- The kept routes of a table are a walk.
-  pub kept-walk : kept test w t ≡ walk (keptOut leftOut w t) (keptNext step w t) w 0 (state none)
+  pub kept-walk : kept w t ≡ walk (consistentMapOut w t) (consistentMapNext w t) w 0 none
   kept-walk =
-      ap (part (passes test w t)) (sym (inside-whole w table)) ∙ kept-inside w 0 (le-refl w) (aligned-zero w)
-      ∙ ap (λ (g : Answer). walk (keptOut leftOut w t) (keptNext step w t) w 0 (state g)) nothing
+      ap (part (isKept w t)) (sym (inside-whole w table)) ∙ kept-inside w 0 (le-refl w) (aligned-zero w)
+      ∙ ap (walk (consistentMapOut w t) (consistentMapNext w t) w 0) nothing
     where
       nothing : overhead w t (w - w) 0 ≡ none
       nothing =
           let z : w - w ≡ 0 = omega arith in
           rw (z, part-none (isShorter 0) t (λ r m. le-ltb (r .len) 0 (omega arith)))
 
-module _ {S : Type 0} (leftOut : ℕ → S → Bool) (step : Answer → S → S) (w : ℕ) (t : List Route) (n a : ℕ) (s : S) where
+module _ (w : ℕ) (t : List Route) (n a : ℕ) (s : Answer) where
   -- The walk reads the routes inside its position only.
-  pub kept-walk-inside : walk (keptOut leftOut w t) (keptNext step w t) n a s
-      ≡ walk (keptOut leftOut w (inside w n a t)) (keptNext step w (inside w n a t)) n a s
+  pub kept-walk-inside : walk (consistentMapOut w t) (consistentMapNext w t) n a s
+      ≡ walk (consistentMapOut w (inside w n a t)) (consistentMapNext w (inside w n a t)) n a s
   kept-walk-inside =
-      walk-agree (keptOut leftOut w t) (keptOut leftOut w (inside w n a t)) (keptNext step w t) (keptNext step w (inside w n a t)) n a s (λ k b u r.
-      let e : own w k b t ≡ own w k b (inside w n a t) = sym (own-nested w (reached-nested (keptNext step w t) n a s r) t) in
+      walk-agree (consistentMapOut w t) (consistentMapOut w (inside w n a t)) (consistentMapNext w t) (consistentMapNext w (inside w n a t)) n a s (λ k b u r.
+      let e : own w k b t ≡ own w k b (inside w n a t) = sym (own-nested w (reached-nested (consistentMapNext w t) n a s r) t) in
       (rw e, rw e))
 
   -- With none there it is empty.
-  pub kept-walk-nothing : inside w n a t ≡ [] → walk (keptOut leftOut w t) (keptNext step w t) n a s ≡ []
+  pub kept-walk-nothing : inside w n a t ≡ [] → walk (consistentMapOut w t) (consistentMapNext w t) n a s ≡ []
   kept-walk-nothing e =
       kept-walk-inside
-      ∙ ap (λ (u : List Route). walk (keptOut leftOut w u) (keptNext step w u) n a s) e
-      ∙ walk-nothing (keptOut leftOut w []) (keptNext step w []) n a s (λ k b u r. refl)
+      ∙ ap (λ (u : List Route). walk (consistentMapOut w u) (consistentMapNext w u) n a s) e
+      ∙ walk-nothing (consistentMapOut w []) (consistentMapNext w []) n a s (λ k b u r. refl)
 
--- What modes 2 and 3 hand to the positions of a node.
 module _ (w m a : ℕ) (t : List Route) where
-  -- In mode 2, whether a route stands above.
-  pub consistent-set-state : (s : Bool) (l j : ℕ)
-      → stateAt (consistentSetOut w t) (consistentSetNext w t) m a s l j ≡ (s || memberOver w m a t l j)
-  unfolding stateOf memberOver
-  consistent-set-state s zero j = sym (or-false s)
-  consistent-set-state s (suc l) j =
-      let b : Bool = routed (own w (sizeAt m l) (placeAt m a l (j / 2)) t) in
-      ap (λ (c : Bool). c || b) (consistent-set-state s l (j / 2))
-      ∙ or-assoc s (memberOver w m a t l (j / 2)) b
-      ∙ ap (λ (c : Bool). s || c) (or-comm (memberOver w m a t l (j / 2)) b)
-
-  -- In mode 3, what covers the position from above.
+  -- What it hands to a position of a node: what covers the position from above.
   pub consistent-map-state : (g : Answer) (l j : ℕ)
       → stateAt (consistentMapOut w t) (consistentMapNext w t) m a g l j ≡ coverOver w m a t g l j
   unfolding stateOf
   consistent-map-state g zero j = refl
   consistent-map-state g (suc l) j = rw (cover-own w m a t g l (j / 2), consistent-map-state g l (j / 2))
 
--- ---- The results of the five modes, from the position of all addresses.
+-- ---- The results of the modes, from the position of all addresses.
 
 module _ (choose : List ℕ → ℕ) (w : ℕ) (t : List Route) where
   -- Mode 1.
@@ -225,23 +214,10 @@ module _ (choose : List ℕ → ℕ) (w : ℕ) (t : List Route) where
   unfolding result
   set-walk = maximal-walk w (held w t) w 0
 
-  -- Mode 2.
-  pub consistent-set-walk : Table w t → result choose w aggregateConsistentSet t ≡ walk (consistentSetOut w t) (consistentSetNext w t) w 0 false
-  unfolding result
-  consistent-set-walk table = kept-walk noneAbove isBelow orRouted routed reads (λ o g. or-comm (routed g) (routed o) ∙ sym (routed-else o g)) w table
-    where
-      reads : (h : ℕ) (m : Match) → routed (under none m) ≡ not (isMiss m)
-      reads h miss = refl
-      reads h (hit k i) = refl
-
   -- Mode 3.
   pub consistent-map-walk : Table w t → result choose w aggregateConsistentMap t ≡ walk (consistentMapOut w t) (consistentMapNext w t) w 0 none
   unfolding result
-  consistent-map-walk table = kept-walk isOther isSame orElse (λ g. g) reads (λ o g. refl) w table
-    where
-      reads : (h : ℕ) (m : Match) → isSame h (under none m) ≡ not (isOther h m)
-      reads h miss = refl
-      reads h (hit k i) = sym (Bool·not-not (eqb i h))
+  consistent-map-walk table = kept-walk w table
 
   -- Mode 4.
   pub drop-walk : result choose w aggregateMapDrop t ≡ walk (ortcOut choose w (answer w t)) (ortcNext choose (answer w t)) w 0 none

@@ -9,12 +9,12 @@ use native.Mathlib.Nat.{suc-add, add-mul, zero-mul, mul-assoc, mul-le-mul-right,
 use native.Mathlib.Omega.{arith}
 use lib.Pow.{pow-add, shr-shr}
 use lib.ListN.{length}
-use Rattle.theory.specs.Results.{In, throughout, maximal, part, nearest, isOther, Cand, hole, of, leaf, combine, sets, smallest, allowed, Chooses, assigned, here, ortc, whole, Mode, aggregateSet, aggregateConsistentSet, aggregateConsistentMap, aggregateMapDrop, aggregateMapFill, result}
-use Rattle.theory.specs.Routes.{Route, matches, held, Match, longer, tried, lookup, Answer, none, under, answer, orDefault, filled, Aligned, Valid, All, nil, cons, Before, Ascending, empty, first, Table}
+use Rattle.theory.specs.Results.{In, throughout, maximal, part, nearest, isOther, Cand, hole, of, leaf, combine, sets, smallest, allowed, Chooses, assigned, here, ortc, whole, Mode, aggregateSet, aggregateConsistentMap, aggregateMapDrop, aggregateMapFill, result}
+use Rattle.theory.specs.Routes.{Route, matches, held, longer, tried, lookup, Answer, none, under, answer, orDefault, filled, Aligned, Valid, All, nil, cons, Before, Ascending, empty, first, Table}
 use Rattle.theory.proofs.Agree.{ortc-agree}
 use Rattle.theory.proofs.Blocks.{pow-pos, in-left, in-right}
 use Rattle.theory.proofs.Chosen.{smallest-chooses}
-use Rattle.theory.proofs.Kept.{isShorter, passes, kept, noneAbove}
+use Rattle.theory.proofs.Kept.{isShorter, isKept, kept}
 use Rattle.theory.proofs.Maximal.{maximal-agree, maximal-is-ortc}
 use Rattle.theory.proofs.Parts.{all-part}
 use Rattle.theory.specs.Shapes.{Within}
@@ -205,7 +205,7 @@ module _ (k : ℕ) (p : ℕ → Bool) where
       ∙ ortc-widen k (λ x. marked (p x)) smallest w smallest-chooses n a none
       ∙ ap (widened k) (sym (maximal-is-ortc smallest smallest-chooses w p n a))
 
--- ---- Modes 2 and 3.
+-- ---- Mode 3.
 
 -- A part of a widened list is, widened, the part by the test that each route passes as it does widened.
 pub part-widen : (k : ℕ) (p q : Route → Bool) (t : List Route) → ((r : Route) → p (widen k r) ≡ q r) → part p (widened k t) ≡ widened k (part q t)
@@ -224,12 +224,11 @@ module _ (w k : ℕ) where
       ∙ lookup-widen w k (all-part (isShorter (r .len)) (λ s v e. v) vs) (r .addr * 2 ^ k)
       ∙ ap (lookup w (part (isShorter (r .len)) t)) (unwide k (r .addr))
 
-  -- So the routes kept by a test of their hop and of the nearest entry above them are the same, widened.
-  pub kept-widen : (test : ℕ → Match → Bool) {t : List Route} → All (Valid w) t → kept test (w + k) (widened k t) ≡ widened k (kept test w t)
-  kept-widen test {t} vs =
-      part-widen k (passes test (w + k) (widened k t)) (passes test w t) t (λ r. ap (test (r .hop)) (nearest-widen vs r))
+  -- So the routes that are kept are the same, widened.
+  pub kept-widen : {t : List Route} → All (Valid w) t → kept (w + k) (widened k t) ≡ widened k (kept w t)
+  kept-widen {t} vs = part-widen k (isKept (w + k) (widened k t)) (isKept w t) t (λ r. ap (isOther (r .hop)) (nearest-widen vs r))
 
--- ---- The five modes.
+-- ---- The modes.
 
 module _ (choose : List ℕ → ℕ) (law : Chooses choose) (w k : ℕ) where
   -- The rewrite of a function that reads no more than the first w bits.
@@ -244,8 +243,7 @@ module _ (choose : List ℕ → ℕ) (law : Chooses choose) (w k : ℕ) where
   result-widen aggregateSet {t} vs =
       maximal-agree (held (w + k) (widened k t)) (λ x. held w t (x / 2 ^ k)) (w + k) (w + k) 0 (λ x i. held-widen w k vs x)
       ∙ rw zero-mul at (maximal-widen k (held w t) w w 0)
-  result-widen aggregateConsistentSet vs = kept-widen w k noneAbove vs
-  result-widen aggregateConsistentMap vs = kept-widen w k isOther vs
+  result-widen aggregateConsistentMap vs = kept-widen w k vs
   result-widen aggregateMapDrop {t} vs = whole-widen (answer w t) (answer (w + k) (widened k t)) (answer-widen w k vs)
   result-widen (aggregateMapFill d) {t} vs =
       whole-widen (filled d (answer w t)) (filled d (answer (w + k) (widened k t))) (λ x. ap (orDefault d) (answer-widen w k vs x))

@@ -7,7 +7,7 @@ use mathlib.Core.List.{List, _∷_}
 use native.Mathlib.Omega.{arith}
 use lib.ListN.{length}
 use borrow.Author.Tests.{le-ltb}
-use Rattle.theory.specs.Results.{nearest, isMiss, isOther, Chooses, Mode, aggregateSet, aggregateConsistentSet, aggregateConsistentMap, aggregateMapDrop, aggregateMapFill, result}
+use Rattle.theory.specs.Results.{nearest, isOther, Chooses, Mode, aggregateSet, aggregateConsistentMap, aggregateMapDrop, aggregateMapFill, result}
 use Rattle.theory.specs.Routes.{Route, matches, Match, miss, hit, longer, lookup, none, under, orDefault, Valid, cons, Table}
 use Rattle.theory.specs.Shortest.{of-set, of-drop, of-fill, Serves}
 use Rattle.theory.proofs.Blocks.{pow-pos, aligned-zero}
@@ -18,7 +18,6 @@ use Rattle.theory.proofs.Shortest.{result-shortest}
 -- How many records a mode's result has at most, of a table of n records: as many, and in fill one more, for the default.
 abbrev pub mostOf : Mode → ℕ → ℕ
 mostOf aggregateSet n = n
-mostOf aggregateConsistentSet n = n
 mostOf aggregateConsistentMap n = n
 mostOf aggregateMapDrop n = n
 mostOf (aggregateMapFill d) n = suc n
@@ -26,7 +25,6 @@ mostOf (aggregateMapFill d) n = suc n
 -- In no mode more than one more.
 pub most-of : (mode : Mode) (n : ℕ) → mostOf mode n ≤ n + 1
 most-of aggregateSet n = omega arith
-most-of aggregateConsistentSet n = omega arith
 most-of aggregateConsistentMap n = omega arith
 most-of aggregateMapDrop n = omega arith
 most-of (aggregateMapFill d) n = omega arith
@@ -51,7 +49,6 @@ module _ (choose : List ℕ → ℕ) (law : Chooses choose) (w : ℕ) where
   pub result-length : (mode : Mode) {t : List Route} → Table w t → length (result choose w mode t) ≤ mostOf mode (length t)
   unfolding result
   result-length aggregateSet {t} table = unfold result in result-shortest choose law w of-set t t (record { valid = table .valid; keeps = λ x lt. refl })
-  result-length aggregateConsistentSet {t} table = omega (arith, length-parts (λ r. isMiss (nearest w t r)) t)
   result-length aggregateConsistentMap {t} table = omega (arith, length-parts (λ r. isOther (r .hop) (nearest w t r)) t)
   result-length aggregateMapDrop {t} table = result-shortest choose law w of-drop t t (record { valid = table .valid; keeps = λ x lt. refl })
   result-length (aggregateMapFill d) {t} table = result-shortest choose law w (of-fill d) t (toDefault d ∷ t) serves

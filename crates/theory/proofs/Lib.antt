@@ -27,6 +27,7 @@ pub mod OnlyShortest
 pub mod Lengths
 pub mod Ranks
 pub mod Modes
+pub mod Retired
 pub mod HowMany
 pub mod Reach
 pub mod Pass

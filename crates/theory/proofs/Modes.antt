@@ -1,4 +1,4 @@
--- The theorems of the five modes, over every width and every lawful choice of a hop: each result keeps what it must, is a table, has its
+-- The theorems of the four modes, over every width and every lawful choice of a hop: each result keeps what it must, is a table, has its
 -- hops from the table, and is given back when it is rewritten again; and demand 3, when two tables have the same result.
 use Prim.Native.Nat.{ℕ, _^_, _<_}
 use mathlib.Core.Path.{_≡_, refl, _∙_}
@@ -6,12 +6,12 @@ use mathlib.Core.List.{List}
 use mathlib.Core.Logic.{_↔_, _⊎_, inl, inr}
 use native.Mathlib.Omega.{arith}
 use Rattle.theory.specs.Routes.{Route, Table, All, Match, miss, hit, Answer, none, via, held, answer, lookup, under, orDefault, filled, Alike}
-use Rattle.theory.specs.Results.{Mode, aggregateSet, aggregateConsistentSet, aggregateConsistentMap, aggregateMapDrop, aggregateMapFill, result, Chooses}
+use Rattle.theory.specs.Results.{Mode, aggregateSet, aggregateConsistentMap, aggregateMapDrop, aggregateMapFill, result, Chooses}
 use Rattle.theory.specs.Demands.{Keeps, HopIn, HopFrom}
 use Rattle.theory.proofs.Lists.{all-map, member-all}
 use Rattle.theory.proofs.LongestMatch.{lookup-member}
 use Rattle.theory.proofs.Maximal.{maximal-holds, maximal-alike, maximal-again, maximal-table, maximal-bare}
-use Rattle.theory.proofs.Kept.{consistent-set-holds, consistent-map-answers, consistent-set-again, consistent-map-again, consistent-set-table, consistent-map-table, consistent-set-members, consistent-map-members}
+use Rattle.theory.proofs.Kept.{consistent-map-answers, consistent-map-again, consistent-map-table, consistent-map-members}
 use Rattle.theory.proofs.Preserve.{answers}
 use Rattle.theory.proofs.Order.{hops, whole-valid, whole-ascending}
 use Rattle.theory.proofs.Repeat.{alike, again, again-filled}
@@ -40,7 +40,6 @@ module _ (choose : List ℕ → ℕ) (law : Chooses choose) (w : ℕ) where
   pub result-keeps : (mode : Mode) {t : List Route} → Table w t → (x : ℕ) → x < 2 ^ w → Keeps w mode t (result choose w mode t) x
   unfolding result
   result-keeps aggregateSet {t} ok x lt = maximal-holds w (held w t) x lt
-  result-keeps aggregateConsistentSet {t} ok x lt = unfold result in consistent-set-holds choose w t x
   result-keeps aggregateConsistentMap {t} ok x lt = unfold result in consistent-map-answers choose w ok x
   result-keeps aggregateMapDrop {t} ok x lt = answers choose w law (answer w t) x lt
   result-keeps (aggregateMapFill d) {t} ok x lt = answers choose w law (filled d (answer w t)) x lt
@@ -49,7 +48,6 @@ module _ (choose : List ℕ → ℕ) (law : Chooses choose) (w : ℕ) where
   pub result-table : (mode : Mode) {t : List Route} → Table w t → Table w (result choose w mode t)
   unfolding result
   result-table aggregateSet {t} ok = maximal-table w (held w t)
-  result-table aggregateConsistentSet ok = consistent-set-table choose w ok
   result-table aggregateConsistentMap ok = consistent-map-table choose w ok
   result-table aggregateMapDrop {t} ok =
       record { valid = whole-valid choose w (answer w t); order = whole-ascending choose w (answer w t) }
@@ -60,7 +58,6 @@ module _ (choose : List ℕ → ℕ) (law : Chooses choose) (w : ℕ) where
   pub result-hops : (mode : Mode) (t : List Route) → All (λ r. HopFrom mode t (r .hop)) (result choose w mode t)
   unfolding result
   result-hops aggregateSet t = maximal-bare w (held w t)
-  result-hops aggregateConsistentSet t = member-all _ (λ r m. (r, (consistent-set-members choose w t r m, refl)))
   result-hops aggregateConsistentMap t = member-all _ (λ r m. (r, (consistent-map-members choose w t r m, refl)))
   result-hops aggregateMapDrop t = all-map (λ r z. answer-hop w (z .0) (r .hop) t (z .1 .1)) (hops choose w law (answer w t) w 0 none)
   result-hops (aggregateMapFill d) t =
@@ -70,7 +67,6 @@ module _ (choose : List ℕ → ℕ) (law : Chooses choose) (w : ℕ) where
   pub result-again : (mode : Mode) {t : List Route} → Table w t → result choose w mode (result choose w mode t) ≡ result choose w mode t
   unfolding result
   result-again aggregateSet {t} ok = maximal-again w (held w t)
-  result-again aggregateConsistentSet {t} ok = consistent-set-again choose w t
   result-again aggregateConsistentMap ok = consistent-map-again choose w ok
   result-again aggregateMapDrop {t} ok = again choose w law (answer w t)
   result-again (aggregateMapFill d) {t} ok = again-filled choose w law d (answer w t)

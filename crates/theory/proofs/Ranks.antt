@@ -11,7 +11,7 @@ use lib.Dec.{eqb, ltb}
 use lib.ListN.{length, getD}
 use borrow.Author.Tests.{eq-eqb, lt-ltb, le-ltb, eqb-true, ltb-true, ltb-false}
 use Rattle.theory.specs.Ranks.{rankOf, better, best, lowest, RankedFirst, threeRanks, EachOnce, Ranking, differing, isRanking}
-use Rattle.theory.specs.Results.{has, insert, union, Cand, hole, of, sets, smallest, allowed, Chooses, assigned, here, ortc, whole, Mode, aggregateSet, aggregateConsistentSet, aggregateConsistentMap, aggregateMapDrop, aggregateMapFill, result}
+use Rattle.theory.specs.Results.{has, insert, union, Cand, hole, of, sets, smallest, allowed, Chooses, assigned, here, ortc, whole, Mode, aggregateSet, aggregateConsistentMap, aggregateMapDrop, aggregateMapFill, result}
 use Rattle.theory.specs.Routes.{Route, Answer, none, answer, filled, All, nil, cons}
 use Rattle.theory.specs.Shapes.{Above, Sorted}
 use Rattle.theory.proofs.Blocks.{aligned-zero}
@@ -147,7 +147,6 @@ module _ (c d : List ℕ → ℕ) (same : (s : List ℕ) → Sorted s → c s �
   pub result-same : (mode : Mode) (t : List Route) → result c w mode t ≡ result d w mode t
   unfolding result
   result-same aggregateSet t = refl
-  result-same aggregateConsistentSet t = refl
   result-same aggregateConsistentMap t = refl
   result-same aggregateMapDrop t = ortc-same (answer w t) w 0 none
   result-same (aggregateMapFill x) t = ortc-same (filled x (answer w t)) w 0 none
@@ -207,7 +206,6 @@ module _ (w : ℕ) where
   pub result-count : (c d : List ℕ → ℕ) → Chooses c → Chooses d → (mode : Mode) (t : List Route) → length (result c w mode t) ≡ length (result d w mode t)
   unfolding result
   result-count c d p q aggregateSet t = refl
-  result-count c d p q aggregateConsistentSet t = refl
   result-count c d p q aggregateConsistentMap t = refl
   result-count c d p q aggregateMapDrop t = le-antisymm (no-longer c d p q (answer w t)) (no-longer d c q p (answer w t))
   result-count c d p q (aggregateMapFill x) t =

@@ -7,7 +7,7 @@ use mathlib.Core.Logic.{_↔_}
 use native.Mathlib.Nat.{le-refl}
 use native.Mathlib.Omega.{arith}
 use Rattle.theory.specs.Routes.{Route, held, lookup, Answer, none, via, answer, orDefault, filled, Table}
-use Rattle.theory.specs.Results.{maximal, isMiss, Mode, aggregateSet, aggregateConsistentSet, aggregateConsistentMap, aggregateMapDrop, aggregateMapFill, result, Chooses}
+use Rattle.theory.specs.Results.{maximal, isMiss, Mode, aggregateSet, aggregateConsistentMap, aggregateMapDrop, aggregateMapFill, result, Chooses}
 use Rattle.theory.specs.Reach.{howMany, reach, reachAfter, sizes}
 use Rattle.theory.specs.Shapes.{routed}
 use Rattle.theory.specs.Demands.{Keeps}
@@ -66,7 +66,6 @@ held-filled w x d t s e = held-answer w x s ∙ ap routed e ∙ go (answer w t x
 -- What keeps a mode's demands holds as many addresses as it must.
 pub keeps-reach : (w : ℕ) (mode : Mode) (t s : List Route) → ((x : ℕ) → x < 2 ^ w → Keeps w mode t s x) → reach w s ≡ reachAfter w mode (reach w t)
 keeps-reach w aggregateSet t s h = reach-alike w s t h
-keeps-reach w aggregateConsistentSet t s h = reach-alike w s t h
 keeps-reach w aggregateConsistentMap t s h = reach-alike w s t (λ x lt. held-alike w x t s (h x lt))
 keeps-reach w aggregateMapDrop t s h = reach-alike w s t (λ x lt. held-alike w x t s (h x lt))
 keeps-reach w (aggregateMapFill d) t s h = reach-all w s (λ x lt. held-filled w x d t s (h x lt))

@@ -3,7 +3,7 @@ use Prim.Native.Nat.{ℕ, zero, suc, _+_, _-_, _^_}
 use mathlib.Core.Bool.{Bool, cond}
 use mathlib.Core.List.{List, [], _∷_}
 use Rattle.theory.specs.Routes.{Route, held}
-use Rattle.theory.specs.Results.{Mode, aggregateSet, aggregateConsistentSet, aggregateConsistentMap, aggregateMapDrop, aggregateMapFill}
+use Rattle.theory.specs.Results.{Mode, aggregateSet, aggregateConsistentMap, aggregateMapDrop, aggregateMapFill}
 
 -- How many addresses of the position (n, a) pass the test: 0 or 1 at an address, above it the sum of the halves.
 unfoldable pub howMany : (ℕ → Bool) → ℕ → ℕ → ℕ
@@ -17,7 +17,6 @@ reach w t = howMany (held w t) w 0
 -- How many the result of a mode holds, where its table holds n: as many, and in fill all.
 abbrev pub reachAfter : ℕ → Mode → ℕ → ℕ
 reachAfter w aggregateSet n = n
-reachAfter w aggregateConsistentSet n = n
 reachAfter w aggregateConsistentMap n = n
 reachAfter w aggregateMapDrop n = n
 reachAfter w (aggregateMapFill d) n = 2 ^ w

@@ -1,4 +1,4 @@
--- What each of the five modes answers, over addresses: a list of routes in table order, from a list of routes.
+-- What each of the four modes answers, over addresses: a list of routes in table order, from a list of routes.
 -- A position (n, a) is the 2 ^ n addresses from a on, the prefix of length w - n there.
 use Prim.Native.Nat.{ℕ, zero, suc, _+_, _-_, _*_, _/_, _^_, _≤_, _<_}
 use mathlib.Core.Path.{_≡_}
@@ -48,7 +48,7 @@ abbrev pub unhopped : List Route → List Route
 unhopped [] = []
 unhopped (r ∷ t) = record { addr = r .addr; len = r .len; hop = 0 } ∷ unhopped t
 
--- ---- Modes 2 and 3: entries kept or left out, by the nearest entry above each.
+-- ---- Mode 3: entries kept or left out, by the nearest entry above each.
 
 -- The routes that pass a test.
 abbrev pub part : (Route → Bool) → List Route → List Route
@@ -155,12 +155,11 @@ module _ (choose : List ℕ → ℕ) where
     abbrev pub whole : (ℕ → Answer) → List Route
     whole f = ortc f w 0 none
 
--- ---- The five modes.
+-- ---- The four modes, 1, 3, 4 and 5; Retired has mode 2.
 
 -- By the names of the crate's functions; fill has its default.
 pub data Mode : Type 0 where
   aggregateSet : Mode
-  aggregateConsistentSet : Mode
   aggregateConsistentMap : Mode
   aggregateMapDrop : Mode
   aggregateMapFill : ℕ → Mode
@@ -168,7 +167,6 @@ pub data Mode : Type 0 where
 -- What each mode makes of a table of width w.
 unfoldable pub result : (List ℕ → ℕ) → ℕ → Mode → List Route → List Route
 result choose w aggregateSet t = maximal w (held w t) w 0
-result choose w aggregateConsistentSet t = part (λ r. isMiss (nearest w t r)) t
 result choose w aggregateConsistentMap t = part (λ r. isOther (r .hop) (nearest w t r)) t
 result choose w aggregateMapDrop t = whole choose w (answer w t)
 result choose w (aggregateMapFill d) t = whole choose w (filled d (answer w t))

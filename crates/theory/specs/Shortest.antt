@@ -6,7 +6,7 @@ use Rattle.theory.specs.Demands.{Keeps}
 use Rattle.theory.specs.Results.{Mode, aggregateSet, aggregateMapDrop, aggregateMapFill}
 use Rattle.theory.specs.Routes.{Route, Valid, All}
 
--- The modes of which it is true: 1, 4 and 5. Modes 2 and 3 only leave out routes of the table, and fewer other routes may say the same.
+-- The modes of which it is true: 1, 4 and 5. Mode 3 only leaves out routes of the table, and fewer other routes may say the same.
 pub data Shortens : Mode → Type 0 where
   of-set : Shortens aggregateSet
   of-drop : Shortens aggregateMapDrop

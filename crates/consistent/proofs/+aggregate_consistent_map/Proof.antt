@@ -1,4 +1,4 @@
--- `consistent::maps::aggregate_consistent_map` meets its contract: one cycle of calls, by falling bits below the node. The loop's invariant: the
+-- `consistent::aggregate_consistent_map` meets its contract: one cycle of calls, by falling bits below the node. The loop's invariant: the
 -- node is found, the word has the slots to visit, and the node's slots before c are written. Assumes nothing.
 use Prim.Native.Nat.{ℕ, _+_, _-_, _<_}
 use mathlib.Core.Path.{refl}
@@ -13,10 +13,10 @@ use Rattle.nodes.proofs.OutputWalk.{relaid, Walked, Begun, walked-none, begun, 
 use Rattle.gather.proofs.GatherLaws.{absent, ends-in, child-node}
 use Rattle.gather.proofs.BusySlots.{Busy, busy-slots, walked-next}
 use Rattle.consistent.proofs.MapLaws.{mapSlot, map-no-child, Found, slot-le, map-slots, map-most, map-child}
-use Rattle.consistent.proofs.maps.aggregate_consistent_map.Reads as reads
-use Rattle.consistent.proofs.maps.aggregate_consistent_map.Kinds as kinds
-use Rattle.consistent.proofs.maps.+aggregate_consistent_map.Lts-aggregate_consistent_map as lts
-use Rattle.consistent.proofs.maps.entries_of.Reads as entries-of-reads
+use Rattle.consistent.proofs.aggregate_consistent_map.Reads as reads
+use Rattle.consistent.proofs.aggregate_consistent_map.Kinds as kinds
+use Rattle.consistent.proofs.+aggregate_consistent_map.Lts-aggregate_consistent_map as lts
+use Rattle.consistent.proofs.entries_of.Reads as entries-of-reads
 use Rattle.nodes.proofs.emit.emit_slot.Reads as emit-slot-reads
 use Rattle.nodes.proofs.emit.head_slots.Reads as head-slots-reads
 use Rattle.records.proofs.past.Reads as past-reads
@@ -24,8 +24,8 @@ use Rattle.gather.proofs.covering_hops.Reads as covering-hops-reads
 use Rattle.gather.proofs.gather_run.Reads as gather-run-reads
 use Rattle.gather.proofs.slot_key.Reads as slot-key-reads
 use Rattle.words.proofs.bits.next_bit.Reads as next-bit-reads
-use Rattle.consistent.proofs.maps.+aggregate_consistent_map.{statement}
-use Rattle.consistent.proofs.maps.+aggregate_consistent_map.Tie.{close}
+use Rattle.consistent.proofs.+aggregate_consistent_map.{statement}
+use Rattle.consistent.proofs.+aggregate_consistent_map.Tie.{close}
 
 abbrev μ-depth : Measures 2 kinds.ps ℕ
 μ-depth κs a = 35 - a .1 .1 .1 .0

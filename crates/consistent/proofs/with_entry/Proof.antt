@@ -1,11 +1,11 @@
--- `consistent::maps::with_entry` meets its contract. Assumes nothing.
+-- `consistent::with_entry` meets its contract. Assumes nothing.
 use mathlib.Core.Bool.{and-true, and-false}
 use native.Mathlib.Omega.{arith}
 use borrow.Author.Needs.{needs}
 use lib.Dec.{eqb}
 use Rattle.consistent.proofs.MapLaws.{is-entry, same-no-entry, bare-no-entry}
-use Rattle.consistent.proofs.maps.with_entry.Statement.{statement}
-use Rattle.consistent.proofs.maps.with_entry.Tie as tie
+use Rattle.consistent.proofs.with_entry.Statement.{statement}
+use Rattle.consistent.proofs.with_entry.Tie as tie
 
 with-bit-requires : tie.Need-with-bit-requires
 with-bit-requires c κs = search needs

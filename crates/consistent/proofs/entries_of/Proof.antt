@@ -1,4 +1,4 @@
--- `consistent::maps::entries_of` meets its contract. The loop's invariant: the bits of the positions before b are found. Assumes nothing.
+-- `consistent::entries_of` meets its contract. The loop's invariant: the bits of the positions before b are found. Assumes nothing.
 use Prim.Native.Nat.{_+_, _-_, _≤_}
 use mathlib.Core.Path.{refl}
 use native.Mathlib.Omega.{arith}
@@ -6,8 +6,8 @@ use lib.Dec.{ltb}
 use borrow.Author.Tests.{lt-ltb, le-ltb}
 use Rattle.gather.proofs.MarkedBits.{Marked, passes-up, marked-none, marked-take, marked-all}
 use Rattle.consistent.proofs.MapLaws.{entryBit, marked-past}
-use Rattle.consistent.proofs.maps.entries_of.Statement.{statement}
-use Rattle.consistent.proofs.maps.entries_of.Tie as tie
+use Rattle.consistent.proofs.entries_of.Statement.{statement}
+use Rattle.consistent.proofs.entries_of.Tie as tie
 
 abbrev Inv-loop : tie.InvT-loop
 Inv-loop present first end hops inherited entries₀ b₀ entries b = (b ≤ 32) × Marked 31 (entryBit first end hops inherited) (λ i. ltb i b) entries

@@ -3,7 +3,7 @@
 use Prim.Native.Nat.{ℕ, zero, suc, _+_, _-_, _*_, _/_, _^_, _≤_, _<_}
 use mathlib.Core.Path.{_≡_, refl, sym, ap, _∙_}
 use mathlib.Core.Bool.{Bool, true, false, not, cond, _||_}
-use mathlib.Core.List.{List, _++_}
+use mathlib.Core.List.{List, _∷_, _++_}
 use native.Mathlib.Nat.{le-trans}
 use native.Mathlib.Omega.{arith}
 use lib.Dec.{eqb, leb, ltb}
@@ -14,12 +14,12 @@ use mir.Syntax.{w64}
 use mir.Val.{SFits, toZ, ofZ}
 use mir.ValLaws.{toZ-pos, toZ-ofZ}
 use borrow.Author.Tests.{eqb-true, eqb-false, leb-true, leb-false, le-leb, lt-leb, le-ltb, lt-ltb, eq-eqb}
-use Rattle.theory.specs.Results.{Mode, aggregateSet, aggregateConsistentSet, aggregateConsistentMap, aggregateMapDrop, aggregateMapFill}
+use Rattle.theory.specs.Results.{Mode, aggregateSet, aggregateConsistentMap, aggregateMapDrop, aggregateMapFill}
 use Rattle.theory.specs.Ranks.{lowest, isRanking}
 use Rattle.theory.specs.Routes.{Route, Table}
 use Rattle.theory.proofs.Ranks.{lowest-chooses}
 use Rattle.theory.proofs.Lengths.{mostOf, result-length}
-use Rattle.refusals.specs.Rules.{Rule, gives, refuses, judge}
+use Rattle.refusals.specs.Rules.{Rule, rule, gives, refuses, judge}
 use Rattle.refusals.proofs.Judged.{gives-any, kept-next, broken-here, all-next, some-here}
 use Rattle.records.specs.Wire.{records, routes, Bytes, bytesOf, laid}
 use Rattle.records.proofs.Reading.{length-routes}
@@ -32,10 +32,10 @@ use Rattle.table.proofs.Tables.{accepted-table}
 use Rattle.calls.specs.declared.Rewritten.{Rewritten}
 use Rattle.calls.specs.declared.Rewritten.the-variants.{Records, Refused}
 use Rattle.calls.specs.Ending.{lastReply, Finished}
-use Rattle.calls.specs.Rewriting.{modeOf, resultOf, takesSet, replyBy, writtenOf, outputOf, RewritesBy}
+use Rattle.calls.specs.Rewriting.{InUse, modeOf, resultOf, takesSet, replyBy, writtenOf, outputOf, RewritesBy}
 use Rattle.calls.proofs.Tested.{rulesWith}
 
--- ---- The rules 1, 2, 15 and 3 to 8, where `known` says whether the engine has the mode and `last` are the rules past the table's.
+-- ---- The rules 1, 16, 2, 15 and 3 to 8, where `known` says whether the engine has the mode, or the mode is 2, and `last` are the rules past the table's.
 module _ (known : Bool) (form : Form) (t : List ℕ) (mode default : ℕ) (ranks : List ℕ) (last : List Rule) {A : Type 0} (a : A) where
   -- Number 1.
   pub refused-mode : known ≡ false
@@ -43,29 +43,40 @@ module _ (known : Bool) (form : Form) (t : List ℕ) (mode default : ℕ) (ranks
   refused-mode e = broken-here a 1 0 _ e
 
   module _ (is : known ≡ true) where
-    -- Number 2.
-    pub refused-default : (not (eqb mode 5) || leb default 63) ≡ false
-        → judge (rulesWith known form t mode default ranks last) a ≡ refuses 2 0
-    refused-default e = kept-next a 1 0 _ is ∙ broken-here a 2 0 _ e
+    -- Number 16.
+    pub refused-retired : not (eqb mode 2) ≡ false → judge (rulesWith known form t mode default ranks last) a ≡ refuses 16 0
+    refused-retired e = kept-next a 1 0 _ is ∙ broken-here a 16 0 _ e
 
-    module _ (ok : (not (eqb mode 5) || leb default 63) ≡ true) where
-      -- Number 15.
-      pub refused-ranks : (not (leb 4 mode) || isRanking 64 ranks) ≡ false
-          → judge (rulesWith known form t mode default ranks last) a ≡ refuses 15 0
-      refused-ranks e = kept-next a 1 0 _ is ∙ kept-next a 2 0 _ ok ∙ broken-here a 15 0 _ e
+    module _ (used : not (eqb mode 2) ≡ true) where
+      -- Past the mode's rules the next decide.
+      past-mode : judge (rulesWith known form t mode default ranks last) a
+          ≡ judge (rule 2 0 (not (eqb mode 5) || leb default 63)
+          ∷ rule 15 0 (not (leb 4 mode) || isRanking 64 ranks)
+          ∷ tableRules form (takesSet mode) t
+          ++ last) a
+      past-mode = kept-next a 1 0 _ is ∙ kept-next a 16 0 _ used
 
-      module _ (ranked : (not (leb 4 mode) || isRanking 64 ranks) ≡ true) where
-        -- Numbers 3 to 8.
-        pub refused-table : {n i : ℕ} → checkReply form (takesSet mode) t ≡ refuses n i
-            → judge (rulesWith known form t mode default ranks last) a ≡ refuses n i
-        refused-table {n} {i} e =
-            kept-next a 1 0 _ is ∙ kept-next a 2 0 _ ok ∙ kept-next a 15 0 _ ranked ∙ some-here a (records t) n i (tableRules form (takesSet mode) t) last e
+      -- Number 2.
+      pub refused-default : (not (eqb mode 5) || leb default 63) ≡ false → judge (rulesWith known form t mode default ranks last) a ≡ refuses 2 0
+      refused-default e = past-mode ∙ broken-here a 2 0 _ e
 
-        -- Past the table's rules the last decide.
-        pub last-decide : {k : ℕ} → checkReply form (takesSet mode) t ≡ gives k
-            → judge (rulesWith known form t mode default ranks last) a ≡ judge last a
-        last-decide valid =
-            kept-next a 1 0 _ is ∙ kept-next a 2 0 _ ok ∙ kept-next a 15 0 _ ranked ∙ all-next a (records t) (tableRules form (takesSet mode) t) last valid
+      module _ (ok : (not (eqb mode 5) || leb default 63) ≡ true) where
+        -- Number 15.
+        pub refused-ranks : (not (leb 4 mode) || isRanking 64 ranks) ≡ false → judge (rulesWith known form t mode default ranks last) a ≡ refuses 15 0
+        refused-ranks e = past-mode ∙ kept-next a 2 0 _ ok ∙ broken-here a 15 0 _ e
+
+        module _ (ranked : (not (leb 4 mode) || isRanking 64 ranks) ≡ true) where
+          -- Numbers 3 to 8.
+          pub refused-table : {n i : ℕ} → checkReply form (takesSet mode) t ≡ refuses n i
+              → judge (rulesWith known form t mode default ranks last) a ≡ refuses n i
+          refused-table {n} {i} e =
+              past-mode ∙ kept-next a 2 0 _ ok ∙ kept-next a 15 0 _ ranked ∙ some-here a (records t) n i (tableRules form (takesSet mode) t) last e
+
+          -- Past the table's rules the last decide.
+          pub last-decide : {k : ℕ} → checkReply form (takesSet mode) t ≡ gives k
+              → judge (rulesWith known form t mode default ranks last) a ≡ judge last a
+          last-decide valid =
+              past-mode ∙ kept-next a 2 0 _ ok ∙ kept-next a 15 0 _ ranked ∙ all-next a (records t) (tableRules form (takesSet mode) t) last valid
 
 module _ (rules : List Rule) (t : List ℕ) (mode default : ℕ) (ranks o : List ℕ) where
   -- A refusal leaves the output.
@@ -80,34 +91,33 @@ module _ (rules : List Rule) (t : List ℕ) (mode default : ℕ) (ranks o : List
 
 -- ---- The mode and the default.
 
--- What holds of the mode of each number from 1 to 5 holds of the number's mode.
-pub mode-is : (P : Mode → Type 0) (mode default : ℕ) → (1 ≤ mode) × (mode ≤ 5) → (mode ≡ 1 → P aggregateSet) → (mode ≡ 2 → P aggregateConsistentSet)
-    → (mode ≡ 3 → P aggregateConsistentMap) → (mode ≡ 4 → P aggregateMapDrop) → (mode ≡ 5 → P (aggregateMapFill default)) → P (modeOf mode default)
-mode-is P mode default range one two three four five = go (eqb mode 1) refl (eqb mode 2) refl (eqb mode 3) refl (eqb mode 4) refl
+-- What holds of the mode of each number in use holds of the number's mode.
+pub mode-is : (P : Mode → Type 0) (mode default : ℕ) → InUse mode → (mode ≡ 1 → P aggregateSet) → (mode ≡ 3 → P aggregateConsistentMap)
+    → (mode ≡ 4 → P aggregateMapDrop) → (mode ≡ 5 → P (aggregateMapFill default)) → P (modeOf mode default)
+mode-is P mode default used one three four five = go (eqb mode 1) refl (eqb mode 3) refl (eqb mode 4) refl
   where
-    go : (a : Bool) → eqb mode 1 ≡ a → (b : Bool) → eqb mode 2 ≡ b → (c : Bool) → eqb mode 3 ≡ c → (d : Bool) → eqb mode 4 ≡ d
-        → P (cond a aggregateSet (cond b aggregateConsistentSet (cond c aggregateConsistentMap (cond d aggregateMapDrop (aggregateMapFill default)))))
-    go true p b q c r d s = one (eqb-true mode 1 p)
-    go false p true q c r d s = two (eqb-true mode 2 q)
-    go false p false q true r d s = three (eqb-true mode 3 r)
-    go false p false q false r true s = four (eqb-true mode 4 s)
-    go false p false q false r false s =
+    go : (a : Bool) → eqb mode 1 ≡ a → (c : Bool) → eqb mode 3 ≡ c → (d : Bool) → eqb mode 4 ≡ d
+        → P (cond a aggregateSet (cond c aggregateConsistentMap (cond d aggregateMapDrop (aggregateMapFill default))))
+    go true p c r d s = one (eqb-true mode 1 p)
+    go false p true r d s = three (eqb-true mode 3 r)
+    go false p false r true s = four (eqb-true mode 4 s)
+    go false p false r false s =
         let no1 = eqb-false mode 1 p in
-        let no2 = eqb-false mode 2 q in
+        let no2 = used .2 in
         let no3 = eqb-false mode 3 r in
         let no4 = eqb-false mode 4 s in
-        five (omega arith)
+        five (omega (arith, used .0, used .1))
 
 -- The mode reads the default in mode 5 only.
-same-mode : (mode fill default : ℕ) → (1 ≤ mode) × (mode ≤ 5) → (mode ≡ 5 → fill ≡ default) → modeOf mode fill ≡ modeOf mode default
-same-mode mode fill default range same =
-    mode-is (λ m. m ≡ modeOf mode default) mode fill range (λ e. rw e) (λ e. rw e) (λ e. rw e) (λ e. rw e) (λ e. rw (e, same e))
+same-mode : (mode fill default : ℕ) → InUse mode → (mode ≡ 5 → fill ≡ default) → modeOf mode fill ≡ modeOf mode default
+same-mode mode fill default used same =
+    mode-is (λ m. m ≡ modeOf mode default) mode fill used (λ e. rw e) (λ e. rw e) (λ e. rw e) (λ e. rw (e, same e))
 
 -- So a fill that is the default in mode 5 has the default's result.
-pub same-last : (t : List ℕ) (mode fill default : ℕ) (ranks : List ℕ) (room : ℕ) → (1 ≤ mode) × (mode ≤ 5) → (mode ≡ 5 → fill ≡ default)
+pub same-last : (t : List ℕ) (mode fill default : ℕ) (ranks : List ℕ) (room : ℕ) → InUse mode → (mode ≡ 5 → fill ≡ default)
     → lastReply t mode default ranks room ≡ lastReply t mode fill ranks room
 unfolding resultOf
-same-last t mode fill default ranks room range same = rw (same-mode mode fill default range same)
+same-last t mode fill default ranks room used same = rw (same-mode mode fill default used same)
 
 -- Above is not at most.
 pub above-not : (m n : ℕ) → ltb m n ≡ not (leb n m)
@@ -138,13 +148,13 @@ module _ (form : Form) (s : Bool) (t : List ℕ) (k : ℕ) (valid : checkReply f
 -- ---- The end of a rewrite.
 
 -- The result has no more records than the table, in mode 5 no more than one more.
-pub result-most : (t : List ℕ) (mode fill : ℕ) (ranks : List ℕ) {before most : ℕ} → (1 ≤ mode) × (mode ≤ 5) → Table 32 (routes t) → before ≡ records t
+pub result-most : (t : List ℕ) (mode fill : ℕ) (ranks : List ℕ) {before most : ℕ} → InUse mode → Table 32 (routes t) → before ≡ records t
     → (mode ≡ 5 → most ≡ before + 1) × ((mode ≡ 5 → ⊥) → most ≡ before) → length (resultOf t mode fill ranks) ≤ most
 unfolding resultOf
-result-most t mode fill ranks {most = most} range table count at =
+result-most t mode fill ranks {most = most} used table count at =
     le-trans (result-length (lowest ranks) (lowest-chooses ranks) 32 (modeOf mode fill) table)
-    (mode-is (λ m. mostOf m (length (routes t)) ≤ most) mode fill range (λ e. as-many (λ five. omega arith)) (λ e. as-many (λ five. omega arith))
-    (λ e. as-many (λ five. omega arith)) (λ e. as-many (λ five. omega arith)) (λ e. omega (arith, length-routes t, at .0 e)))
+    (mode-is (λ m. mostOf m (length (routes t)) ≤ most) mode fill used (λ e. as-many (λ five. omega arith)) (λ e. as-many (λ five. omega arith))
+    (λ e. as-many (λ five. omega arith)) (λ e. omega (arith, length-routes t, at .0 e)))
   where
     as-many : (mode ≡ 5 → ⊥) → length (routes t) ≤ most
     as-many other = omega (arith, length-routes t, at .1 other)

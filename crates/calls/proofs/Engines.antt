@@ -29,7 +29,7 @@ use Rattle.table.proofs.Tables.{accepted-table, accepted-written}
 use Rattle.calls.specs.declared.Rewritten.{Rewritten}
 use Rattle.calls.specs.declared.Rewritten.the-variants.{Records, Refused}
 use Rattle.calls.specs.Conditions.{Answerable, Guarded}
-use Rattle.calls.specs.Rewriting.{modeOf, resultOf, takesSet, Written, replyBy, writtenOf, outputOf, rewrittenSays, countOf, changeOf, RewritesBy}
+use Rattle.calls.specs.Rewriting.{InUse, modeOf, resultOf, takesSet, Written, replyBy, writtenOf, outputOf, rewrittenSays, countOf, changeOf, RewritesBy}
 use Rattle.calls.proofs.Settled.{rewritten-same}
 
 -- A reply that is said with records gives the result.
@@ -96,11 +96,11 @@ by-untouched rules t mode default ranks o r o′ ok number index e =
 hop-of : (s : Bool) {t : List Route} → All (λ r. r .hop ≤ topHop s) t → {h : ℕ} → HopIn t h → h ≤ topHop s
 hop-of s hops (r, (m, e)) = let k = all-member hops m in subst (λ (n : ℕ). n ≤ topHop s) e k
 
-hop-kept : (mode default : ℕ) → (1 ≤ mode) × (mode ≤ 5) → (mode ≡ 5 → default ≤ 63) → {t : List Route} → All (λ r. r .hop ≤ topHop (takesSet mode)) t
+hop-kept : (mode default : ℕ) → InUse mode → (mode ≡ 5 → default ≤ 63) → {t : List Route} → All (λ r. r .hop ≤ topHop (takesSet mode)) t
     → (h : ℕ) → HopFrom (modeOf mode default) t h → h ≤ topHop (takesSet mode)
 hop-kept zero d m f hops h from = absurd (omega arith)
 hop-kept (suc zero) d m f hops h from = omega arith
-hop-kept (suc (suc zero)) d m f hops h from = hop-of (takesSet 2) hops from
+hop-kept (suc (suc zero)) d m f hops h from = absurd (m .2 refl)
 hop-kept (suc (suc (suc zero))) d m f hops h from = hop-of (takesSet 3) hops from
 hop-kept (suc (suc (suc (suc zero)))) d m f hops h from = hop-of (takesSet 4) hops from
 hop-kept (suc (suc (suc (suc (suc zero))))) d m f hops h (inl e) = let k = f refl in omega arith

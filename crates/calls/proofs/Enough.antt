@@ -15,10 +15,10 @@ use Rattle.nodecount.specs.Nodes.{nodes}
 use Rattle.nodecount.proofs.NodeCount.{nodes-most}
 use Rattle.table.proofs.Tables.{accepted-table}
 use Rattle.calls.specs.Conditions.{Answerable}
-use Rattle.calls.specs.Rewriting.{modeOf, resultOf, takesSet}
+use Rattle.calls.specs.Rewriting.{InUse, modeOf, resultOf, takesSet}
 
 -- With such rooms an accepted table is answered in every mode, mode 5 given a hop and modes 4 and 5 lawful ranks: none is refused for room.
-pub rooms-enough : (form : Form) (t : List ℕ) (mode default : ℕ) (ranks : List ℕ) (room words : ℕ) → Bytes t → (1 ≤ mode) × (mode ≤ 5) → (mode ≡ 5 → default ≤ 63)
+pub rooms-enough : (form : Form) (t : List ℕ) (mode default : ℕ) (ranks : List ℕ) (room words : ℕ) → Bytes t → InUse mode → (mode ≡ 5 → default ≤ 63)
     → (4 ≤ mode → Ranking 64 ranks) → Accepted form (takesSet mode) t
     → 8200 ≤ room → 824480 ≤ words → Answerable form t mode default ranks room × (160 * nodes 32 (routes t) ≤ words)
 unfolding resultOf

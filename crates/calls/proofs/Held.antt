@@ -24,15 +24,15 @@ use Rattle.lookup.specs.declared.answers.AddressesHeld.the-variants.{Count}
 use Rattle.lookup.proofs.Calls.{held-count-exactly}
 use Rattle.calls.specs.declared.Rewritten.the-variants.{Records}
 use Rattle.calls.specs.Conditions.{Guarded}
-use Rattle.calls.specs.Rewriting.{modeOf, resultOf, takesSet, rewriteRules, RewritesBy, Rewrites}
+use Rattle.calls.specs.Rewriting.{InUse, modeOf, resultOf, takesSet, rewriteRules, RewritesBy, Rewrites}
 use Rattle.calls.proofs.Engines.{by-answerable, by-counted, by-lawful, by-keeps, by-output-accepted}
 use Rattle.calls.proofs.Refusals.{rewrite-guarded}
 
 -- Modes 1 to 4 add no record and no address.
-adds-none : (mode default n : ℕ) → 1 ≤ mode → mode ≤ 4 → (mostOf (modeOf mode default) n ≡ n) × (reachAfter 32 (modeOf mode default) n ≡ n)
+adds-none : (mode default n : ℕ) → InUse mode → mode ≤ 4 → (mostOf (modeOf mode default) n ≡ n) × (reachAfter 32 (modeOf mode default) n ≡ n)
 adds-none zero default n l m = absurd (omega arith)
 adds-none (suc zero) default n l m = (refl, refl)
-adds-none (suc (suc zero)) default n l m = (refl, refl)
+adds-none (suc (suc zero)) default n l m = absurd (l .2 refl)
 adds-none (suc (suc (suc zero))) default n l m = (refl, refl)
 adds-none (suc (suc (suc (suc zero)))) default n l m = (refl, refl)
 adds-none (suc (suc (suc (suc (suc k))))) default n l m = absurd (omega arith)
@@ -55,7 +55,7 @@ module _ (form : Form) (rules : List Rule) (t : List ℕ) (mode default : ℕ) (
         arith,
         by-counted form rules t mode default ranks o guarded (Records count change) o′ ok count change refl,
         result-length (lowest ranks) (lowest-chooses ranks) 32 (modeOf mode default) table,
-        adds-none mode default (length (routes t)) (f .known-mode .0) m .0,
+        adds-none mode default (length (routes t)) (f .known-mode) m .0,
         length-routes t,
         f .accepted .few,
       )
@@ -71,7 +71,7 @@ module _ (form : Form) (rules : List Rule) (t : List ℕ) (mode default : ℕ) (
     held-kept-by m =
         let f = by-answerable form rules t mode default ranks o guarded (Records count change) o′ ok count change refl in
         let p : a ≡ Count (reach 32 (routes t)) = held-count-exactly form t a before _ .1 (accepted-map form (takesSet mode) t (f .accepted), refl) in
-        let same = reach-written ∙ adds-none mode default (reach 32 (routes t)) (f .known-mode .0) m .1 in
+        let same = reach-written ∙ adds-none mode default (reach 32 (routes t)) (f .known-mode) m .1 in
         (p, held-count-exactly form (take (8 * count) o′) b after _ .1 (by-map-accepted (by-few m), same) ∙ sym p)
 
     -- Mode 5: where what is written is accepted, it holds every address.

@@ -9,7 +9,7 @@ use lib.Dec.{T, leb, leb→le}
 use lib.IntN.{ℤ, pos, negsuc, _-ℤ_}
 use lib.ListN.{length, drop}
 use Rattle.theory.specs.Routes.{Route, nil}
-use Rattle.theory.specs.Results.{Mode, aggregateSet, aggregateConsistentSet, aggregateConsistentMap, aggregateMapDrop, aggregateMapFill, smallest, result}
+use Rattle.theory.specs.Results.{Mode, aggregateSet, aggregateConsistentMap, aggregateMapDrop, aggregateMapFill, smallest, result}
 use Rattle.theory.specs.Ranks.{lowest, Ranking}
 use Rattle.theory.proofs.Ranks.{lowest-chooses, unranked-result}
 use Rattle.theory.proofs.Quick.{ortcOf, setsOf}
@@ -27,7 +27,7 @@ use Rattle.calls.specs.declared.Rewritten.{Rewritten}
 use Rattle.calls.specs.declared.Rewritten.the-variants.{Records}
 use Rattle.calls.specs.Conditions.{RewriteCondition}
 use Rattle.refusals.specs.Order.{None}
-use Rattle.calls.specs.Rewriting.{modeOf, resultOf, takesSet, Rewrites}
+use Rattle.calls.specs.Rewriting.{InUse, modeOf, resultOf, takesSet, Rewrites}
 use Rattle.table.proofs.Accepted.{accepted-exactly}
 use Rattle.table.proofs.Masking.{accepted-any}
 use Rattle.calls.proofs.Refusals.{answerable-exactly, empty-table, empty-nodes}
@@ -36,38 +36,32 @@ use Rattle.calls.proofs.Results.{rewrite-result}
 -- A mode's number, and its default (0 where it is not read).
 abbrev pub numberOf : Mode → ℕ
 numberOf aggregateSet = 1
-numberOf aggregateConsistentSet = 2
 numberOf aggregateConsistentMap = 3
 numberOf aggregateMapDrop = 4
 numberOf (aggregateMapFill d) = 5
 
 abbrev pub defaultOf : Mode → ℕ
 defaultOf aggregateSet = 0
-defaultOf aggregateConsistentSet = 0
 defaultOf aggregateConsistentMap = 0
 defaultOf aggregateMapDrop = 0
 defaultOf (aggregateMapFill d) = d
 
 mode-back : (m : Mode) → modeOf (numberOf m) (defaultOf m) ≡ m
 mode-back aggregateSet = refl
-mode-back aggregateConsistentSet = refl
 mode-back aggregateConsistentMap = refl
 mode-back aggregateMapDrop = refl
 mode-back (aggregateMapFill d) = refl
 
-number-known : (m : Mode) → (1 ≤ numberOf m) × (numberOf m ≤ 5)
-number-known aggregateSet = omega arith
-number-known aggregateConsistentSet = omega arith
-number-known aggregateConsistentMap = omega arith
-number-known aggregateMapDrop = omega arith
-number-known (aggregateMapFill d) = omega arith
+number-known : (m : Mode) → InUse (numberOf m)
+number-known aggregateSet = (omega arith, omega arith, λ e. omega arith)
+number-known aggregateConsistentMap = (omega arith, omega arith, λ e. omega arith)
+number-known aggregateMapDrop = (omega arith, omega arith, λ e. omega arith)
+number-known (aggregateMapFill d) = (omega arith, omega arith, λ e. omega arith)
 
 -- The changes that document 01 names, case by case.
 unfoldable pub changes : List ℤ
 changes =
     pos 0
-    ∷ negsuc 0
-    ∷ pos 0
     ∷ negsuc 0
     ∷ negsuc 0
     ∷ negsuc 0
@@ -146,7 +140,7 @@ case-answered c change k e form o words r o′ w′ long wide ok =
 
 ready : Each Ready cases changes
 unfolding cases changes route judge tableRules rulesFrom recordRules rawAt routeAt routesFrom routes bytesOf nodes brought fresh
-ready = ((tt, refl, refl, tt, tt, refl), ((tt, refl, refl, tt, tt, refl), ((tt, refl, refl, tt, tt, refl), ((tt, refl, refl, tt, tt, refl), ((tt, refl, refl, tt, tt, refl), ((tt, refl, refl, tt, tt, refl), ((tt, refl, refl, tt, tt, refl), ((tt, refl, refl, tt, tt, refl), ((tt, refl, refl, tt, tt, refl), ((tt, refl, refl, tt, tt, refl), ((tt, refl, refl, tt, tt, refl), ((tt, refl, refl, tt, tt, refl), ((tt, refl, refl, tt, tt, refl), ((tt, refl, refl, tt, tt, refl), tt))))))))))))))
+ready = ((tt, refl, refl, tt, tt, refl), ((tt, refl, refl, tt, tt, refl), ((tt, refl, refl, tt, tt, refl), ((tt, refl, refl, tt, tt, refl), ((tt, refl, refl, tt, tt, refl), ((tt, refl, refl, tt, tt, refl), ((tt, refl, refl, tt, tt, refl), ((tt, refl, refl, tt, tt, refl), ((tt, refl, refl, tt, tt, refl), ((tt, refl, refl, tt, tt, refl), ((tt, refl, refl, tt, tt, refl), ((tt, refl, refl, tt, tt, refl), tt))))))))))))
 
 each-answered : (cs : List Case) (ds : List ℤ) → Each Ready cs ds → Answered cs → Each CaseAnswered cs ds
 each-answered [] [] k a = tt
@@ -158,36 +152,36 @@ each-answered (c ∷ cs) (d ∷ ds) k a = (case-answered c d (k .0) (a .0), each
 pub marked : Each CaseAnswered cases changes
 marked = each-answered cases changes ready worked
 
--- ---- The empty table in modes 1 to 4, under any lawful ranks: 160 words and no output suffice.
-empty-result : (mode default : ℕ) (ranks : List ℕ) → 1 ≤ mode → mode ≤ 4 → resultOf [] mode default ranks ≡ []
+-- ---- The empty table in modes 1, 3 and 4, under any lawful ranks: 160 words and no output suffice.
+empty-result : (mode default : ℕ) (ranks : List ℕ) → InUse mode → mode ≤ 4 → resultOf [] mode default ranks ≡ []
 unfolding resultOf result routes routesFrom ortcOf setsOf
-empty-result zero d ranks low high = absurd (omega arith)
-empty-result (suc zero) d ranks low high = set-computed (lowest ranks) (lowest-chooses ranks) 32 nil
-empty-result (suc (suc zero)) d ranks low high = refl
-empty-result (suc (suc (suc zero))) d ranks low high = refl
-empty-result (suc (suc (suc (suc zero)))) d ranks low high = drop-computed (lowest ranks) (lowest-chooses ranks) 32 nil
-empty-result (suc (suc (suc (suc (suc n))))) d ranks low high = absurd (omega arith)
+empty-result zero d ranks used high = absurd (omega (arith, used .0))
+empty-result (suc zero) d ranks used high = set-computed (lowest ranks) (lowest-chooses ranks) 32 nil
+empty-result (suc (suc zero)) d ranks used high = absurd (used .2 refl)
+empty-result (suc (suc (suc zero))) d ranks used high = refl
+empty-result (suc (suc (suc (suc zero)))) d ranks used high = drop-computed (lowest ranks) (lowest-chooses ranks) 32 nil
+empty-result (suc (suc (suc (suc (suc n))))) d ranks used high = absurd (omega arith)
 
 -- It is answered with no record and change 0.
-pub empty-answered : (form : Form) (mode default : ℕ) (ranks o : List ℕ) (words : ℕ) (r : Rewritten) (o′ w′ : List ℕ) → 1 ≤ mode → mode ≤ 4
+pub empty-answered : (form : Form) (mode default : ℕ) (ranks o : List ℕ) (words : ℕ) (r : Rewritten) (o′ w′ : List ℕ) → InUse mode → mode ≤ 4
     → (4 ≤ mode → Ranking 64 ranks) → 160 ≤ words
     → Rewrites form [] mode default ranks o words r o′ w′ → (r ≡ Records 0 (pos 0)) × (o′ ≡ o)
 unfolding resultOf bytesOf
-empty-answered form mode default ranks o words r o′ w′ low high ranked enough ok =
+empty-answered form mode default ranks o words r o′ w′ used high ranked enough ok =
     let f = rewrite-result form [] mode default ranks o words r o′ w′ ok none in (
-      f .0 ∙ ap (λ (rs : List Route). Records (length rs) (pos (length rs) -ℤ pos 0)) (empty-result mode default ranks low high),
-      f .1 ∙ ap (λ (rs : List Route). bytesOf rs ++ drop (8 * length rs) o) (empty-result mode default ranks low high),
+      f .0 ∙ ap (λ (rs : List Route). Records (length rs) (pos (length rs) -ℤ pos 0)) (empty-result mode default ranks used high),
+      f .1 ∙ ap (λ (rs : List Route). bytesOf rs ++ drop (8 * length rs) o) (empty-result mode default ranks used high),
     )
   where
     none : None (RewriteCondition form [] mode default ranks (length o) words)
     none =
         answerable-exactly form [] mode default ranks (length o) words .1 (
           record {
-            known-mode = (low, omega arith);
+            known-mode = used;
             small-default = λ e. absurd (omega arith);
             lawful-ranks = ranked;
             accepted = accepted-exactly form (takesSet mode) [] .1 (empty-table form (takesSet mode));
-            enough-output = rw (empty-result mode default ranks low high) (omega arith);
+            enough-output = rw (empty-result mode default ranks used high) (omega arith);
           },
           rw empty-nodes enough,
         )

@@ -44,6 +44,7 @@ module _ (t : List ℕ) where
   rewrite-waived mode default ranks room words =
       ap (λ (l : List Rule).
       rule 1 0 (leb 1 mode && leb mode 5)
+      ∷ rule 16 0 (not (eqb mode 2))
       ∷ rule 2 0 (not (eqb mode 5) || leb default 63)
       ∷ rule 15 0 (not (leb 4 mode) || isRanking 64 ranks)
       ∷ l)

@@ -1,6 +1,6 @@
 -- The ranks of a rewrite, of any engine whose rules are guarded: in modes 4 and 5 the hop of each record that is written has the lowest rank of the candidates
--- of its prefix; how many records are written does not depend on the ranks; none lent is the smallest hop, as ranks equal to hop numbers; and modes 1 to 3 do
--- not read them. Assumes of a table, where it says so, that its elements are bytes.
+-- of its prefix; how many records are written does not depend on the ranks; none lent is the smallest hop, as ranks equal to hop numbers; and modes 1 and 3
+-- do not read them. Assumes of a table, where it says so, that its elements are bytes.
 use mathlib.Core.Path.{_≡_, refl, sym, _∙_}
 use mathlib.Core.List.{List, []}
 use mathlib.Core.Logic.{inr}
@@ -18,7 +18,7 @@ use Rattle.records.specs.Wire.{routes, Bytes}
 use Rattle.records.specs.declared.Form.{Form}
 use Rattle.calls.specs.declared.Rewritten.the-variants.{Records}
 use Rattle.calls.specs.Conditions.{Guarded}
-use Rattle.calls.specs.Rewriting.{modeOf, resultOf, rewriteRules, replyBy, rewriteReply, RewritesBy}
+use Rattle.calls.specs.Rewriting.{InUse, modeOf, resultOf, rewriteRules, replyBy, rewriteReply, RewritesBy}
 use Rattle.calls.proofs.Ending.{mode-is}
 use Rattle.calls.proofs.Engines.{by-counted, by-reads}
 
@@ -56,18 +56,18 @@ module _ (t : List ℕ) (mode default : ℕ) where
             each = λ r lt. (r, lt, own r lt);
           }
 
-  -- Modes 1 to 3 do not read them: neither the result
-  pub unread : (ranks other : List ℕ) → (1 ≤ mode) × (mode ≤ 3) → resultOf t mode default ranks ≡ resultOf t mode default other
+  -- Modes 1 and 3 do not read them: neither the result
+  pub unread : (ranks other : List ℕ) → InUse mode → mode ≤ 3 → resultOf t mode default ranks ≡ resultOf t mode default other
   unfolding resultOf result
-  unread ranks other range =
-      mode-is (λ m. result (lowest ranks) 32 m (routes t) ≡ result (lowest other) 32 m (routes t)) mode default (range .0, omega (arith, range .1)) (λ e. refl) (λ e. refl)
-      (λ e. refl) (λ e. absurd (omega (arith, range .1))) (λ e. absurd (omega (arith, range .1)))
+  unread ranks other used low =
+      mode-is (λ m. result (lowest ranks) 32 m (routes t) ≡ result (lowest other) 32 m (routes t)) mode default used (λ e. refl) (λ e. refl)
+      (λ e. absurd (omega arith)) (λ e. absurd (omega arith))
 
   -- nor a refusal.
-  pub unread-reply : (form : Form) (ranks other : List ℕ) (room words : ℕ) → (1 ≤ mode) × (mode ≤ 3)
+  pub unread-reply : (form : Form) (ranks other : List ℕ) (room words : ℕ) → InUse mode → mode ≤ 3
       → rewriteReply form t mode default ranks room words ≡ rewriteReply form t mode default other room words
   unfolding replyBy rewriteRules
-  unread-reply form ranks other room words range = rw (lt-leb 4 mode (omega (arith, range .1)), unread ranks other range)
+  unread-reply form ranks other room words used low = rw (lt-leb 4 mode (omega arith), unread ranks other used low)
 
 -- ---- A table t, rewritten by an engine without refusal.
 module _ (form : Form) (rules : List Rule) (t : List ℕ) (bytes : Bytes t) (ranks o : List ℕ) (count : ℕ) (change : ℤ) (o′ : List ℕ) where

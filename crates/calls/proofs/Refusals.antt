@@ -26,9 +26,9 @@ use Rattle.calls.specs.declared.Rewritten.{Rewritten}
 use Rattle.calls.specs.declared.Rewritten.the-variants.{Records, Refused}
 use Rattle.calls.specs.declared.Covers.{Covers}
 use Rattle.calls.specs.declared.Covers.the-variants.{Refused as NotAnswered}
-use Rattle.calls.specs.Conditions.{RewriteCondition, no-mode, large-default, bad-ranks, of-table, short-work, short-output, CoverCondition, of-set, long-query, short-room, Answerable, Guarded}
+use Rattle.calls.specs.Conditions.{RewriteCondition, no-mode, retired, large-default, bad-ranks, of-table, short-work, short-output, CoverCondition, of-set, long-query, short-room, Answerable, Guarded}
 use Rattle.calls.specs.Covering.{coverRules, coveredBy, coversSays, Queried}
-use Rattle.calls.specs.Rewriting.{resultOf, takesSet, rewriteRules, replyBy, rewriteReply, countOf, changeOf, Rewrites}
+use Rattle.calls.specs.Rewriting.{InUse, resultOf, takesSet, rewriteRules, replyBy, rewriteReply, countOf, changeOf, Rewrites}
 use Rattle.calls.proofs.Engines.{by-gives, by-refused, by-accepted, by-untouched}
 use Rattle.calls.proofs.Settled.{covers-same}
 use Rattle.calls.proofs.Tested.{rewrite-ranked, rewrite-tests, cover-ranked, cover-tests}
@@ -51,7 +51,11 @@ module _ (form : Form) (t : List ℕ) (mode default : ℕ) (ranks : List ℕ) (r
   none→answerable : None (RewriteCondition form t mode default ranks room words) → Answerable form t mode default ranks room × (160 * nodes 32 (routes t) ≤ words)
   none→answerable none = (
     record {
-      known-mode = (holds (decLe 1 mode) (λ f. none 1 0 (no-mode (λ h. f (h .0)))), holds (decLe mode 5) (λ f. none 1 0 (no-mode (λ h. f (h .1)))));
+      known-mode = (
+        holds (decLe 1 mode) (λ f. none 1 0 (no-mode (λ h. f (h .0)))),
+        holds (decLe mode 5) (λ f. none 1 0 (no-mode (λ h. f (h .1)))),
+        λ e. none 16 0 (retired e),
+      );
       small-default = λ e. holds (decLe default 63) (λ f. none 2 0 (large-default e (omega arith)));
       lawful-ranks = λ h. lawful (λ f. none 15 0 (bad-ranks h f));
       accepted = accepted-exactly form (takesSet mode) t .1 (λ n i c. none n i (of-table c));
@@ -61,7 +65,8 @@ module _ (form : Form) (t : List ℕ) (mode default : ℕ) (ranks : List ℕ) (r
   )
 
   answerable→none : Answerable form t mode default ranks room × (160 * nodes 32 (routes t) ≤ words) → None (RewriteCondition form t mode default ranks room words)
-  answerable→none (a, work) n i (no-mode f) = f (a .known-mode)
+  answerable→none (a, work) n i (no-mode f) = f (a .known-mode .0, a .known-mode .1)
+  answerable→none (a, work) n i (retired e) = a .known-mode .2 e
   answerable→none (a, work) n i (large-default e h) = let d = a .small-default e in omega arith
   answerable→none (a, work) n i (bad-ranks h f) = f (a .lawful-ranks h)
   answerable→none (a, work) n i (of-table c) = accepted-exactly form (takesSet mode) t .0 (a .accepted) n i c
@@ -108,15 +113,16 @@ module _ (form : Form) (t : List ℕ) (mode default : ℕ) (ranks o : List ℕ) 
         let same = by-untouched rules t mode default ranks o r o′ (ok .inner) number index e in
         (same .0, same .1, same .2, ok .zero)
 
-    -- It gives the numbers 1 to 8, 10, 11 and 15 alone.
+    -- It gives the numbers 1 to 8, 10, 11, 15 and 16 alone.
     pub rewrite-numbers : (number index : ℕ) → r ≡ Refused number index
-        → ((1 ≤ number) × (number ≤ 11) × (number ≡ 9 → ⊥)) ⊎ (number ≡ 15)
+        → ((1 ≤ number) × (number ≤ 11) × (number ≡ 9 → ⊥)) ⊎ ((number ≡ 15) ⊎ (number ≡ 16))
     rewrite-numbers number index e = go number index (rewrite-refused number index .0 e .0)
       where
-        go : (n i : ℕ) → RewriteCondition form t mode default ranks (length o) words n i → ((1 ≤ n) × (n ≤ 11) × (n ≡ 9 → ⊥)) ⊎ (n ≡ 15)
+        go : (n i : ℕ) → RewriteCondition form t mode default ranks (length o) words n i → ((1 ≤ n) × (n ≤ 11) × (n ≡ 9 → ⊥)) ⊎ ((n ≡ 15) ⊎ (n ≡ 16))
         go n i (no-mode f) = inl (omega arith, omega arith, λ z. omega arith)
         go n i (large-default p q) = inl (omega arith, omega arith, λ z. omega arith)
-        go n i (bad-ranks h f) = inr refl
+        go n i (retired e) = inr (inr refl)
+        go n i (bad-ranks h f) = inr (inl refl)
         go n i (of-table c) = let k = table-numbers form (takesSet mode) t n i c in inl (omega (arith, k .0), omega (arith, k .1), λ z. omega (arith, k .1))
         go n i (short-work h) = inl (omega arith, omega arith, λ z. omega arith)
         go n i (short-output h) = inl (omega arith, omega arith, λ z. omega arith)
@@ -159,12 +165,13 @@ empty-nodes = refl
 
 module _ (form : Form) (mode default : ℕ) (ranks o : List ℕ) (words : ℕ) (r : Rewritten) (o′ w′ : List ℕ) (ok : Rewrites form [] mode default ranks o words r o′ w′) where
   -- An empty table in any mode, with a hop for a default and lawful ranks where they are read, is refused by number 10 exactly when the room is below 160 words.
-  pub empty-room : (1 ≤ mode) × (mode ≤ 5) → (mode ≡ 5 → default ≤ 63) → (4 ≤ mode → Ranking 64 ranks) → r ≡ Refused 10 0 ↔ words < 160
+  pub empty-room : InUse mode → (mode ≡ 5 → default ≤ 63) → (4 ≤ mode → Ranking 64 ranks) → r ≡ Refused 10 0 ↔ words < 160
   unfolding rank
   empty-room known small ranked = (λ e. tenth 10 0 (rewrite-refused form [] mode default ranks o words r o′ w′ ok 10 0 .0 e .0) refl, λ h. rewrite-refused form [] mode default ranks o words r o′ w′ ok 10 0 .1 (short-work (rw empty-nodes h), earlier))
     where
       tenth : (n i : ℕ) → RewriteCondition form [] mode default ranks (length o) words n i → n ≡ 10 → words < 160
       tenth n i (no-mode f) e = absurd (omega arith)
+      tenth n i (retired p) e = absurd (omega arith)
       tenth n i (large-default p q) e = absurd (omega arith)
       tenth n i (bad-ranks h f) e = absurd (omega arith)
       tenth n i (of-table c) e = absurd (empty-table form (takesSet mode) n i c)
@@ -172,7 +179,8 @@ module _ (form : Form) (mode default : ℕ) (ranks o : List ℕ) (words : ℕ) (
       tenth n i (short-output h) e = absurd (omega arith)
 
       earlier : (m j : ℕ) → Earlier m j 10 0 → RewriteCondition form [] mode default ranks (length o) words m j → ⊥
-      earlier m j l (no-mode f) = f known
+      earlier m j l (no-mode f) = f (known .0, known .1)
+      earlier m j l (retired e) = known .2 e
       earlier m j l (large-default p q) = let d = small p in omega arith
       earlier m j l (bad-ranks h f) = f (ranked h)
       earlier m j l (of-table c) = empty-table form (takesSet mode) m j c

@@ -13,7 +13,7 @@ use lib.IntN.{ℤ, pos, negsuc, _-ℤ_}
 use lib.ListN.{length, take}
 use lib.Signed.{_≤ℤ_, leZ-yes}
 use Rattle.theory.specs.Routes.{Route, Table, Member, held, answer, filled, Alike}
-use Rattle.theory.specs.Results.{unhopped, Mode, aggregateSet, aggregateConsistentSet, aggregateConsistentMap, aggregateMapDrop, aggregateMapFill}
+use Rattle.theory.specs.Results.{unhopped, Mode, aggregateSet, aggregateConsistentMap, aggregateMapDrop, aggregateMapFill}
 use Rattle.theory.specs.Ranks.{lowest}
 use Rattle.theory.specs.Shortest.{Shortens, of-set, of-drop, of-fill, Serves, NoFewer}
 use Rattle.theory.proofs.Ranks.{lowest-chooses}
@@ -59,7 +59,6 @@ difference a (suc b) {k} le = go (ltb a (suc b)) refl
 -- So it is of a result's records and its table's.
 most-change : (m : Mode) (a b : ℕ) → a ≤ mostOf m b → (pos a -ℤ pos b) ≤ℤ mostChange m
 most-change aggregateSet a b le = difference a b (omega arith)
-most-change aggregateConsistentSet a b le = difference a b (omega arith)
 most-change aggregateConsistentMap a b le = difference a b (omega arith)
 most-change aggregateMapDrop a b le = difference a b (omega arith)
 most-change (aggregateMapFill d) a b le = difference a b (omega arith)

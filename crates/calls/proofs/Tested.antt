@@ -8,11 +8,11 @@ use Prim.Native.Nat.{ℕ, _*_, _≤_, _<_}
 use native.Mathlib.Omega.{arith}
 use lib.Dec.{eqb, leb}
 use lib.ListN.{length}
-use borrow.Author.Tests.{eqb-true, eq-eqb, leb-true, leb-false, le-leb, lt-leb}
+use borrow.Author.Tests.{eqb-true, eq-eqb, leb-true, leb-false, le-leb, lt-leb, not-false}
 use Rattle.theory.specs.Ranks.{Ranking, isRanking}
 use Rattle.theory.proofs.Ranks.{ranking-tested}
 use Rattle.refusals.specs.Rules.{Rule, rule}
-use Rattle.refusals.specs.Order.{rank}
+use Rattle.refusals.specs.Order.{rank, Earlier}
 use Rattle.refusals.proofs.Judged.{Broken}
 use Rattle.refusals.proofs.Ranked.{broken-left, broken-right, sound-each, sound-append, Ranked, ranked-append, singles}
 use Rattle.records.specs.Wire.{routes}
@@ -21,11 +21,11 @@ use Rattle.table.specs.Conditions.{TableCondition}
 use Rattle.table.specs.TableRules.{tableRules}
 use Rattle.table.proofs.Tested.{table-tests, table-ranked}
 use Rattle.nodecount.specs.Nodes.{nodes}
-use Rattle.calls.specs.Conditions.{RewriteCondition, no-mode, large-default, bad-ranks, of-table, short-work, short-output, CoverCondition, of-set, long-query, short-room}
+use Rattle.calls.specs.Conditions.{RewriteCondition, no-mode, retired, large-default, bad-ranks, of-table, short-work, short-output, CoverCondition, of-set, long-query, short-room}
 use Rattle.calls.specs.Covering.{coverRules}
 use Rattle.calls.specs.Rewriting.{resultOf, takesSet, rewriteRules}
 
--- ---- Rules 1, 2 and 15.
+-- ---- Rules 1, 16, 2 and 15.
 mode-refuted : (mode : ℕ) → (leb 1 mode && leb mode 5) ≡ false → (1 ≤ mode) × (mode ≤ 5) → ⊥
 mode-refuted mode e h = let z : _≡_ {A = ℕ} 0 1 = cc (le-leb 1 mode (h .0), le-leb mode 5 (h .1)) in omega arith
 
@@ -36,6 +36,12 @@ mode-failed mode n = go (leb 1 mode) refl (leb mode 5) refl
     go true e true f = absurd (n (leb-true 1 mode e, leb-true mode 5 f))
     go true e false f = refl
     go false e q f = refl
+
+retired-refuted : (mode : ℕ) → not (eqb mode 2) ≡ false → mode ≡ 2
+retired-refuted mode e = eqb-true mode 2 (not-false (eqb mode 2) e)
+
+retired-failed : (mode : ℕ) → mode ≡ 2 → not (eqb mode 2) ≡ false
+retired-failed mode e = rw (eq-eqb mode 2 e)
 
 default-refuted : (mode default : ℕ) → (not (eqb mode 5) || leb default 63) ≡ false → (mode ≡ 5) × (63 < default)
 default-refuted mode default e = go (eqb mode 5) refl e
@@ -61,10 +67,11 @@ ranks-failed mode ranks h no-ranking = rw (le-leb 4 mode h) (go (isRanking 64 ra
     go true e = absurd (no-ranking (ranking-tested 64 ranks .0 e))
     go false e = refl
 
--- ---- The rules of any engine: 1, 2 and 15, the table's, then its last. `known` says whether it has the mode.
+-- ---- The rules of any engine: 1, 16, 2 and 15, the table's, then its last. `known` says whether it has the mode, or the mode is 2.
 abbrev pub rulesWith : Bool → Form → List ℕ → ℕ → ℕ → List ℕ → List Rule → List Rule
 rulesWith known form t mode default ranks last =
     rule 1 0 known
+    ∷ rule 16 0 (not (eqb mode 2))
     ∷ rule 2 0 (not (eqb mode 5) || leb default 63)
     ∷ rule 15 0 (not (leb 4 mode) || isRanking 64 ranks)
     ∷ tableRules form (takesSet mode) t
@@ -74,28 +81,45 @@ module _ (known : Bool) (form : Form) (t : List ℕ) (mode default : ℕ) (ranks
   abbrev table : List Rule
   table = tableRules form (takesSet mode) t
 
+  -- Those of the mode, which have one place, and those of the default and the ranks.
   abbrev front : List Rule
-  front = rule 1 0 known ∷ rule 2 0 (not (eqb mode 5) || leb default 63) ∷ rule 15 0 (not (leb 4 mode) || isRanking 64 ranks) ∷ []
+  front = rule 1 0 known ∷ rule 16 0 (not (eqb mode 2)) ∷ []
+
+  abbrev second : List Rule
+  second = rule 2 0 (not (eqb mode 5) || leb default 63) ∷ rule 15 0 (not (leb 4 mode) || isRanking 64 ranks) ∷ []
+
+  front-ranked : Ranked 1 2 front
+  unfolding rank
+  front-ranked =
+      record {
+        order = (λ p. sound-each (Earlier 1 0) (rule 16 0 (not (eqb mode 2)) ∷ []) ((λ e. inr (refl, inr (refl, omega arith))), tt), ((λ p n j b. absurd b), tt));
+        from = sound-each (λ n i. 1 ≤ rank n) front ((λ e. omega arith), ((λ e. omega arith), tt));
+        below = sound-each (λ n i. rank n < 2) front ((λ e. omega arith), ((λ e. omega arith), tt));
+      }
 
   -- They stand in the order of the checks where the last do.
   pub ranked-with : (q : ℕ) → 7 ≤ q → Ranked 7 q last → Ranked 1 q (rulesWith known form t mode default ranks last)
   unfolding rank
   ranked-with q le ranked =
-      ranked-append 1 4 q front (table ++ last) (omega arith) (omega arith) (singles 1 4 front refl .1)
-      (ranked-append 4 7 q table last (omega arith) le (table-ranked form (takesSet mode) t) ranked)
+      ranked-append 1 2 q front (second ++ (table ++ last)) (omega arith) (omega arith) front-ranked
+      (ranked-append 2 4 q second (table ++ last) (omega arith) (omega arith) (singles 2 4 second refl .1)
+      (ranked-append 4 7 q table last (omega arith) le (table-ranked form (takesSet mode) t) ranked))
 
   -- What each that is broken stands for.
-  pub broken-with : (Holds : ℕ → ℕ → Type 0) → (known ≡ false → Holds 1 0) → (mode ≡ 5 → 63 < default → Holds 2 0)
+  pub broken-with : (Holds : ℕ → ℕ → Type 0) → (known ≡ false → Holds 1 0) → (mode ≡ 2 → Holds 16 0) → (mode ≡ 5 → 63 < default → Holds 2 0)
       → (4 ≤ mode → (Ranking 64 ranks → ⊥) → Holds 15 0)
       → ((n i : ℕ) → TableCondition form (takesSet mode) t n i → Holds n i) → ((n i : ℕ) → Broken last n i → Holds n i)
       → (n i : ℕ) → Broken (rulesWith known form t mode default ranks last) n i → Holds n i
-  broken-with Holds one two fifteen of-records behind =
-      sound-append Holds front (table ++ last)
-      (sound-each Holds front (
+  broken-with Holds one sixteen two fifteen of-records behind =
+      sound-append Holds (front ++ second) (table ++ last)
+      (sound-each Holds (front ++ second) (
         one,
         (
-          λ e. let f = default-refuted mode default e in two (f .0) (f .1),
-          (λ e. let f = ranks-refuted mode ranks e in fifteen (f .0) (f .1), tt),
+          λ e. sixteen (retired-refuted mode e),
+          (
+            λ e. let f = default-refuted mode default e in two (f .0) (f .1),
+            (λ e. let f = ranks-refuted mode ranks e in fifteen (f .0) (f .1), tt),
+          ),
         ),
       ))
       (sound-append Holds table last (λ n i b. of-records n i (table-tests form (takesSet mode) t n i .0 b)) behind)
@@ -104,17 +128,20 @@ module _ (known : Bool) (form : Form) (t : List ℕ) (mode default : ℕ) (ranks
   pub breaks-mode : known ≡ false → Broken (rulesWith known form t mode default ranks last) 1 0
   breaks-mode e = inl (e, refl, refl)
 
+  pub breaks-retired : mode ≡ 2 → Broken (rulesWith known form t mode default ranks last) 16 0
+  breaks-retired e = inr (inl (retired-failed mode e, refl, refl))
+
   pub breaks-default : mode ≡ 5 → 63 < default → Broken (rulesWith known form t mode default ranks last) 2 0
-  breaks-default e h = inr (inl (default-failed mode default e h, refl, refl))
+  breaks-default e h = inr (inr (inl (default-failed mode default e h, refl, refl)))
 
   pub breaks-ranks : 4 ≤ mode → (Ranking 64 ranks → ⊥) → Broken (rulesWith known form t mode default ranks last) 15 0
-  breaks-ranks h f = inr (inr (inl (ranks-failed mode ranks h f, refl, refl)))
+  breaks-ranks h f = inr (inr (inr (inl (ranks-failed mode ranks h f, refl, refl))))
 
   pub breaks-table : (n i : ℕ) → TableCondition form (takesSet mode) t n i → Broken (rulesWith known form t mode default ranks last) n i
-  breaks-table n i c = inr (inr (inr (broken-left table last n i (table-tests form (takesSet mode) t n i .1 c))))
+  breaks-table n i c = inr (inr (inr (inr (broken-left table last n i (table-tests form (takesSet mode) t n i .1 c)))))
 
   pub breaks-last : (n i : ℕ) → Broken last n i → Broken (rulesWith known form t mode default ranks last) n i
-  breaks-last n i b = inr (inr (inr (broken-right table last n i b)))
+  breaks-last n i b = inr (inr (inr (inr (broken-right table last n i b))))
 
 -- ---- The rules of a rewrite.
 module _ (form : Form) (t : List ℕ) (mode default : ℕ) (ranks : List ℕ) (room words : ℕ) where
@@ -135,7 +162,7 @@ module _ (form : Form) (t : List ℕ) (mode default : ℕ) (ranks : List ℕ) (r
   rewrite-broken : (n i : ℕ) → Broken (rewriteRules form t mode default ranks room words) n i → Holds n i
   unfolding rewriteRules
   rewrite-broken =
-      broken-with known form t mode default ranks behind Holds (λ e. no-mode (mode-refuted mode e)) large-default bad-ranks (λ n i c. of-table c)
+      broken-with known form t mode default ranks behind Holds (λ e. no-mode (mode-refuted mode e)) retired large-default bad-ranks (λ n i c. of-table c)
       (sound-each Holds behind (
         λ e. short-work (leb-false (160 * nodes 32 (routes t)) words e),
         (λ e. short-output (leb-false (8 * length (resultOf t mode default ranks)) room e), tt),
@@ -144,6 +171,7 @@ module _ (form : Form) (t : List ℕ) (mode default : ℕ) (ranks : List ℕ) (r
   rewrite-breaks : (n i : ℕ) → Holds n i → Broken (rewriteRules form t mode default ranks room words) n i
   unfolding rewriteRules
   rewrite-breaks n i (no-mode f) = breaks-mode known form t mode default ranks behind (mode-failed mode f)
+  rewrite-breaks n i (retired e) = breaks-retired known form t mode default ranks behind e
   rewrite-breaks n i (large-default e h) = breaks-default known form t mode default ranks behind e h
   rewrite-breaks n i (bad-ranks h f) = breaks-ranks known form t mode default ranks behind h f
   rewrite-breaks n i (of-table c) = breaks-table known form t mode default ranks behind n i c

@@ -73,12 +73,12 @@ module _ (form : Form) (o : List ℕ) (words : ℕ) (long : 8200 ≤ length o) (
 
   case-5 : Rewrites form everything 1 0 [] o words r o′ w′ → take (8 * countOf r) o′ ≡ 0 ∷ 0 ∷ 0 ∷ 0 ∷ 0 ∷ 0 ∷ 0 ∷ 0 ∷ []
   unfolding cases changes route bytesOf
-  case-5 ok = written (route 0 0 0 0 0 0 ∷ []) (negsuc 0) (marked .1 .1 .1 .1 .1 .0 form o words r o′ w′ long wide ok)
+  case-5 ok = written (route 0 0 0 0 0 0 ∷ []) (negsuc 0) (marked .1 .1 .1 .0 form o words r o′ w′ long wide ok)
 
   case-11 : Rewrites form apart 4 0 [] o words r o′ w′ → take (8 * countOf r) o′ ≡ 10 ∷ 0 ∷ 0 ∷ 0 ∷ 8 ∷ 1 ∷ 0 ∷ 0 ∷ 10 ∷ 128 ∷ 0 ∷ 0 ∷ 9 ∷ 2 ∷ 0 ∷ 0 ∷ []
   unfolding cases changes route bytesOf
   case-11 ok =
-      written (route 10 0 0 0 8 1 ∷ route 10 128 0 0 9 2 ∷ []) (pos 0) (marked .1 .1 .1 .1 .1 .1 .1 .1 .1 .0 form o words r o′ w′ long wide ok)
+      written (route 10 0 0 0 8 1 ∷ route 10 128 0 0 9 2 ∷ []) (pos 0) (marked .1 .1 .1 .1 .1 .1 .1 .0 form o words r o′ w′ long wide ok)
 
   -- One that refuses everything: the halves are not refused.
   pub refuser-wrong : (number index : ℕ) → r ≡ Refused number index → Rewrites form halves 1 0 [] o words r o′ w′ → ⊥
@@ -117,7 +117,7 @@ alike : Alike 32 (answer 32 (routes shadowed)) (answer 32 (routes plain))
 unfolding cases route result routes routesFrom rawAt routeAt
 alike x lt =
     sym (answers smallest 32 smallest-chooses (answer 32 (routes shadowed)) x lt)
-    ∙ ap (λ (t : List Route). answer 32 t x) (worked .1 .1 .1 .1 .1 .1 .1 .1 .0)
+    ∙ ap (λ (t : List Route). answer 32 t x) (worked .1 .1 .1 .1 .1 .1 .0)
 
 pub copier-against-alike : (form : Form) (o : List ℕ) (words count : ℕ) (change : ℤ) (o′ w′ p : List ℕ) (space number : ℕ) (other : ℤ) (p′ v′ : List ℕ)
     → Rewrites form shadowed 4 0 [] o words (Records count change) o′ w′ → Rewrites form plain 4 0 [] p space (Records number other) p′ v′

@@ -1,6 +1,6 @@
 -- The statement of a rewrite: for every table, read by a form, mode, default, ranks, output and room, what it answers and what stands in the output and
 -- the room then.
-use Prim.Native.Nat.{ℕ, _*_}
+use Prim.Native.Nat.{ℕ, _*_, _≤_}
 use mathlib.Core.Path.{_≡_}
 use mathlib.Core.Bool.{Bool, cond, not, _||_, _&&_}
 use mathlib.Core.List.{List, [], _∷_, _++_}
@@ -8,7 +8,7 @@ use lib.Dec.{eqb, leb}
 use lib.IntN.{ℤ, pos, _-ℤ_}
 use lib.ListN.{length, drop, replicate}
 use Rattle.theory.specs.Routes.{Route}
-use Rattle.theory.specs.Results.{Mode, aggregateSet, aggregateConsistentSet, aggregateConsistentMap, aggregateMapDrop, aggregateMapFill, result}
+use Rattle.theory.specs.Results.{Mode, aggregateSet, aggregateConsistentMap, aggregateMapDrop, aggregateMapFill, result}
 use Rattle.theory.specs.Ranks.{lowest, isRanking}
 use Rattle.refusals.specs.Rules.{Rule, rule, Reply, gives, refuses, judge}
 use Rattle.records.specs.Wire.{records, routes, bytesOf}
@@ -18,27 +18,31 @@ use Rattle.nodecount.specs.Nodes.{nodes}
 use Rattle.calls.specs.declared.Rewritten.{Rewritten}
 use Rattle.calls.specs.declared.Rewritten.the-variants.{Records, Refused}
 
--- The mode of a number 1 to 5; 5 has the default.
+-- The numbers of modes: 1 to 5 but for 2, which is retired and never given to another mode.
+abbrev pub InUse : ℕ → Type 0
+InUse mode = (1 ≤ mode) × (mode ≤ 5) × (mode ≡ 2 → ⊥)
+
+-- The mode of a number in use; 5 has the default.
 abbrev pub modeOf : ℕ → ℕ → Mode
 modeOf mode default =
     cond (eqb mode 1) aggregateSet
-    (cond (eqb mode 2) aggregateConsistentSet
     (cond (eqb mode 3) aggregateConsistentMap
     (cond (eqb mode 4) aggregateMapDrop
-    (aggregateMapFill default))))
+    (aggregateMapFill default)))
 
 -- The routes that the mode makes of a table's bytes, the hop of lowest rank chosen; without ranks they are the hop numbers.
 unfoldable pub resultOf : List ℕ → ℕ → ℕ → List ℕ → List Route
 resultOf t mode default ranks = result (lowest ranks) 32 (modeOf mode default) (routes t)
 
--- Modes 1 and 2 take sets.
+-- Mode 1 takes sets.
 abbrev pub takesSet : ℕ → Bool
-takesSet mode = leb mode 2
+takesSet mode = eqb mode 1
 
--- The rules 1, 2, 15, 3 to 8, 10 and 11, for an output of `room` bytes and a work room of `words` words. Modes 1 to 3 do not read the ranks.
+-- The rules 1, 16, 2, 15, 3 to 8, 10 and 11, for an output of `room` bytes and a work room of `words` words. Modes 1 and 3 do not read the ranks.
 unfoldable pub rewriteRules : Form → List ℕ → ℕ → ℕ → List ℕ → ℕ → ℕ → List Rule
 rewriteRules form t mode default ranks room words =
     rule 1 0 (leb 1 mode && leb mode 5)
+    ∷ rule 16 0 (not (eqb mode 2))
     ∷ rule 2 0 (not (eqb mode 5) || leb default 63)
     ∷ rule 15 0 (not (leb 4 mode) || isRanking 64 ranks)
     ∷ tableRules form (takesSet mode) t

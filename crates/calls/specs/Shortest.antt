@@ -4,7 +4,7 @@ use Prim.Native.Nat.{ℕ, _^_, _≤_, _<_}
 use mathlib.Core.Bool.{Bool}
 use mathlib.Core.List.{List}
 use lib.IntN.{ℤ, pos}
-use Rattle.theory.specs.Results.{Mode, aggregateSet, aggregateConsistentSet, aggregateConsistentMap, aggregateMapDrop, aggregateMapFill}
+use Rattle.theory.specs.Results.{Mode, aggregateSet, aggregateConsistentMap, aggregateMapDrop, aggregateMapFill}
 use Rattle.theory.specs.Demands.{Keeps}
 use Rattle.records.specs.Wire.{records, routes, Bytes}
 use Rattle.records.specs.declared.Form.{Form}
@@ -26,7 +26,6 @@ NoneShorter mode default t n = (u : List ℕ) → Replaces mode default t u → 
 -- The most that the change comes to: 1 in fill, 0 in the other modes.
 abbrev pub mostChange : Mode → ℤ
 mostChange aggregateSet = pos 0
-mostChange aggregateConsistentSet = pos 0
 mostChange aggregateConsistentMap = pos 0
 mostChange aggregateMapDrop = pos 0
 mostChange (aggregateMapFill d) = pos 1

@@ -17,7 +17,7 @@ pub fn no_hop(mode: u32, default: u32) -> bool
     if mode == 5 { 63 < default } else { false }
 }
 
-// Are these ranks not to be lent in the mode? Modes 1 to 3 do not read them.
+// Are these ranks not to be lent in the mode? Modes 1 and 3 do not read them.
 pub fn no_ranks(mode: u32, ranks: &[u16]) -> bool
     ensures { λ r. ⌜ r ≡ not (not (leb 4 mode) || isRanking 64 (now (ranks .entry))) ⌝ }
 {

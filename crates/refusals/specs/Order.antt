@@ -6,7 +6,7 @@ use mathlib.Core.List.{List, [], _∷_}
 use mathlib.Core.Logic.{_⊎_}
 use lib.Dec.{eqb}
 
--- The numbers by their places, the first checked first. Numbers of one place that one call gives are of records: they go record by record.
+-- The numbers by their places, the first checked first. Numbers of one place that one call gives go record by record; 1 and 16, of no record, exclude each other.
 abbrev pub places : List (List ℕ)
 places =
     (14 ∷ 18 ∷ [])

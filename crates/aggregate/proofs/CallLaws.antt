@@ -28,9 +28,9 @@ use Rattle.positions.proofs.Wide.{aligned-widen, held-widen, throughout-widen, 
 use Rattle.nodes.specs.Node.{wide, spare, Node}
 use Rattle.gather.proofs.GatherLaws.{root-run, root-node}
 use Rattle.calls.specs.Covering.{coverRules, coveredBy, coverReply}
-use Rattle.calls.specs.Rewriting.{resultOf, takesSet, rewriteRules, replyBy, rewriteReply}
+use Rattle.calls.specs.Rewriting.{InUse, resultOf, takesSet, rewriteRules, replyBy, rewriteReply}
 use Rattle.calls.specs.Ending.{lastReply}
-use Rattle.calls.proofs.Ending.{refused-mode, refused-default, refused-ranks, refused-table, last-decide, checked-lawful}
+use Rattle.calls.proofs.Ending.{refused-mode, refused-retired, refused-default, refused-ranks, refused-table, last-decide, checked-lawful}
 use Rattle.aggregate.specs.Walks.{whole, Ready}
 
 -- ---- The rewrite.
@@ -49,41 +49,47 @@ module _ (form : Form) (t : List ℕ) (mode default : ℕ) (ranks : List ℕ) (r
   not-a-mode e = refused-mode known form t mode default ranks rooms (resultOf t mode default ranks) e
 
   module _ (is : (leb 1 mode && leb mode 5) ≡ true) where
-    -- Number 2.
-    pub not-a-hop : (not (eqb mode 5) || leb default 63) ≡ false → rewriteReply form t mode default ranks room words ≡ refuses 2 0
+    -- Number 16.
+    pub retired-mode : mode ≡ 2 → rewriteReply form t mode default ranks room words ≡ refuses 16 0
     unfolding replyBy rewriteRules
-    not-a-hop e = refused-default known form t mode default ranks rooms (resultOf t mode default ranks) is e
+    retired-mode e = refused-retired known form t mode default ranks rooms (resultOf t mode default ranks) is e
 
-    module _ (ok : (not (eqb mode 5) || leb default 63) ≡ true) where
-      -- Number 15.
-      pub not-a-ranking : (not (leb 4 mode) || isRanking 64 ranks) ≡ false → rewriteReply form t mode default ranks room words ≡ refuses 15 0
+    module _ (used : mode ≡ 2 → ⊥) where
+      -- Number 2.
+      pub not-a-hop : (not (eqb mode 5) || leb default 63) ≡ false → rewriteReply form t mode default ranks room words ≡ refuses 2 0
       unfolding replyBy rewriteRules
-      not-a-ranking e = refused-ranks known form t mode default ranks rooms (resultOf t mode default ranks) is ok e
+      not-a-hop e = refused-default known form t mode default ranks rooms (resultOf t mode default ranks) is used e
 
-      module _ (ranked : (not (leb 4 mode) || isRanking 64 ranks) ≡ true) where
-        -- Numbers 3 to 8.
-        pub not-a-table : {n i : ℕ} → checkReply form (takesSet mode) t ≡ refuses n i → rewriteReply form t mode default ranks room words ≡ refuses n i
+      module _ (ok : (not (eqb mode 5) || leb default 63) ≡ true) where
+        -- Number 15.
+        pub not-a-ranking : (not (leb 4 mode) || isRanking 64 ranks) ≡ false → rewriteReply form t mode default ranks room words ≡ refuses 15 0
         unfolding replyBy rewriteRules
-        not-a-table e = refused-table known form t mode default ranks rooms (resultOf t mode default ranks) is ok ranked e
+        not-a-ranking e = refused-ranks known form t mode default ranks rooms (resultOf t mode default ranks) is used ok e
 
-        module _ {k : ℕ} (valid : checkReply form (takesSet mode) t ≡ gives k) where
-          -- Past the table's rules the rooms decide.
-          past-table : rewriteReply form t mode default ranks room words
-              ≡ judge (rule 10 0 (leb (160 * nodes 32 (routes t)) words) ∷ rule 11 0 (leb (8 * length (resultOf t mode default ranks)) room) ∷ []) (resultOf t mode default ranks)
+        module _ (ranked : (not (leb 4 mode) || isRanking 64 ranks) ≡ true) where
+          -- Numbers 3 to 8.
+          pub not-a-table : {n i : ℕ} → checkReply form (takesSet mode) t ≡ refuses n i → rewriteReply form t mode default ranks room words ≡ refuses n i
           unfolding replyBy rewriteRules
-          past-table = last-decide known form t mode default ranks rooms (resultOf t mode default ranks) is ok ranked valid
+          not-a-table e = refused-table known form t mode default ranks rooms (resultOf t mode default ranks) is used ok ranked e
 
-          -- Number 10.
-          pub short-room : words < 160 * nodes 32 (routes t) → rewriteReply form t mode default ranks room words ≡ refuses 10 0
-          short-room h = past-table ∙ broken-here _ 10 0 _ (lt-leb (160 * nodes 32 (routes t)) words h)
+          module _ {k : ℕ} (valid : checkReply form (takesSet mode) t ≡ gives k) where
+            -- Past the table's rules the rooms decide.
+            past-table : rewriteReply form t mode default ranks room words
+                ≡ judge (rule 10 0 (leb (160 * nodes 32 (routes t)) words) ∷ rule 11 0 (leb (8 * length (resultOf t mode default ranks)) room) ∷ []) (resultOf t mode default ranks)
+            unfolding replyBy rewriteRules
+            past-table = last-decide known form t mode default ranks rooms (resultOf t mode default ranks) is used ok ranked valid
 
-          -- Past it only the output's room does.
-          pub only-output : 160 * nodes 32 (routes t) ≤ words → rewriteReply form t mode default ranks room words ≡ lastReply t mode default ranks room
-          only-output h = past-table ∙ kept-next _ 10 0 _ (le-leb (160 * nodes 32 (routes t)) words h)
+            -- Number 10.
+            pub short-room : words < 160 * nodes 32 (routes t) → rewriteReply form t mode default ranks room words ≡ refuses 10 0
+            short-room h = past-table ∙ broken-here _ 10 0 _ (lt-leb (160 * nodes 32 (routes t)) words h)
 
--- Rule 1 says that the mode is one of the five.
-pub mode-range : (mode : ℕ) → (leb 1 mode && leb mode 5) ≡ true → (1 ≤ mode) × (mode ≤ 5)
-mode-range mode e = let p = and-eq-true-iff (leb 1 mode) (leb mode 5) .0 e in (leb-true 1 mode (p .0), leb-true mode 5 (p .1))
+            -- Past it only the output's room does.
+            pub only-output : 160 * nodes 32 (routes t) ≤ words → rewriteReply form t mode default ranks room words ≡ lastReply t mode default ranks room
+            only-output h = past-table ∙ kept-next _ 10 0 _ (le-leb (160 * nodes 32 (routes t)) words h)
+
+-- The rules 1 and 16 say that the mode is in use.
+pub mode-used : (mode : ℕ) → (leb 1 mode && leb mode 5) ≡ true → (mode ≡ 2 → ⊥) → InUse mode
+mode-used mode e used = let p = and-eq-true-iff (leb 1 mode) (leb mode 5) .0 e in (leb-true 1 mode (p .0), leb-true mode 5 (p .1), used)
 
 -- ---- What a table that keeps the rules is good for.
 

@@ -1,4 +1,4 @@
--- What the walks of the five modes make of a whole table: at wide addresses each is the mode's result, and narrowed it is the result itself.
+-- What the walks of the four modes make of a whole table: at wide addresses each is the mode's result, and narrowed it is the result itself.
 -- Assumes nothing.
 use Prim.Native.Nat.{ℕ, _+_, _*_, _≤_, _<_}
 use mathlib.Core.Path.{_≡_, refl, sym, ap, _∙_}
@@ -20,9 +20,9 @@ use Rattle.records.specs.Wire.{records, routes, bytesOf}
 use Rattle.records.proofs.Reading.{length-routes}
 use Rattle.positions.specs.Runs.{noHop, hopOf, orElse}
 use Rattle.positions.specs.Walk.{walk}
-use Rattle.positions.specs.Walks.{maximalOut, maximalNext, consistentSetOut, consistentSetNext, consistentMapOut, consistentMapNext}
+use Rattle.positions.specs.Walks.{maximalOut, maximalNext, consistentMapOut, consistentMapNext}
 use Rattle.positions.specs.Wide.{narrowed}
-use Rattle.positions.proofs.Modes.{set-walk, consistent-set-walk, consistent-map-walk}
+use Rattle.positions.proofs.Modes.{set-walk, consistent-map-walk}
 use Rattle.positions.proofs.Wide.{result-narrow, length-narrow}
 use Rattle.nodes.specs.Node.{wide, spare}
 use Rattle.nodes.specs.Output.{wireOf, Wrote}
@@ -101,12 +101,6 @@ module _ (choose : List ℕ → ℕ) (t : List ℕ) {mode : ℕ} (fill : ℕ) wh
   pub set-is : mode ≡ 1 → wideResult choose t mode fill ≡ walk (maximalOut wide (held wide (whole t))) (maximalNext (held wide (whole t))) wide 0 false
   unfolding wideResult
   set-is e = rw e (set-walk choose wide (whole t))
-
-  -- Mode 2.
-  pub consistent-set-is : mode ≡ 2 → Table wide (whole t)
-      → wideResult choose t mode fill ≡ walk (consistentSetOut wide (whole t)) (consistentSetNext wide (whole t)) wide 0 false
-  unfolding wideResult
-  consistent-set-is e table = rw e (consistent-set-walk choose wide (whole t) table)
 
   -- Mode 3.
   pub consistent-map-is : mode ≡ 3 → Table wide (whole t)

@@ -1,4 +1,4 @@
--- The walks of the five modes over a whole table: what they need, and what they write.
+-- The walks of the four modes over a whole table: what they need, and what they write.
 use Prim.Native.Nat.{ℕ, _≤_}
 use mathlib.Core.Path.{_≡_}
 use mathlib.Core.Bool.{true}

@@ -1,4 +1,4 @@
-// The calls over a table that need the node walks: a rewrite in each of the five modes, and the cover query, with every refusal in
+// The calls over a table that need the node walks: a rewrite in each of the four modes, and the cover query, with every refusal in
 // document 01's order. What they answer is said in the crate calls; lookup and addresses held are the crate table's.
 
 mod walks;
@@ -28,7 +28,7 @@ ghost use Rattle.records.specs.Wire.{records, routes};
 ghost use Rattle.nodes.specs.Node.{spare};
 ghost use Rattle.nodes.specs.Room.{nodesBelow};
 ghost use Rattle.calls.specs.Ending.{Fills, Finished};
-ghost use Rattle.calls.specs.Rewriting.{RewritesIn, Rewrites};
+ghost use Rattle.calls.specs.Rewriting.{InUse, RewritesIn, Rewrites};
 ghost use Rattle.calls.specs.Covering.{coversSays, coverReply, Queried};
 ghost use Rattle.aggregate.specs.Walks.{whole, Ready};
 
@@ -39,7 +39,7 @@ fn clear(work: &mut [u32])
     rooms::words::fill(work, 0);
 }
 
-// Is the mode none of the five?
+// Is the mode not 1 to 5?
 fn no_mode(mode: u32) -> bool
     ensures { λ r. ⌜ r ≡ not (leb 1 mode && leb mode 5) ⌝ }
 {
@@ -60,7 +60,7 @@ fn rewrite_checked(
     output: &mut [u8],
     work: &mut [u32],
 ) -> Rewritten
-    requires { ⌜ (1 ≤ mode) × (mode ≤ 5) ⌝ }
+    requires { ⌜ InUse mode ⌝ }
     requires { ⌜ Table 32 (routes (now table)) ⌝ }
     requires { ⌜ Ready (now table) mode ⌝ }
     requires { ⌜ Fills mode fill ⌝ }
@@ -104,6 +104,12 @@ fn rewrite_in(
             index: 0,
         };
     }
+    if mode == 2 {
+        return Rewritten::Refused {
+            number: 16,
+            index: 0,
+        };
+    }
     if no_hop(mode, default) {
         return Rewritten::Refused {
             number: 2,
@@ -116,7 +122,7 @@ fn rewrite_in(
             index: 0,
         };
     }
-    match check_table(table, form, mode <= 2) {
+    match check_table(table, form, mode == 1) {
         Checked::Refused { number, index } => Rewritten::Refused { number, index },
         Checked::Valid(records) => {
             if work.len() / 160 < count_nodes(table) {
@@ -138,7 +144,7 @@ fn rewrite_in(
     }
 }
 
-// Rewrites a table, read by the form, in a mode, 1 to 5, into the output: the number of records written from its start, and how many more they are than the
+// Rewrites a table, read by the form, in a mode, 1, 3, 4 or 5, into the output: the number of records written from its start, and how many more they are than the
 // table's; or a refusal. Mode 5 gives the default to what has no route; modes 4 and 5 choose by the ranks, without any the smallest hop. The room is zero throughout afterwards.
 pub fn rewrite(
     table: &[u8],

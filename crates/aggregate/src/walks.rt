@@ -1,4 +1,4 @@
-// The walks of the five modes over a whole table.
+// The walks of the four modes over a whole table.
 
 use consistent::aggregate_consistent_map;
 use hops::NO_HOP;
@@ -11,6 +11,7 @@ ghost use Rattle.theory.specs.Ranks.{lowest};
 ghost use Rattle.nodes.specs.Output.{Wrote};
 ghost use Rattle.nodes.specs.Room.{nodesBelow};
 ghost use Rattle.calls.specs.Ending.{Fills};
+ghost use Rattle.calls.specs.Rewriting.{InUse};
 ghost use Rattle.aggregate.specs.Walks.{whole, Ready, Prepared, wideResult};
 
 // Lays what the mode's walk reads into the room: the coverage of the nodes in mode 1, their candidate sets in modes 4 and 5. Says where it begins.
@@ -43,7 +44,7 @@ pub fn write(
     top: usize,
     out: &mut [u8],
 ) -> usize
-    requires { ⌜ (1 ≤ mode) × (mode ≤ 5) ⌝ }
+    requires { ⌜ InUse mode ⌝ }
     requires { ⌜ Ready (now table) mode ⌝ }
     requires { ⌜ Fills mode fill ⌝ }
     requires { ⌜ Prepared (now table) mode fill top (now work) ⌝ }
@@ -53,9 +54,6 @@ pub fn write(
     if mode == 1 {
         let root = aggregate_set(table, 0, records, 0, 0, false, work, top, out);
         return root.count;
-    }
-    if mode == 2 {
-        return aggregate_consistent_set(table, 0, records, 0, 0, out);
     }
     if mode == 3 {
         return aggregate_consistent_map(table, 0, records, 0, 0, NO_HOP, out);

@@ -13,7 +13,7 @@ use lib.Signed.{mag}
 use mir.Syntax.{w64}
 use mir.Val.{SFits, toZ, ofZ}
 use mir.ValLaws.{toZ-pos, toZ-ofZ}
-use borrow.Author.Tests.{eqb-true, eqb-false, leb-true, leb-false, le-leb, lt-leb, le-ltb, lt-ltb, eq-eqb}
+use borrow.Author.Tests.{eqb-true, eqb-false, leb-true, leb-false, le-leb, lt-leb, le-ltb, lt-ltb, eq-eqb, ne-eqb}
 use Rattle.theory.specs.Results.{Mode, aggregateSet, aggregateConsistentMap, aggregateMapDrop, aggregateMapFill}
 use Rattle.theory.specs.Ranks.{lowest, isRanking}
 use Rattle.theory.specs.Routes.{Route, Table}
@@ -44,17 +44,17 @@ module _ (known : Bool) (form : Form) (t : List ℕ) (mode default : ℕ) (ranks
 
   module _ (is : known ≡ true) where
     -- Number 16.
-    pub refused-retired : not (eqb mode 2) ≡ false → judge (rulesWith known form t mode default ranks last) a ≡ refuses 16 0
-    refused-retired e = kept-next a 1 0 _ is ∙ broken-here a 16 0 _ e
+    pub refused-retired : mode ≡ 2 → judge (rulesWith known form t mode default ranks last) a ≡ refuses 16 0
+    refused-retired e = kept-next a 1 0 _ is ∙ broken-here a 16 0 _ (ap not (eq-eqb mode 2 e))
 
-    module _ (used : not (eqb mode 2) ≡ true) where
+    module _ (used : mode ≡ 2 → ⊥) where
       -- Past the mode's rules the next decide.
       past-mode : judge (rulesWith known form t mode default ranks last) a
           ≡ judge (rule 2 0 (not (eqb mode 5) || leb default 63)
           ∷ rule 15 0 (not (leb 4 mode) || isRanking 64 ranks)
           ∷ tableRules form (takesSet mode) t
           ++ last) a
-      past-mode = kept-next a 1 0 _ is ∙ kept-next a 16 0 _ used
+      past-mode = kept-next a 1 0 _ is ∙ kept-next a 16 0 _ (ap not (ne-eqb mode 2 used))
 
       -- Number 2.
       pub refused-default : (not (eqb mode 5) || leb default 63) ≡ false → judge (rulesWith known form t mode default ranks last) a ≡ refuses 2 0

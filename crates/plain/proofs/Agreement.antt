@@ -20,7 +20,7 @@ use Rattle.calls.specs.declared.Rewritten.the-variants.{Refused}
 use Rattle.calls.specs.Ending.{lastReply, Finished}
 use Rattle.calls.specs.Rewriting.{resultOf, takesSet, rewriteRules, replyBy, rewriteReply, writtenOf, outputOf, RewritesBy, Rewrites}
 use Rattle.calls.proofs.Settled.{rewritten-same}
-use Rattle.plain.specs.Rewriting.{hasMode, plainRules}
+use Rattle.plain.specs.Rewriting.{isKnown, plainRules}
 use Rattle.plain.proofs.Calls.{plain-never-ten}
 
 -- ---- A rule more in a list.
@@ -47,28 +47,29 @@ one-more (s ∷ rs) r qs a = go (s .kept) refl (one-more rs r qs a)
     go true e (inr h) = inr (rw e (h .0), rw e (h .1))
     go false e h = inl (rw e)
 
--- ---- The modes that both have.
-same-modes : (mode : ℕ) → (mode ≡ 2 → ⊥) → (mode ≡ 3 → ⊥) → (leb 1 mode && leb mode 5) ≡ hasMode mode
-same-modes zero two three = refl
-same-modes (suc zero) two three = refl
-same-modes (suc (suc zero)) two three = absurd (two refl)
-same-modes (suc (suc (suc zero))) two three = absurd (three refl)
-same-modes (suc (suc (suc (suc zero)))) two three = refl
-same-modes (suc (suc (suc (suc (suc zero))))) two three = refl
-same-modes (suc (suc (suc (suc (suc (suc n)))))) two three =
+-- ---- The modes that both know.
+same-modes : (mode : ℕ) → (mode ≡ 3 → ⊥) → (leb 1 mode && leb mode 5) ≡ isKnown mode
+same-modes zero three = refl
+same-modes (suc zero) three = refl
+same-modes (suc (suc zero)) three = refl
+same-modes (suc (suc (suc zero))) three = absurd (three refl)
+same-modes (suc (suc (suc (suc zero)))) three = refl
+same-modes (suc (suc (suc (suc (suc zero))))) three = refl
+same-modes (suc (suc (suc (suc (suc (suc n)))))) three =
     let m : ℕ = suc (suc (suc (suc (suc (suc n))))) in
     rw (
       le-leb 1 m (omega arith),
       lt-leb m 5 (omega arith),
       ne-eqb m 1 (λ e. omega arith),
+      ne-eqb m 2 (λ e. omega arith),
       ne-eqb m 4 (λ e. omega arith),
       ne-eqb m 5 (λ e. omega arith),
     )
 
--- ---- A table t in a mode that is not 2 or 3, rewritten by each engine: by the first with a room of so many words, to r and o′; by the second to q and p′.
+-- ---- A table t in a mode that is not 3, rewritten by each engine: by the first with a room of so many words, to r and o′; by the second to q and p′.
 module _ (form : Form) (t : List ℕ) (mode default : ℕ) (ranks o : List ℕ) (words : ℕ) (r : Rewritten) (o′ w′ : List ℕ) (first : Rewrites form t mode default ranks o words r o′ w′)
     (q : Rewritten) (p′ : List ℕ) (second : RewritesBy (plainRules form t mode default ranks (length o)) t mode default ranks o q p′)
-    (two : mode ≡ 2 → ⊥) (three : mode ≡ 3 → ⊥) where
+    (three : mode ≡ 3 → ⊥) where
   abbrev reply : Reply (List Route)
   reply = rewriteReply form t mode default ranks (length o) words
 
@@ -78,9 +79,10 @@ module _ (form : Form) (t : List ℕ) (mode default : ℕ) (ranks o : List ℕ) 
   replies : (reply ≡ plain) ⊎ ((reply ≡ refuses 10 0) × (plain ≡ lastReply t mode default ranks (length o)))
   unfolding replyBy rewriteRules plainRules
   replies =
-      rw (sym (same-modes mode two three))
+      rw (sym (same-modes mode three))
       (one-more
       (rule 1 0 (leb 1 mode && leb mode 5)
+      ∷ rule 16 0 (not (eqb mode 2))
       ∷ rule 2 0 (not (eqb mode 5) || leb default 63)
       ∷ rule 15 0 (not (leb 4 mode) || isRanking 64 ranks)
       ∷ tableRules form (takesSet mode) t)

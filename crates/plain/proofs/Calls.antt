@@ -27,19 +27,19 @@ use Rattle.calls.specs.Rewriting.{resultOf, takesSet, replyBy, writtenOf, outpu
 use Rattle.calls.proofs.Engines.{by-gives, by-refused, by-accepted, by-untouched}
 use Rattle.calls.proofs.Refusals.{holds, lawful}
 use Rattle.calls.proofs.Settled.{rewritten-of, rewrite-by-settled}
-use Rattle.calls.proofs.Tested.{ranked-with, broken-with, breaks-mode, breaks-default, breaks-ranks, breaks-table, breaks-last}
-use Rattle.plain.specs.Conditions.{IsMode, PlainCondition, no-mode, large-default, bad-ranks, of-table, short-output}
-use Rattle.plain.specs.Rewriting.{hasMode, plainRules}
-use Rattle.plain.proofs.Whole.{mode-had, mode-not-had, mode-known}
+use Rattle.calls.proofs.Tested.{ranked-with, broken-with, breaks-mode, breaks-retired, breaks-default, breaks-ranks, breaks-table, breaks-last}
+use Rattle.plain.specs.Conditions.{IsMode, PlainCondition, no-mode, retired, large-default, bad-ranks, of-table, short-output}
+use Rattle.plain.specs.Rewriting.{hasMode, isKnown, plainRules}
+use Rattle.plain.proofs.Whole.{mode-had, mode-not-had, known-had, mode-known}
 
 -- ---- The rules test the conditions, and stand in the order of the checks.
 
--- The test of rule 1 fails where the engine has not the mode.
-mode-failed : (mode : ℕ) → (IsMode mode → ⊥) → hasMode mode ≡ false
-mode-failed mode other = go (hasMode mode) refl
+-- The test of rule 1 fails where the engine has not the mode, which is not the retired one.
+mode-failed : (mode : ℕ) → (IsMode mode → ⊥) → (mode ≡ 2 → ⊥) → isKnown mode ≡ false
+mode-failed mode other used = go (isKnown mode) refl
   where
-    go : (b : Bool) → hasMode mode ≡ b → b ≡ false
-    go true e = absurd (other (mode-had mode e))
+    go : (b : Bool) → isKnown mode ≡ b → b ≡ false
+    go true e = absurd (other (mode-had mode (known-had mode e used)))
     go false e = refl
 
 module _ (form : Form) (t : List ℕ) (mode default : ℕ) (ranks : List ℕ) (room : ℕ) where
@@ -51,37 +51,38 @@ module _ (form : Form) (t : List ℕ) (mode default : ℕ) (ranks : List ℕ) (r
 
   pub plain-ranked : Ranked 1 11 (plainRules form t mode default ranks room)
   unfolding plainRules rank
-  plain-ranked = ranked-with (hasMode mode) form t mode default ranks last 11 (omega arith) (singles 7 11 last refl .1)
+  plain-ranked = ranked-with (isKnown mode) form t mode default ranks last 11 (omega arith) (singles 7 11 last refl .1)
 
   plain-broken : (n i : ℕ) → Broken (plainRules form t mode default ranks room) n i → Holds n i
   unfolding plainRules
   plain-broken =
-      broken-with (hasMode mode) form t mode default ranks last Holds (λ e. no-mode (mode-not-had mode e)) large-default bad-ranks (λ n i c. of-table c)
+      broken-with (isKnown mode) form t mode default ranks last Holds (λ e. let f = mode-not-had mode e in no-mode (f .0) (f .1)) retired large-default bad-ranks (λ n i c. of-table c)
       (sound-each Holds last (λ e. short-output (leb-false (8 * length (resultOf t mode default ranks)) room e), tt))
 
   plain-breaks : (n i : ℕ) → Holds n i → Broken (plainRules form t mode default ranks room) n i
   unfolding plainRules
-  plain-breaks n i (no-mode f) = breaks-mode (hasMode mode) form t mode default ranks last (mode-failed mode f)
-  plain-breaks n i (large-default e h) = breaks-default (hasMode mode) form t mode default ranks last e h
-  plain-breaks n i (bad-ranks h f) = breaks-ranks (hasMode mode) form t mode default ranks last h f
-  plain-breaks n i (of-table c) = breaks-table (hasMode mode) form t mode default ranks last n i c
+  plain-breaks n i (no-mode f g) = breaks-mode (isKnown mode) form t mode default ranks last (mode-failed mode f g)
+  plain-breaks n i (retired e) = breaks-retired (isKnown mode) form t mode default ranks last e
+  plain-breaks n i (large-default e h) = breaks-default (isKnown mode) form t mode default ranks last e h
+  plain-breaks n i (bad-ranks h f) = breaks-ranks (isKnown mode) form t mode default ranks last h f
+  plain-breaks n i (of-table c) = breaks-table (isKnown mode) form t mode default ranks last n i c
   plain-breaks n i (short-output h) =
-      breaks-last (hasMode mode) form t mode default ranks last n i (inl (lt-leb (8 * length (resultOf t mode default ranks)) room h, refl, refl))
+      breaks-last (isKnown mode) form t mode default ranks last n i (inl (lt-leb (8 * length (resultOf t mode default ranks)) room h, refl, refl))
 
   pub plain-tests : (n i : ℕ) → Broken (plainRules form t mode default ranks room) n i ↔ PlainCondition form t mode default ranks room n i
   plain-tests n i = (plain-broken n i, plain-breaks n i)
 
   -- ---- None holds exactly for a mode that it has, a hop for a default, lawful ranks, an accepted table and an output that is long enough.
-  is-mode : ((IsMode mode → ⊥) → ⊥) → IsMode mode
-  is-mode f = go (hasMode mode) refl
+  is-mode : None (PlainCondition form t mode default ranks room) → IsMode mode
+  is-mode none = go (isKnown mode) refl
     where
-      go : (b : Bool) → hasMode mode ≡ b → IsMode mode
-      go true e = mode-had mode e
-      go false e = absurd (f (mode-not-had mode e))
+      go : (b : Bool) → isKnown mode ≡ b → IsMode mode
+      go true e = mode-had mode (known-had mode e (λ two. none 16 0 (retired two)))
+      go false e = let f = mode-not-had mode e in absurd (none 1 0 (no-mode (f .0) (f .1)))
 
   none→answerable : None (PlainCondition form t mode default ranks room) → IsMode mode × Answerable form t mode default ranks room
   none→answerable none =
-      let had : IsMode mode = is-mode (λ f. none 1 0 (no-mode f)) in (
+      let had : IsMode mode = is-mode none in (
         had,
         record {
           known-mode = mode-known had;
@@ -93,7 +94,8 @@ module _ (form : Form) (t : List ℕ) (mode default : ℕ) (ranks : List ℕ) (r
       )
 
   answerable→none : IsMode mode × Answerable form t mode default ranks room → None (PlainCondition form t mode default ranks room)
-  answerable→none (had, a) n i (no-mode f) = f had
+  answerable→none (had, a) n i (no-mode f g) = f had
+  answerable→none (had, a) n i (retired e) = a .known-mode .2 e
   answerable→none (had, a) n i (large-default e h) = let d = a .small-default e in omega arith
   answerable→none (had, a) n i (bad-ranks h f) = f (a .lawful-ranks h)
   answerable→none (had, a) n i (of-table c) = accepted-exactly form (takesSet mode) t .0 (a .accepted) n i c
@@ -136,22 +138,24 @@ module _ (form : Form) (t : List ℕ) (mode default : ℕ) (ranks o : List ℕ) 
     pub plain-untouched : (number index : ℕ) → r ≡ Refused number index → (o′ ≡ o) × (countOf r ≡ 0) × (changeOf r ≡ pos 0)
     plain-untouched = by-untouched rules t mode default ranks o r o′ ok
 
-    -- It gives the numbers 1 to 8, 11 and 15 alone.
-    pub plain-numbers : (number index : ℕ) → r ≡ Refused number index → ((1 ≤ number) × (number ≤ 8)) ⊎ ((number ≡ 11) ⊎ (number ≡ 15))
+    -- It gives the numbers 1 to 8, 11, 15 and 16 alone.
+    pub plain-numbers : (number index : ℕ) → r ≡ Refused number index → ((1 ≤ number) × (number ≤ 8)) ⊎ ((number ≡ 11) ⊎ ((number ≡ 15) ⊎ (number ≡ 16)))
     plain-numbers number index e = go number index (plain-refused number index .0 e .0)
       where
-        go : (n i : ℕ) → PlainCondition form t mode default ranks (length o) n i → ((1 ≤ n) × (n ≤ 8)) ⊎ ((n ≡ 11) ⊎ (n ≡ 15))
-        go n i (no-mode f) = inl (omega arith)
+        go : (n i : ℕ) → PlainCondition form t mode default ranks (length o) n i → ((1 ≤ n) × (n ≤ 8)) ⊎ ((n ≡ 11) ⊎ ((n ≡ 15) ⊎ (n ≡ 16)))
+        go n i (no-mode f g) = inl (omega arith)
+        go n i (retired e) = inr (inr (inr refl))
         go n i (large-default p q) = inl (omega arith)
         go n i (of-table c) = let k = table-numbers form (takesSet mode) t n i c in inl (omega (arith, k .0), omega (arith, k .1))
         go n i (short-output h) = inr (inl refl)
-        go n i (bad-ranks h f) = inr (inr refl)
+        go n i (bad-ranks h f) = inr (inr (inl refl))
 
     -- Never 10.
     pub plain-never-ten : (index : ℕ) → r ≡ Refused 10 index → ⊥
     plain-never-ten index e = go 10 refl (plain-numbers 10 index e)
       where
-        go : (n : ℕ) → n ≡ 10 → ((1 ≤ n) × (n ≤ 8)) ⊎ ((n ≡ 11) ⊎ (n ≡ 15)) → ⊥
+        go : (n : ℕ) → n ≡ 10 → ((1 ≤ n) × (n ≤ 8)) ⊎ ((n ≡ 11) ⊎ ((n ≡ 15) ⊎ (n ≡ 16))) → ⊥
         go n ten (inl h) = omega arith
         go n ten (inr (inl h)) = omega arith
-        go n ten (inr (inr h)) = omega arith
+        go n ten (inr (inr (inl h))) = omega arith
+        go n ten (inr (inr (inr h))) = omega arith

@@ -19,7 +19,7 @@ use Rattle.calls.specs.declared.Rewritten.{Rewritten}
 use Rattle.calls.specs.declared.Rewritten.the-variants.{Refused}
 use Rattle.calls.specs.Rewriting.{resultOf, takesSet, replyBy, writtenOf, outputOf, RewritesBy}
 use Rattle.calls.proofs.Masking.{by-waived}
-use Rattle.plain.specs.Rewriting.{hasMode, plainRules}
+use Rattle.plain.specs.Rewriting.{isKnown, plainRules}
 use Rattle.plain.proofs.Calls.{plain-settled}
 
 -- The default is the strict choice with number 6 waived.
@@ -27,7 +27,8 @@ plain-waived : (t : List ℕ) (mode default : ℕ) (ranks : List ℕ) (room : �
 unfolding plainRules
 plain-waived t mode default ranks room =
     ap (λ (l : List Rule).
-    rule 1 0 (hasMode mode)
+    rule 1 0 (isKnown mode)
+    ∷ rule 16 0 (not (eqb mode 2))
     ∷ rule 2 0 (not (eqb mode 5) || leb default 63)
     ∷ rule 15 0 (not (leb 4 mode) || isRanking 64 ranks)
     ∷ l)

@@ -11,8 +11,8 @@ use Rattle.records.specs.declared.Form.{Form}
 use Rattle.table.specs.Checking.{checkReply}
 use Rattle.calls.specs.Ending.{lastReply}
 use Rattle.calls.specs.Rewriting.{resultOf, takesSet, replyBy}
-use Rattle.calls.proofs.Ending.{refused-mode, refused-default, refused-ranks, refused-table, last-decide}
-use Rattle.plain.specs.Rewriting.{hasMode, plainRules}
+use Rattle.calls.proofs.Ending.{refused-mode, refused-retired, refused-default, refused-ranks, refused-table, last-decide}
+use Rattle.plain.specs.Rewriting.{isKnown, plainRules}
 
 module _ (form : Form) (t : List ℕ) (mode default : ℕ) (ranks : List ℕ) (room : ℕ) where
   -- The rule of the output.
@@ -20,30 +20,36 @@ module _ (form : Form) (t : List ℕ) (mode default : ℕ) (ranks : List ℕ) (r
   last = rule 11 0 (leb (8 * length (resultOf t mode default ranks)) room) ∷ []
 
   -- Number 1.
-  pub not-a-mode : hasMode mode ≡ false → replyBy (plainRules form t mode default ranks room) t mode default ranks ≡ refuses 1 0
+  pub not-a-mode : isKnown mode ≡ false → replyBy (plainRules form t mode default ranks room) t mode default ranks ≡ refuses 1 0
   unfolding replyBy plainRules
-  not-a-mode e = refused-mode (hasMode mode) form t mode default ranks last (resultOf t mode default ranks) e
+  not-a-mode e = refused-mode (isKnown mode) form t mode default ranks last (resultOf t mode default ranks) e
 
-  module _ (had : hasMode mode ≡ true) where
-    -- Number 2.
-    pub not-a-hop : (not (eqb mode 5) || leb default 63) ≡ false → replyBy (plainRules form t mode default ranks room) t mode default ranks ≡ refuses 2 0
+  module _ (known : isKnown mode ≡ true) where
+    -- Number 16.
+    pub retired-mode : mode ≡ 2 → replyBy (plainRules form t mode default ranks room) t mode default ranks ≡ refuses 16 0
     unfolding replyBy plainRules
-    not-a-hop e = refused-default (hasMode mode) form t mode default ranks last (resultOf t mode default ranks) had e
+    retired-mode e = refused-retired (isKnown mode) form t mode default ranks last (resultOf t mode default ranks) known e
 
-    module _ (ok : (not (eqb mode 5) || leb default 63) ≡ true) where
-      -- Number 15.
-      pub not-a-ranking : (not (leb 4 mode) || isRanking 64 ranks) ≡ false → replyBy (plainRules form t mode default ranks room) t mode default ranks ≡ refuses 15 0
+    module _ (used : mode ≡ 2 → ⊥) where
+      -- Number 2.
+      pub not-a-hop : (not (eqb mode 5) || leb default 63) ≡ false → replyBy (plainRules form t mode default ranks room) t mode default ranks ≡ refuses 2 0
       unfolding replyBy plainRules
-      not-a-ranking e = refused-ranks (hasMode mode) form t mode default ranks last (resultOf t mode default ranks) had ok e
+      not-a-hop e = refused-default (isKnown mode) form t mode default ranks last (resultOf t mode default ranks) known used e
 
-      module _ (ranked : (not (leb 4 mode) || isRanking 64 ranks) ≡ true) where
-        -- Numbers 3 to 8.
-        pub not-a-table : {n i : ℕ} → checkReply form (takesSet mode) t ≡ refuses n i → replyBy (plainRules form t mode default ranks room) t mode default ranks ≡ refuses n i
+      module _ (ok : (not (eqb mode 5) || leb default 63) ≡ true) where
+        -- Number 15.
+        pub not-a-ranking : (not (leb 4 mode) || isRanking 64 ranks) ≡ false → replyBy (plainRules form t mode default ranks room) t mode default ranks ≡ refuses 15 0
         unfolding replyBy plainRules
-        not-a-table e = refused-table (hasMode mode) form t mode default ranks last (resultOf t mode default ranks) had ok ranked e
+        not-a-ranking e = refused-ranks (isKnown mode) form t mode default ranks last (resultOf t mode default ranks) known used ok e
 
-        -- Past the table's rules only the output's room decides.
-        pub only-output : {k : ℕ} → checkReply form (takesSet mode) t ≡ gives k
-            → replyBy (plainRules form t mode default ranks room) t mode default ranks ≡ lastReply t mode default ranks room
-        unfolding replyBy plainRules
-        only-output valid = last-decide (hasMode mode) form t mode default ranks last (resultOf t mode default ranks) had ok ranked valid
+        module _ (ranked : (not (leb 4 mode) || isRanking 64 ranks) ≡ true) where
+          -- Numbers 3 to 8.
+          pub not-a-table : {n i : ℕ} → checkReply form (takesSet mode) t ≡ refuses n i → replyBy (plainRules form t mode default ranks room) t mode default ranks ≡ refuses n i
+          unfolding replyBy plainRules
+          not-a-table e = refused-table (isKnown mode) form t mode default ranks last (resultOf t mode default ranks) known used ok ranked e
+
+          -- Past the table's rules only the output's room decides.
+          pub only-output : {k : ℕ} → checkReply form (takesSet mode) t ≡ gives k
+              → replyBy (plainRules form t mode default ranks room) t mode default ranks ≡ lastReply t mode default ranks room
+          unfolding replyBy plainRules
+          only-output valid = last-decide (isKnown mode) form t mode default ranks last (resultOf t mode default ranks) known used ok ranked valid

@@ -2,14 +2,14 @@
 -- nothing.
 use Prim.Native.Nat.{ℕ, _-_, _/_, _≤_, _<_}
 use mathlib.Core.Path.{_≡_, refl, sym, ap, subst, _∙_}
-use mathlib.Core.Bool.{Bool, true, false, _||_}
+use mathlib.Core.Bool.{Bool, true, false, true≢false, _||_}
 use mathlib.Core.List.{List}
 use mathlib.Core.Logic.{inl, inr}
 use native.Mathlib.Omega.{arith}
 use lib.Dec.{eqb}
 use lib.IntN.{ℤ, pos, _-ℤ_}
 use lib.ListN.{length}
-use borrow.Author.Tests.{eq-eqb, eqb-true, lt-ltb}
+use borrow.Author.Tests.{ne-eqb, eqb-true, lt-ltb}
 use Rattle.theory.specs.Results.{result, aggregateMapDrop, aggregateMapFill}
 use Rattle.theory.specs.Ranks.{lowest}
 use Rattle.theory.specs.Routes.{none, answer, filled, lookup, All, Table}
@@ -18,9 +18,6 @@ use Rattle.theory.proofs.Ranks.{lowest-chooses}
 use Rattle.theory.proofs.Computed.{under-default}
 use Rattle.theory.proofs.Lists.{all-member}
 use Rattle.theory.proofs.Maximal.{set-is-drop-bare}
-use Rattle.refusals.specs.Rules.{Reply}
-use Rattle.records.specs.declared.Form.{Form}
-use Rattle.table.specs.Checking.{checkReply}
 use Rattle.records.specs.Wire.{records, routes, routeAt}
 use Rattle.table.specs.TableRules.{topHop}
 use Rattle.table.proofs.Tables.{set-hops}
@@ -31,16 +28,16 @@ use Rattle.theory.proofs.Numbered.{member-numbered}
 use Rattle.runs.proofs.Records.{run-whole, run-numbered}
 use Rattle.calls.specs.declared.Rewritten.the-variants.{Records}
 use Rattle.calls.specs.Ending.{Fills, Finished}
-use Rattle.calls.specs.Rewriting.{resultOf, takesSet}
+use Rattle.calls.specs.Rewriting.{InUse, resultOf, takesSet}
 use Rattle.calls.proofs.Ending.{laid-output, finished-written}
 use Rattle.plain.specs.Conditions.{IsMode}
 use Rattle.plain.specs.Output.{Put}
 use Rattle.plain.specs.Positions.{Hopped, answerAt, entriesAt}
-use Rattle.plain.specs.Rewriting.{hasMode, Bare}
+use Rattle.plain.specs.Rewriting.{hasMode, isKnown, Bare}
 
 -- ---- The modes.
 
--- The test of rule 1 is passed by the modes that the engine has.
+-- A mode that the engine has.
 pub mode-had : (mode : ℕ) → hasMode mode ≡ true → IsMode mode
 mode-had mode e = go (eqb mode 1) refl (eqb mode 4) refl (eqb mode 5) refl e
   where
@@ -50,35 +47,24 @@ mode-had mode e = go (eqb mode 1) refl (eqb mode 4) refl (eqb mode 5) refl e
     go false p false q true r e = inr (inr (eqb-true mode 5 r))
     go false p false q false r e = let z : _≡_ {A = ℕ} 0 1 = cc in absurd (omega arith)
 
--- By them alone.
-pub mode-not-had : (mode : ℕ) → hasMode mode ≡ false → IsMode mode → ⊥
-mode-not-had mode e (inl m) = let z : _≡_ {A = ℕ} 0 1 = cc in omega arith
-mode-not-had mode e (inr (inl m)) = go (eqb mode 1) e
+-- What does not pass the test is none of them, nor the retired mode.
+pub mode-not-had : (mode : ℕ) → isKnown mode ≡ false → (IsMode mode → ⊥) × (mode ≡ 2 → ⊥)
+mode-not-had mode e = (none-had, λ two. true≢false (rw two at e))
   where
-    go : (a : Bool) → (a || (eqb mode 4 || eqb mode 5)) ≡ false → ⊥
-    go true f = let z : _≡_ {A = ℕ} 0 1 = cc in omega arith
-    go false f = let z : _≡_ {A = ℕ} 0 1 = cc (eq-eqb mode 4 m) in omega arith
-mode-not-had mode e (inr (inr m)) = go (eqb mode 1) (eqb mode 4) e
-  where
-    go : (a b : Bool) → (a || (b || eqb mode 5)) ≡ false → ⊥
-    go true b f = let z : _≡_ {A = ℕ} 0 1 = cc in omega arith
-    go false true f = let z : _≡_ {A = ℕ} 0 1 = cc in omega arith
-    go false false f = let z : _≡_ {A = ℕ} 0 1 = cc (eq-eqb mode 5 m) in omega arith
+    none-had : IsMode mode → ⊥
+    none-had (inl m) = true≢false (rw m at e)
+    none-had (inr (inl m)) = true≢false (rw m at e)
+    none-had (inr (inr m)) = true≢false (rw m at e)
 
--- They are modes of document 01,
-pub mode-known : {mode : ℕ} → IsMode mode → (1 ≤ mode) × (mode ≤ 5)
-mode-known (inl e) = (omega arith, omega arith)
-mode-known (inr (inl e)) = (omega arith, omega arith)
-mode-known (inr (inr e)) = (omega arith, omega arith)
+-- What passes it, and is not the retired mode, the engine has.
+pub known-had : (mode : ℕ) → isKnown mode ≡ true → (mode ≡ 2 → ⊥) → hasMode mode ≡ true
+known-had mode e used = rw (ne-eqb mode 2 used) at e
 
--- and of them mode 1 alone takes a set: so the check that the code makes is the right one.
-mode-takes-set : {mode : ℕ} → IsMode mode → eqb mode 1 ≡ takesSet mode
-mode-takes-set (inl e) = rw e
-mode-takes-set (inr (inl e)) = rw e
-mode-takes-set (inr (inr e)) = rw e
-
-pub mode-checked : {mode : ℕ} → IsMode mode → (form : Form) (t : List ℕ) {q : Reply ℕ} → checkReply form (eqb mode 1) t ≡ q → checkReply form (takesSet mode) t ≡ q
-mode-checked had form t e = ap (λ (s : Bool). checkReply form s t) (sym (mode-takes-set had)) ∙ e
+-- They are modes in use.
+pub mode-known : {mode : ℕ} → IsMode mode → InUse mode
+mode-known (inl e) = (omega arith, omega arith, λ two. omega arith)
+mode-known (inr (inl e)) = (omega arith, omega arith, λ two. omega arith)
+mode-known (inr (inr e)) = (omega arith, omega arith, λ two. omega arith)
 
 -- ---- A table that keeps the rules.
 

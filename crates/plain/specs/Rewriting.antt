@@ -17,10 +17,15 @@ use Rattle.calls.specs.Rewriting.{resultOf, takesSet}
 abbrev pub hasMode : ℕ → Bool
 hasMode mode = eqb mode 1 || (eqb mode 4 || eqb mode 5)
 
--- The rules 1, 2, 15, 3 to 8 and 11, for an output of `room` bytes: there is no work room, so no rule 10. Mode 1 does not read the ranks.
+-- Is it one, or the retired mode?
+abbrev pub isKnown : ℕ → Bool
+isKnown mode = eqb mode 1 || (eqb mode 2 || (eqb mode 4 || eqb mode 5))
+
+-- The rules 1, 16, 2, 15, 3 to 8 and 11, for an output of `room` bytes: there is no work room, so no rule 10. Mode 1 does not read the ranks.
 unfoldable pub plainRules : Form → List ℕ → ℕ → ℕ → List ℕ → ℕ → List Rule
 plainRules form t mode default ranks room =
-    rule 1 0 (hasMode mode)
+    rule 1 0 (isKnown mode)
+    ∷ rule 16 0 (not (eqb mode 2))
     ∷ rule 2 0 (not (eqb mode 5) || leb default 63)
     ∷ rule 15 0 (not (leb 4 mode) || isRanking 64 ranks)
     ∷ tableRules form (takesSet mode) t

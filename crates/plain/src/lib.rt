@@ -37,7 +37,7 @@ ghost use Rattle.calls.specs.Ending.{Fills, Finished};
 ghost use Rattle.calls.specs.Rewriting.{RewritesBy};
 ghost use Rattle.plain.specs.Positions.{Hopped, setAt, entryAt, entriesAt, PartOf};
 ghost use Rattle.plain.specs.Output.{Put};
-ghost use Rattle.plain.specs.Rewriting.{hasMode, plainRules, Bare};
+ghost use Rattle.plain.specs.Rewriting.{hasMode, isKnown, plainRules, Bare};
 
 // How a position is taken apart.
 enum Part {
@@ -177,11 +177,14 @@ fn write(
     }
 }
 
-// Is the mode none that this engine has?
+// Is the mode none that this engine has, nor the retired one?
 fn no_mode(mode: u32) -> bool
-    ensures { λ r. ⌜ r ≡ not (hasMode mode) ⌝ }
+    ensures { λ r. ⌜ r ≡ not (isKnown mode) ⌝ }
 {
     if mode == 1 {
+        return false;
+    }
+    if mode == 2 {
         return false;
     }
     if mode == 4 {
@@ -239,6 +242,12 @@ pub fn rewrite(
     if no_mode(mode) {
         return Rewritten::Refused {
             number: 1,
+            index: 0,
+        };
+    }
+    if mode == 2 {
+        return Rewritten::Refused {
+            number: 16,
             index: 0,
         };
     }

@@ -11,7 +11,7 @@ use Rattle.records.specs.Wire.{routes}
 use Rattle.nodes.proofs.RoomNodes.{nodes-below}
 use Rattle.calls.specs.Rewriting.{takesSet}
 use Rattle.calls.proofs.Ending.{default-hop, checked-count, checked-lawful, refused-by, finished-by, same-last}
-use Rattle.aggregate.proofs.CallLaws.{mode-range, ready, not-a-mode, not-a-hop, not-a-ranking, not-a-table, short-room, only-output}
+use Rattle.aggregate.proofs.CallLaws.{mode-used, ready, not-a-mode, retired-mode, not-a-hop, not-a-ranking, not-a-table, short-room, only-output}
 use Rattle.aggregate.proofs.rewrite_in.Statement.{statement}
 use Rattle.aggregate.proofs.rewrite_in.Tie as tie
 
@@ -21,20 +21,24 @@ no-mode-requires c κs = search needs
 returns : tie.Need-returns
 returns c = refused-by _ _ _ _ _ _ (not-a-mode _ _ _ _ _ _ _ (not-true _ (sym (c .before .no-mode .ensures) ∙ c .if1 .taken)))
 
+returns-2 : tie.Need-returns-2
+returns-2 c =
+    refused-by _ _ _ _ _ _ (retired-mode _ _ _ _ _ _ _ (not-false _ (sym (c .before .before .no-mode .ensures) ∙ c .before .if1 .left)) (c .if2 .taken))
+
 no-hop-requires : tie.Need-no-hop-requires
 no-hop-requires c κs = search needs
 
-returns-2 : tie.Need-returns-2
-returns-2 c = refused-by _ _ _ _ _ _ (not-a-hop _ _ _ _ _ _ _ (not-false _ (sym (c .before .before .before .no-mode .ensures) ∙ c .before .before .if1 .left)) (not-true _ (sym (c .before .no-hop .ensures) ∙ c .if2 .taken)))
+returns-3 : tie.Need-returns-3
+returns-3 c = refused-by _ _ _ _ _ _ (not-a-hop _ _ _ _ _ _ _ (not-false _ (sym (c .before .before .before .before .no-mode .ensures) ∙ c .before .before .before .if1 .left)) (c .before .before .if2 .left) (not-true _ (sym (c .before .no-hop .ensures) ∙ c .if3 .taken)))
 
 no-ranks-requires : tie.Need-no-ranks-requires
 no-ranks-requires c κs = search needs
 
-returns-3 : tie.Need-returns-3
-returns-3 c =
+returns-4 : tie.Need-returns-4
+returns-4 c =
     refused-by _ _ _ _ _ _
-    (not-a-ranking _ _ _ _ _ _ _ (not-false _ (sym (c .before .before .before .before .before .no-mode .ensures) ∙ c .before .before .before .before .if1 .left))
-    (not-false _ (sym (c .before .before .before .no-hop .ensures) ∙ c .before .before .if2 .left)) (not-true _ (sym (c .before .no-ranks .ensures) ∙ c .if3 .taken)))
+    (not-a-ranking _ _ _ _ _ _ _ (not-false _ (sym (c .before .before .before .before .before .before .no-mode .ensures) ∙ c .before .before .before .before .before .if1 .left)) (c .before .before .before .before .if2 .left)
+    (not-false _ (sym (c .before .before .before .no-hop .ensures) ∙ c .before .before .if3 .left)) (not-true _ (sym (c .before .no-ranks .ensures) ∙ c .if4 .taken)))
 
 check-table-requires : tie.Need-check-table-requires
 check-table-requires c κs = search needs
@@ -46,33 +50,33 @@ enum-known-records : tie.Need-enum-known-records
 enum-known-records c = search needs
 
 count-nodes-requires : tie.Need-count-nodes-requires
-count-nodes-requires c κs = checked-lawful _ _ _ _ (sym (c .before .before .before .check-table .ensures) ∙ ap checkedSays (c .before .records .given .1)) (λ k. omega (arith, c .before .before .before .before .before .before .before .before .before .before .before .before .before .shared-slice-known .given k)) .table
+count-nodes-requires c κs = checked-lawful _ _ _ _ (sym (c .before .before .before .check-table .ensures) ∙ ap checkedSays (c .before .records .given .1)) (λ k. omega (arith, c .before .before .before .before .before .before .before .before .before .before .before .before .before .before .shared-slice-known .given k)) .table
 
-returns-4 : tie.Need-returns-4
-returns-4 c =
+returns-5 : tie.Need-returns-5
+returns-5 c =
     let count = c .before .count-nodes .ensures in
-    let short = c .if4 .taken in
-    refused-by _ _ _ _ _ _ (short-room _ _ _ _ _ _ _ (not-false _ (sym (c .before .before .before .before .before .before .before .before .before .before .before .no-mode .ensures) ∙ c .before .before .before .before .before .before .before .before .before .before .if1 .left)) (not-false _ (sym (c .before .before .before .before .before .before .before .before .before .no-hop .ensures) ∙ c .before .before .before .before .before .before .before .before .if2 .left)) (not-false _ (sym (c .before .before .before .before .before .before .before .no-ranks .ensures) ∙ c .before .before .before .before .before .before .if3 .left)) (sym (c .before .before .before .before .before .check-table .ensures) ∙ ap checkedSays (c .before .before .before .records .given .1)) (omega arith))
+    let short = c .if5 .taken in
+    refused-by _ _ _ _ _ _ (short-room _ _ _ _ _ _ _ (not-false _ (sym (c .before .before .before .before .before .before .before .before .before .before .before .before .no-mode .ensures) ∙ c .before .before .before .before .before .before .before .before .before .before .before .if1 .left)) (c .before .before .before .before .before .before .before .before .before .before .if2 .left) (not-false _ (sym (c .before .before .before .before .before .before .before .before .before .no-hop .ensures) ∙ c .before .before .before .before .before .before .before .before .if3 .left)) (not-false _ (sym (c .before .before .before .before .before .before .before .no-ranks .ensures) ∙ c .before .before .before .before .before .before .if4 .left)) (sym (c .before .before .before .before .before .check-table .ensures) ∙ ap checkedSays (c .before .before .before .records .given .1)) (omega arith))
 
 fill-of-requires : tie.Need-fill-of-requires
 fill-of-requires c κs = search needs
 
 rewrite-checked-requires : tie.Need-rewrite-checked-requires
 rewrite-checked-requires c κs =
-    let args = c .before .before .before .before .before .before .before .before .before .before .before .before .before .before .before .before .before .before .before .args in
+    let args = c .before .before .before .before .before .before .before .before .before .before .before .before .before .before .before .before .before .before .before .before .args in
     let valid = sym (c .before .before .before .before .before .before .before .before .check-table .ensures) ∙ ap checkedSays (c .before .before .before .before .before .before .records .given .1) in
-    let lawful = checked-lawful _ (takesSet (args .mode)) (args .table .now) _ valid (λ k. omega (arith, c .before .before .before .before .before .before .before .before .before .before .before .before .before .before .before .before .before .before .shared-slice-known .given k)) in
+    let lawful = checked-lawful _ (takesSet (args .mode)) (args .table .now) _ valid (λ k. omega (arith, c .before .before .before .before .before .before .before .before .before .before .before .before .before .before .before .before .before .before .before .shared-slice-known .given k)) in
     let filled = c .before .before .fill-of .ensures in
     let count = c .before .before .before .before .count-nodes .ensures in
-    let long = c .before .before .before .if4 .left in (
-      mode-range _ (not-false _ (sym (c .before .before .before .before .before .before .before .before .before .before .before .before .before .before .no-mode .ensures) ∙ c .before .before .before .before .before .before .before .before .before .before .before .before .before .if1 .left)),
+    let long = c .before .before .before .if5 .left in (
+      mode-used _ (not-false _ (sym (c .before .before .before .before .before .before .before .before .before .before .before .before .before .before .before .no-mode .ensures) ∙ c .before .before .before .before .before .before .before .before .before .before .before .before .before .before .if1 .left)) (c .before .before .before .before .before .before .before .before .before .before .before .before .before .if2 .left),
       (
         lawful .table,
         (
           ready _ _ lawful,
           (
             record {
-              hop = λ five. let small = default-hop _ (args .default) (not-false _ (sym (c .before .before .before .before .before .before .before .before .before .before .before .before .no-hop .ensures) ∙ c .before .before .before .before .before .before .before .before .before .before .before .if2 .left)) five in omega (arith, filled .0 five small);
+              hop = λ five. let small = default-hop _ (args .default) (not-false _ (sym (c .before .before .before .before .before .before .before .before .before .before .before .before .no-hop .ensures) ∙ c .before .before .before .before .before .before .before .before .before .before .before .if3 .left)) five in omega (arith, filled .0 five small);
               none = filled .1;
             },
             (checked-count _ _ _ _ valid, rw (nodes-below (args .table .now) (lawful .table .valid)) (omega arith)),
@@ -81,8 +85,8 @@ rewrite-checked-requires c κs =
       ),
     )
 
-returns-5 : tie.Need-returns-5
-returns-5 c = refused-by _ _ _ _ _ _ (not-a-table _ _ _ _ _ _ _ (not-false _ (sym (c .before .before .before .before .before .before .before .before .before .no-mode .ensures) ∙ c .before .before .before .before .before .before .before .before .if1 .left)) (not-false _ (sym (c .before .before .before .before .before .before .before .no-hop .ensures) ∙ c .before .before .before .before .before .before .if2 .left)) (not-false _ (sym (c .before .before .before .before .before .no-ranks .ensures) ∙ c .before .before .before .before .if3 .left)) (sym (c .before .before .before .check-table .ensures) ∙ ap checkedSays (c .before .number .given .1)))
+returns-6 : tie.Need-returns-6
+returns-6 c = refused-by _ _ _ _ _ _ (not-a-table _ _ _ _ _ _ _ (not-false _ (sym (c .before .before .before .before .before .before .before .before .before .before .no-mode .ensures) ∙ c .before .before .before .before .before .before .before .before .before .if1 .left)) (c .before .before .before .before .before .before .before .before .if2 .left) (not-false _ (sym (c .before .before .before .before .before .before .before .no-hop .ensures) ∙ c .before .before .before .before .before .before .if3 .left)) (not-false _ (sym (c .before .before .before .before .before .no-ranks .ensures) ∙ c .before .before .before .before .if4 .left)) (sym (c .before .before .before .check-table .ensures) ∙ ap checkedSays (c .before .number .given .1)))
 
 same-length : tie.Need-same-length
 same-length c = search needs
@@ -90,19 +94,20 @@ same-length c = search needs
 same-length-2 : tie.Need-same-length-2
 same-length-2 c = search needs
 
-returns-6 : tie.Need-returns-6
-returns-6 c =
-    let args = c .before .before .before .before .before .before .before .before .before .before .before .before .before .before .before .before .before .before .before .before .before .before .before .before .args in
+returns-7 : tie.Need-returns-7
+returns-7 c =
+    let args = c .before .before .before .before .before .before .before .before .before .before .before .before .before .before .before .before .before .before .before .before .before .before .before .before .before .args in
     let valid = sym (c .before .before .before .before .before .before .before .before .before .before .before .before .before .check-table .ensures) ∙ ap checkedSays (c .before .before .before .before .before .before .before .before .before .before .before .records .given .1) in
     let count = c .before .before .before .before .before .before .before .before .before .count-nodes .ensures in
-    let long = c .before .before .before .before .before .before .before .before .if4 .left in
+    let long = c .before .before .before .before .before .before .before .before .if5 .left in
     let room : 160 * nodes 32 (routes (args .table .now)) ≤ length (args .work .now) = omega arith in
-    let is = not-false _ (sym (c .before .before .before .before .before .before .before .before .before .before .before .before .before .before .before .before .before .before .before .no-mode .ensures) ∙ c .before .before .before .before .before .before .before .before .before .before .before .before .before .before .before .before .before .before .if1 .left) in
-    let hop = not-false _ (sym (c .before .before .before .before .before .before .before .before .before .before .before .before .before .before .before .before .before .no-hop .ensures) ∙ c .before .before .before .before .before .before .before .before .before .before .before .before .before .before .before .before .if2 .left) in
-    let ranked = not-false _ (sym (c .before .before .before .before .before .before .before .before .before .before .before .before .before .before .before .no-ranks .ensures) ∙ c .before .before .before .before .before .before .before .before .before .before .before .before .before .before .if3 .left) in
+    let is = not-false _ (sym (c .before .before .before .before .before .before .before .before .before .before .before .before .before .before .before .before .before .before .before .before .no-mode .ensures) ∙ c .before .before .before .before .before .before .before .before .before .before .before .before .before .before .before .before .before .before .before .if1 .left) in
+    let used = c .before .before .before .before .before .before .before .before .before .before .before .before .before .before .before .before .before .before .if2 .left in
+    let hop = not-false _ (sym (c .before .before .before .before .before .before .before .before .before .before .before .before .before .before .before .before .before .no-hop .ensures) ∙ c .before .before .before .before .before .before .before .before .before .before .before .before .before .before .before .before .if3 .left) in
+    let ranked = not-false _ (sym (c .before .before .before .before .before .before .before .before .before .before .before .before .before .before .before .no-ranks .ensures) ∙ c .before .before .before .before .before .before .before .before .before .before .before .before .before .before .if4 .left) in
     finished-by _ _ _ _ _ _
-    (only-output _ _ _ _ _ _ _ is hop ranked valid room
-    ∙ same-last _ _ _ _ _ _ (mode-range _ is) (λ five. c .before .before .before .before .before .before .before .fill-of .ensures .0 five (default-hop _ _ hop five)))
+    (only-output _ _ _ _ _ _ _ is used hop ranked valid room
+    ∙ same-last _ _ _ _ _ _ (mode-used _ is used) (λ five. c .before .before .before .before .before .before .before .fill-of .ensures .0 five (default-hop _ _ hop five)))
     (c .before .before .before .before .rewrite-checked .ensures)
 
 pub rewrite-in-spec : {M : Type 1} → statement M
@@ -111,18 +116,19 @@ rewrite-in-spec =
     (tie.spec
     no-mode-requires
     returns
-    no-hop-requires
     returns-2
-    no-ranks-requires
+    no-hop-requires
     returns-3
+    no-ranks-requires
+    returns-4
     check-table-requires
     enum-known-number
     enum-known-records
     count-nodes-requires
-    returns-4
+    returns-5
     fill-of-requires
     rewrite-checked-requires
-    returns-5
+    returns-6
     same-length
     same-length-2
-    returns-6)
+    returns-7)

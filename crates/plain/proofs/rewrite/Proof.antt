@@ -7,8 +7,8 @@ use Rattle.table.specs.Checking.{checkedSays}
 use Rattle.table.proofs.Tables.{hops-below}
 use Rattle.calls.specs.Rewriting.{takesSet}
 use Rattle.calls.proofs.Ending.{refused-by, finished-by, same-last, default-hop, checked-count, checked-lawful}
-use Rattle.plain.proofs.Replies.{not-a-mode, not-a-hop, not-a-ranking, not-a-table, only-output}
-use Rattle.plain.proofs.Whole.{mode-had, mode-known, mode-checked, all-hopped, all-bare}
+use Rattle.plain.proofs.Replies.{not-a-mode, retired-mode, not-a-hop, not-a-ranking, not-a-table, only-output}
+use Rattle.plain.proofs.Whole.{mode-had, known-had, mode-known, all-hopped, all-bare}
 use Rattle.plain.proofs.rewrite.Statement.{statement}
 use Rattle.plain.proofs.rewrite.Tie as tie
 
@@ -18,22 +18,26 @@ no-mode-requires c κs = search needs
 returns : tie.Need-returns
 returns c = refused-by _ _ _ _ _ _ (not-a-mode _ _ _ _ _ _ (not-true _ (sym (c .before .no-mode .ensures) ∙ c .if1 .taken)))
 
-no-hop-requires : tie.Need-no-hop-requires
-no-hop-requires c κs = search needs
-
 returns-2 : tie.Need-returns-2
 returns-2 c =
-    refused-by _ _ _ _ _ _
-    (not-a-hop _ _ _ _ _ _ (not-false _ (sym (c .before .before .before .no-mode .ensures) ∙ c .before .before .if1 .left)) (not-true _ (sym (c .before .no-hop .ensures) ∙ c .if2 .taken)))
+    refused-by _ _ _ _ _ _ (retired-mode _ _ _ _ _ _ (not-false _ (sym (c .before .before .no-mode .ensures) ∙ c .before .if1 .left)) (c .if2 .taken))
 
-no-ranks-requires : tie.Need-no-ranks-requires
-no-ranks-requires c κs = search needs
+no-hop-requires : tie.Need-no-hop-requires
+no-hop-requires c κs = search needs
 
 returns-3 : tie.Need-returns-3
 returns-3 c =
     refused-by _ _ _ _ _ _
-    (not-a-ranking _ _ _ _ _ _ (not-false _ (sym (c .before .before .before .before .before .no-mode .ensures) ∙ c .before .before .before .before .if1 .left))
-    (not-false _ (sym (c .before .before .before .no-hop .ensures) ∙ c .before .before .if2 .left)) (not-true _ (sym (c .before .no-ranks .ensures) ∙ c .if3 .taken)))
+    (not-a-hop _ _ _ _ _ _ (not-false _ (sym (c .before .before .before .before .no-mode .ensures) ∙ c .before .before .before .if1 .left)) (c .before .before .if2 .left) (not-true _ (sym (c .before .no-hop .ensures) ∙ c .if3 .taken)))
+
+no-ranks-requires : tie.Need-no-ranks-requires
+no-ranks-requires c κs = search needs
+
+returns-4 : tie.Need-returns-4
+returns-4 c =
+    refused-by _ _ _ _ _ _
+    (not-a-ranking _ _ _ _ _ _ (not-false _ (sym (c .before .before .before .before .before .before .no-mode .ensures) ∙ c .before .before .before .before .before .if1 .left)) (c .before .before .before .before .if2 .left)
+    (not-false _ (sym (c .before .before .before .no-hop .ensures) ∙ c .before .before .if3 .left)) (not-true _ (sym (c .before .no-ranks .ensures) ∙ c .if4 .taken)))
 
 check-table-requires : tie.Need-check-table-requires
 check-table-requires c κs = search needs
@@ -49,14 +53,15 @@ fill-of-requires c κs = search needs
 
 rewrite-checked-requires : tie.Need-rewrite-checked-requires
 rewrite-checked-requires c κs =
-    let a = c .before .before .before .before .before .before .before .before .before .before .before .before .before .before .before .args in
-    let is = not-false _ (sym (c .before .before .before .before .before .before .before .before .before .before .before .no-mode .ensures) ∙ c .before .before .before .before .before .before .before .before .before .before .if1 .left) in
-    let had = mode-had (a .mode) is in
-    let valid = mode-checked had (a .form) (a .table .now) (sym (c .before .before .before .before .before .check-table .ensures) ∙ ap checkedSays (c .before .before .before .records .given .1)) in
-    let lawful = checked-lawful (a .form) (takesSet (a .mode)) (a .table .now) _ valid (λ k. omega (arith, c .before .before .before .before .before .before .before .before .before .before .before .before .before .before .shared-slice-known .given k)) in
-    let hop = not-false _ (sym (c .before .before .before .before .before .before .before .before .before .no-hop .ensures) ∙ c .before .before .before .before .before .before .before .before .if2 .left) in
+    let a = c .before .before .before .before .before .before .before .before .before .before .before .before .before .before .before .before .args in
+    let is = not-false _ (sym (c .before .before .before .before .before .before .before .before .before .before .before .before .no-mode .ensures) ∙ c .before .before .before .before .before .before .before .before .before .before .before .if1 .left) in
+    let used = c .before .before .before .before .before .before .before .before .before .before .if2 .left in
+    let had = mode-had (a .mode) (known-had (a .mode) is used) in
+    let valid = sym (c .before .before .before .before .before .check-table .ensures) ∙ ap checkedSays (c .before .before .before .records .given .1) in
+    let lawful = checked-lawful (a .form) (takesSet (a .mode)) (a .table .now) _ valid (λ k. omega (arith, c .before .before .before .before .before .before .before .before .before .before .before .before .before .before .before .shared-slice-known .given k)) in
+    let hop = not-false _ (sym (c .before .before .before .before .before .before .before .before .before .no-hop .ensures) ∙ c .before .before .before .before .before .before .before .before .if3 .left) in
     let filled = c .before .fill-of .ensures in (
-      is,
+      known-had (a .mode) is used,
       (
         (lawful .table, (all-hopped (a .table .now) (hops-below (takesSet (a .mode)) (lawful .hops)), all-bare (a .table .now) (lawful .hops))),
         (
@@ -69,27 +74,29 @@ rewrite-checked-requires c κs =
       ),
     )
 
-returns-4 : tie.Need-returns-4
-returns-4 c =
-    let a = c .before .before .before .before .before .before .before .before .before .before .before .before .before .args in
-    let is = not-false _ (sym (c .before .before .before .before .before .before .before .before .before .no-mode .ensures) ∙ c .before .before .before .before .before .before .before .before .if1 .left) in
-    let refused = mode-checked (mode-had (a .mode) is) (a .form) (a .table .now) (sym (c .before .before .before .check-table .ensures) ∙ ap checkedSays (c .before .number .given .1)) in
-    let ranked = not-false _ (sym (c .before .before .before .before .before .no-ranks .ensures) ∙ c .before .before .before .before .if3 .left) in
-    refused-by _ _ _ _ _ _ (not-a-table _ _ _ _ _ _ is (not-false _ (sym (c .before .before .before .before .before .before .before .no-hop .ensures) ∙ c .before .before .before .before .before .before .if2 .left)) ranked refused)
+returns-5 : tie.Need-returns-5
+returns-5 c =
+    let a = c .before .before .before .before .before .before .before .before .before .before .before .before .before .before .args in
+    let is = not-false _ (sym (c .before .before .before .before .before .before .before .before .before .before .no-mode .ensures) ∙ c .before .before .before .before .before .before .before .before .before .if1 .left) in
+    let used = c .before .before .before .before .before .before .before .before .if2 .left in
+    let refused = sym (c .before .before .before .check-table .ensures) ∙ ap checkedSays (c .before .number .given .1) in
+    let ranked = not-false _ (sym (c .before .before .before .before .before .no-ranks .ensures) ∙ c .before .before .before .before .if4 .left) in
+    refused-by _ _ _ _ _ _ (not-a-table _ _ _ _ _ _ is used (not-false _ (sym (c .before .before .before .before .before .before .before .no-hop .ensures) ∙ c .before .before .before .before .before .before .if3 .left)) ranked refused)
 
 same-length : tie.Need-same-length
 same-length c = search needs
 
-returns-5 : tie.Need-returns-5
-returns-5 c =
-    let a = c .before .before .before .before .before .before .before .before .before .before .before .before .before .before .before .before .before .before .args in
-    let is = not-false _ (sym (c .before .before .before .before .before .before .before .before .before .before .before .before .before .before .no-mode .ensures) ∙ c .before .before .before .before .before .before .before .before .before .before .before .before .before .if1 .left) in
-    let hop = not-false _ (sym (c .before .before .before .before .before .before .before .before .before .before .before .before .no-hop .ensures) ∙ c .before .before .before .before .before .before .before .before .before .before .before .if2 .left) in
-    let had = mode-had (a .mode) is in
-    let valid = mode-checked had (a .form) (a .table .now) (sym (c .before .before .before .before .before .before .before .before .check-table .ensures) ∙ ap checkedSays (c .before .before .before .before .before .before .records .given .1)) in
-    let ranked = not-false _ (sym (c .before .before .before .before .before .before .before .before .before .before .no-ranks .ensures) ∙ c .before .before .before .before .before .before .before .before .before .if3 .left) in
+returns-6 : tie.Need-returns-6
+returns-6 c =
+    let a = c .before .before .before .before .before .before .before .before .before .before .before .before .before .before .before .before .before .before .before .args in
+    let is = not-false _ (sym (c .before .before .before .before .before .before .before .before .before .before .before .before .before .before .before .no-mode .ensures) ∙ c .before .before .before .before .before .before .before .before .before .before .before .before .before .before .if1 .left) in
+    let used = c .before .before .before .before .before .before .before .before .before .before .before .before .before .if2 .left in
+    let hop = not-false _ (sym (c .before .before .before .before .before .before .before .before .before .before .before .before .no-hop .ensures) ∙ c .before .before .before .before .before .before .before .before .before .before .before .if3 .left) in
+    let had = mode-had (a .mode) (known-had (a .mode) is used) in
+    let valid = sym (c .before .before .before .before .before .before .before .before .check-table .ensures) ∙ ap checkedSays (c .before .before .before .before .before .before .records .given .1) in
+    let ranked = not-false _ (sym (c .before .before .before .before .before .before .before .before .before .before .no-ranks .ensures) ∙ c .before .before .before .before .before .before .before .before .before .if4 .left) in
     finished-by _ _ _ _ _ _
-    (only-output _ _ _ _ _ _ is hop ranked valid
+    (only-output _ _ _ _ _ _ is used hop ranked valid
     ∙ same-last _ _ _ _ _ _ (mode-known had) (λ five. c .before .before .before .before .fill-of .ensures .0 five (default-hop _ _ hop five)))
     (c .before .before .rewrite-checked .ensures)
 
@@ -99,15 +106,16 @@ rewrite-spec =
     (tie.spec
     no-mode-requires
     returns
-    no-hop-requires
     returns-2
-    no-ranks-requires
+    no-hop-requires
     returns-3
+    no-ranks-requires
+    returns-4
     check-table-requires
     enum-known-number
     enum-known-records
     fill-of-requires
     rewrite-checked-requires
-    returns-4
+    returns-5
     same-length
-    returns-5)
+    returns-6)

@@ -2,9 +2,8 @@
 -- Assumes nothing.
 use native.Mathlib.Omega.{arith}
 use borrow.Author.Needs.{needs}
-use borrow.Author.Tests.{le-leb}
 use Rattle.theory.specs.Ranks.{lowest}
-use Rattle.aggregate.proofs.WalkLaws.{fill-le, set-is, consistent-set-is, consistent-map-is, ortc-is}
+use Rattle.aggregate.proofs.WalkLaws.{fill-le, set-is, consistent-map-is, ortc-is}
 use Rattle.aggregate.proofs.walks.write.Statement.{statement}
 use Rattle.aggregate.proofs.walks.write.Tie as tie
 
@@ -24,10 +23,8 @@ returns c =
     let a = c .before .before .before .before .before .before .before .before .before .args in
     rw (set-is (lowest (a .ranks .now)) (a .table .now) (a .fill) (c .before .before .before .before .if1 .taken)) (c .before .before .aggregate-set .ensures .1)
 
-aggregate-consistent-set-requires : tie.Need-aggregate-consistent-set-requires
-aggregate-consistent-set-requires c κs =
-    let s = c .before .before .before .before .before .before .before in
-    (s .pre .1 .0 .node, s .pre .1 .0 .bare (le-leb (s .args .mode) 2 (omega arith)))
+aggregate-consistent-map-requires : tie.Need-aggregate-consistent-map-requires
+aggregate-consistent-map-requires c κs = search needs
 
 same-length-2 : tie.Need-same-length-2
 same-length-2 c = search needs
@@ -36,31 +33,19 @@ returns-2 : tie.Need-returns-2
 returns-2 c =
     let s = c .before .before .before .before .before .before .before .before .before .before in
     let a = s .args in
-    rw (consistent-set-is (lowest (a .ranks .now)) (a .table .now) (a .fill) (c .before .before .before .before .if2 .taken) (s .pre .1 .0 .node .table)) (c .before .before .aggregate-consistent-set .ensures)
+    rw (consistent-map-is (lowest (a .ranks .now)) (a .table .now) (a .fill) (c .before .before .before .before .if2 .taken) (s .pre .1 .0 .node .table)) (c .before .before .aggregate-consistent-map .ensures)
 
-aggregate-consistent-map-requires : tie.Need-aggregate-consistent-map-requires
-aggregate-consistent-map-requires c κs = search needs
+rewrite-requires : tie.Need-rewrite-requires
+rewrite-requires c κs =
+    let pre = c .before .before .before .before .before .before .before .pre in
+    (pre .1 .0 .node, ((omega arith, (fill-le (pre .1 .1 .0), omega arith)), pre .1 .1 .1 .sets (omega arith)))
 
 same-length-3 : tie.Need-same-length-3
 same-length-3 c = search needs
 
 returns-3 : tie.Need-returns-3
 returns-3 c =
-    let s = c .before .before .before .before .before .before .before .before .before .before .before in
-    let a = s .args in
-    rw (consistent-map-is (lowest (a .ranks .now)) (a .table .now) (a .fill) (c .before .before .before .before .if3 .taken) (s .pre .1 .0 .node .table)) (c .before .before .aggregate-consistent-map .ensures)
-
-rewrite-requires : tie.Need-rewrite-requires
-rewrite-requires c κs =
-    let pre = c .before .before .before .before .before .before .before .before .pre in
-    (pre .1 .0 .node, ((omega arith, (fill-le (pre .1 .1 .0), omega arith)), pre .1 .1 .1 .sets (omega arith)))
-
-same-length-4 : tie.Need-same-length-4
-same-length-4 c = search needs
-
-returns-4 : tie.Need-returns-4
-returns-4 c =
-    let s = c .before .before .before .before .before .before .before .before .before .before .before in
+    let s = c .before .before .before .before .before .before .before .before .before .before in
     let a = s .args in
     let pre = s .pre in
     rw (ortc-is (lowest (a .ranks .now)) (a .table .now) (a .fill) (omega arith) (pre .0 .1) (pre .1 .1 .0)) (c .before .before .rewrite .ensures .1)
@@ -73,12 +58,9 @@ write-spec =
     aggregate-set-requires
     same-length
     returns
-    aggregate-consistent-set-requires
+    aggregate-consistent-map-requires
     same-length-2
     returns-2
-    aggregate-consistent-map-requires
-    same-length-3
-    returns-3
     rewrite-requires
-    same-length-4
-    returns-4)
+    same-length-3
+    returns-3)

@@ -41,7 +41,7 @@ int main(int argc, char **argv)
     }
     fclose(file);
 
-    int is_set = mode == SUOVVAMET_SET || mode == SUOVVAMET_CONSISTENT_SET;
+    int is_set = mode == SUOVVAMET_SET;
     static const uint16_t no_ranks[1]; /* the smallest of equally good hops is taken */
     uint64_t words, count, index;
     int64_t change;

@@ -50,7 +50,8 @@ extern "C" {
 enum suovvamet_refusal {
     SUOVVAMET_ANSWERED = 0,       /* no refusal */
     SUOVVAMET_EDITION = 14,       /* the edition is not 5735 or 6890 */
-    SUOVVAMET_MODE = 1,           /* the mode is not 1 to 5; by the plain engine: not 1, 4 or 5 */
+    SUOVVAMET_MODE = 1,           /* the mode is not 1 to 5; by the plain engine: not 1, 4 or 5, nor 2 */
+    SUOVVAMET_RETIRED = 16,       /* the mode is 2, which is retired: use SUOVVAMET_SET, which serves the tables that it wrote */
     SUOVVAMET_DEFAULT = 2,        /* the mode is 5 and the default is above 63 */
     SUOVVAMET_RANKS = 15,         /* the mode is 4 or 5, and ranks are lent that are not the numbers 0 to 63 each once */
     SUOVVAMET_TABLE_LENGTH = 3,   /* the table's length is not a multiple of 8 */
@@ -65,10 +66,9 @@ enum suovvamet_refusal {
     SUOVVAMET_IMAGE = 12          /* the chip's image has not 8,192 bytes */
 };
 
-/* The modes of a rewrite. The first two take a set, the others a map. */
+/* The modes of a rewrite. The first takes a set, the others a map. 2 is retired, and never given to another mode. */
 enum suovvamet_mode {
     SUOVVAMET_SET = 1,            /* the widest prefixes that the members cover whole */
-    SUOVVAMET_CONSISTENT_SET = 2, /* the members with no member above them */
     SUOVVAMET_CONSISTENT_MAP = 3, /* the entries whose hop differs from that of the nearest entry above, or with none above */
     SUOVVAMET_MAP_DROP = 4,       /* the same hop at every address, by ORTC; what has no route keeps none */
     SUOVVAMET_MAP_FILL = 5        /* the same, what has no route given the default hop */
@@ -92,8 +92,8 @@ enum suovvamet_mode {
  * Rewrites the table in a mode: the records of the mode's result stand in the output from its start, *count is their number and *change is
  * that number less the number of the table's records. The bytes of the output after these records stay as they were, and after a refusal
  * all of them. default_hop is read in mode 5 alone. No table that answers every address alike has fewer records than mode 4's result, nor than mode
- * 5's once unrouted addresses have the default; *change is never above 0 in modes 1 to 4 and never above 1 in mode 5. Refusals 1, 2, 15, 3 to 8, 10
- * and 11.
+ * 5's once unrouted addresses have the default; *change is never above 0 in modes 1, 3 and 4 and never above 1 in mode 5. Refusals 1 or 16, 2, 15,
+ * 3 to 8, 10 and 11.
  *
  * Where several hops are equally good, modes 4 and 5 take the one of lowest rank. ranks[h] is the rank of hop h: 64 numbers, 0 to 63 each once; or
  * ranks_length is 0, and then the smallest hop is taken, as by ranks that are the hop numbers. How many records there are does not depend on the
@@ -104,9 +104,9 @@ uint32_t suovvamet_rewrite(const uint8_t *table, uint64_t table_length, uint32_t
                            uint64_t work_length, uint64_t *count, int64_t *change, uint64_t *index);
 
 /*
- * The same in modes 1, 4 and 5 by the plain engine, which needs no work room: other modes are refused by 1, and it never refuses by 10. Wherever
- * suovvamet_rewrite, lent any work room, does not refuse by 10, both give the same numbers and the same output in these modes. It takes no
- * memory but stack and, on large tables, more time (docs/PERFORMANCE.md). Refusals 1, 2, 15, 3 to 8 and 11.
+ * The same in modes 1, 4 and 5 by the plain engine, which needs no work room: mode 3 is refused by 1, and it never refuses by 10. Wherever
+ * suovvamet_rewrite, lent any work room, does not refuse by 10, both give the same numbers and the same output but in mode 3. It takes no
+ * memory but stack and, on large tables, more time (docs/PERFORMANCE.md). Refusals 1 or 16, 2, 15, 3 to 8 and 11.
  */
 uint32_t suovvamet_rewrite_plain(const uint8_t *table, uint64_t table_length, uint32_t flags, uint32_t mode, uint32_t default_hop,
                                  const uint16_t *ranks, uint64_t ranks_length, uint8_t *output, uint64_t output_length, uint64_t *count,
@@ -166,6 +166,7 @@ static inline const char *suovvamet_refusal_text(uint32_t refusal)
     switch (refusal) {
     case SUOVVAMET_ANSWERED: return "answered";
     case SUOVVAMET_MODE: return "the mode is not 1 to 5, or not 1, 4 or 5 by the plain engine";
+    case SUOVVAMET_RETIRED: return "mode 2 is retired; mode 1 serves its tables";
     case SUOVVAMET_DEFAULT: return "the default hop is above 63";
     case SUOVVAMET_RANKS: return "the ranks are not the numbers 0 to 63 each once";
     case SUOVVAMET_TABLE_LENGTH: return "the table is not made of whole records of 8 bytes";

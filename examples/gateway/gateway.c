@@ -63,7 +63,7 @@ int main(void)
     uint64_t words, count, index;
     int64_t change;
     /* A rewrite clears all that it is lent, so it is lent what the table needs, where there is as much. */
-    uint32_t refusal = suovvamet_work_words(table, length, 0, MODE <= SUOVVAMET_CONSISTENT_SET, &words, &index);
+    uint32_t refusal = suovvamet_work_words(table, length, 0, MODE == SUOVVAMET_SET, &words, &index);
     if (refusal == SUOVVAMET_ANSWERED) {
         if (words > 160 * NODES)
             words = 160 * NODES;

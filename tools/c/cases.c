@@ -123,7 +123,9 @@ static void promise_words(size_t length, uint32_t flags, int is_set, size_t word
     if (own != SUOVVAMET_ANSWERED) {
         promise(needed.value == 0, "words in a refusal");
         promise(own >= SUOVVAMET_TABLE_LENGTH && own <= SUOVVAMET_ORDER, "words refused by no number of a table");
-        promise(refusal == SUOVVAMET_MODE || refusal == SUOVVAMET_DEFAULT || refusal == SUOVVAMET_RANKS || (refusal == own && at == index.value), "words refused otherwise");
+        promise(refusal == SUOVVAMET_MODE || refusal == SUOVVAMET_RETIRED || refusal == SUOVVAMET_DEFAULT || refusal == SUOVVAMET_RANKS ||
+                    (refusal == own && at == index.value),
+                "words refused otherwise");
         return;
     }
     promise(index.value == 0, "index of an answer");
@@ -185,9 +187,9 @@ static void rewrite(int plain, size_t length, uint32_t flags, uint32_t mode, uin
     promise_guards(&count);
     promise_guards(&change_room);
     if (!plain)
-        promise_words(length, flags, mode <= SUOVVAMET_CONSISTENT_SET, words, refusal, index.value);
+        promise_words(length, flags, mode == SUOVVAMET_SET, words, refusal, index.value);
     if (answered(refusal, &index, count.value == 0 && *change == 0)) {
-        print_records((size_t)count.value, mode > SUOVVAMET_CONSISTENT_SET);
+        print_records((size_t)count.value, mode != SUOVVAMET_SET);
         print(*change < 0 ? "change -" : "change ");
         print_number(*change < 0 ? 0 - (uint64_t)*change : (uint64_t)*change);
         print("\n");

@@ -1,4 +1,0 @@
-// Mode 2: reads a table from standard input and prints its records and the change. It is run on document 01's case 4.
-fn main() {
-    program::run(2);
-}

@@ -7,9 +7,9 @@ use Rattle.records.specs.Forms.{byDefault}
 use Rattle.calls.specs.Rewriting.{rewriteReply}
 use Rattle.text.specs.Answers.{replyText}
 
--- In a mode, with a default, without ranks, an output of `room` bytes and a work room of `words` words; the hops are left out in modes 1 and 2.
+-- In a mode, with a default, without ranks, an output of `room` bytes and a work room of `words` words; the hops are left out in mode 1.
 unfoldable pub printedIn : ℕ → ℕ → ℕ → ℕ → List ℕ → List ℕ
-printedIn mode default room words t = replyText (ltb 2 mode) (records t) (rewriteReply byDefault t mode default [] room words)
+printedIn mode default room words t = replyText (ltb 1 mode) (records t) (rewriteReply byDefault t mode default [] room words)
 
 -- By document 01's program of a mode: fill has default 0, the output 8,200 bytes, the work room 16,384 words.
 unfoldable pub printed : ℕ → List ℕ → List ℕ

@@ -26,7 +26,7 @@ pub fn answer_in(table: &[u8], mode: u32, default: u32, work: &mut [u32], out: &
         &mut output,
         work,
     );
-    put_rewritten(answered, &output, 2 < mode, 0, out)
+    put_rewritten(answered, &output, 1 < mode, 0, out)
 }
 
 // The same in the mode's program of document 01.

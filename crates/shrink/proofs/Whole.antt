@@ -52,7 +52,7 @@ module _ (mode default room words : ℕ) where
   broken-alike : (s t : List ℕ) → (length s % 8 ≡ 0 → ⊥) → (length t % 8 ≡ 0 → ⊥) → printedIn mode default room words s ≡ printedIn mode default room words t
   unfolding printedIn replyBy rewriteRules tableRules
   broken-alike s t e f =
-      refused-alike (ltb 2 mode) (records s) (records t) (take 3 (rewriteRules byDefault s mode default [] room words)) 3 (ne-eqb (length s % 8) 0 e) (ne-eqb (length t % 8) 0 f) _ _ _ _
+      refused-alike (ltb 1 mode) (records s) (records t) (take 4 (rewriteRules byDefault s mode default [] room words)) 3 (ne-eqb (length s % 8) 0 e) (ne-eqb (length t % 8) 0 f) _ _ _ _
 
   -- By number 4.
   many-alike : (s t : List ℕ) → length s % 8 ≡ 0 → length t % 8 ≡ 0 → 1024 < records s → 1024 < records t
@@ -60,7 +60,7 @@ module _ (mode default room words : ℕ) where
   unfolding printedIn replyBy rewriteRules tableRules
   many-alike s t e f m n =
       rw (eq-eqb (length s % 8) 0 e, eq-eqb (length t % 8) 0 f)
-      (refused-alike (ltb 2 mode) (records s) (records t) (take 3 (rewriteRules byDefault s mode default [] room words) ++ (rule 3 0 true ∷ [])) 4 (lt-leb (records s) 1024 m) (lt-leb (records t) 1024 n) _ _ _ _)
+      (refused-alike (ltb 1 mode) (records s) (records t) (take 4 (rewriteRules byDefault s mode default [] room words) ++ (rule 3 0 true ∷ [])) 4 (lt-leb (records s) 1024 m) (lt-leb (records t) 1024 n) _ _ _ _)
 
   -- What is printed for the deciding bytes is what the whole input asks for.
   pub whole-input : (t : List ℕ) → printedIn mode default room words (take (judged (length t)) t) ≡ printedIn mode default room words t

@@ -14,7 +14,7 @@ use Rattle.table.specs.TableRules.{tableRules}
 use Rattle.table.proofs.Accepted.{accepted-exactly, not-refused, accepted, refused-exactly}
 use Rattle.table.proofs.Tested.{table-numbers}
 use Rattle.table.specs.Conditions.{TableCondition}
-use Rattle.calls.specs.Conditions.{RewriteCondition, no-mode, large-default, bad-ranks, of-table, short-work, short-output, CoverCondition, of-set, long-query, short-room}
+use Rattle.calls.specs.Conditions.{RewriteCondition, no-mode, retired, large-default, bad-ranks, of-table, short-work, short-output, CoverCondition, of-set, long-query, short-room}
 use Rattle.refusals.specs.Order.{First, None}
 use Rattle.refusals.proofs.Judged.{gives-exactly}
 use Rattle.records.specs.Wire.{records, routes}
@@ -31,7 +31,7 @@ use Rattle.calls.specs.declared.Rewritten.the-variants.{Records, Refused}
 use Rattle.calls.specs.declared.Covers.the-variants.{Refused as NotAnswered}
 use Rattle.calls.proofs.Refusals.{rewrite-refused, rewrite-accepted, covers-refused, covers-answered}
 use Rattle.calls.proofs.Settled.{rewritten-same, covers-same}
-use Rattle.plain.specs.Conditions.{PlainCondition, no-mode as no-plain-mode, large-default as plain-large-default, bad-ranks as plain-bad-ranks, of-table as of-plain-table, short-output as short-plain-output}
+use Rattle.plain.specs.Conditions.{PlainCondition, no-mode as no-plain-mode, retired as plain-retired, large-default as plain-large-default, bad-ranks as plain-bad-ranks, of-table as of-plain-table, short-output as short-plain-output}
 use Rattle.plain.proofs.Calls.{plain-accepted, plain-refused}
 use Rattle.holes.specs.Conditions.{UnroutedCondition, of-table as of-map, short-output as short-list}
 use Rattle.holes.specs.Listing.{holesOf, listedSays}
@@ -55,6 +55,7 @@ table-number {form} {s} {t} {n} {i} c = omega (arith, table-numbers form s t n i
 
 rewrite-number : {form : Form} {t : List ℕ} {mode default : ℕ} {ranks : List ℕ} {room words n i : ℕ} → RewriteCondition form t mode default ranks room words n i → 1 ≤ n
 rewrite-number (no-mode f) = omega arith
+rewrite-number (retired e) = omega arith
 rewrite-number (large-default e h) = omega arith
 rewrite-number (bad-ranks h f) = omega arith
 rewrite-number (of-table c) = table-number c
@@ -62,7 +63,8 @@ rewrite-number (short-work h) = omega arith
 rewrite-number (short-output h) = omega arith
 
 plain-number : {form : Form} {t : List ℕ} {mode default : ℕ} {ranks : List ℕ} {room n i : ℕ} → PlainCondition form t mode default ranks room n i → 1 ≤ n
-plain-number (no-plain-mode f) = omega arith
+plain-number (no-plain-mode f g) = omega arith
+plain-number (plain-retired e) = omega arith
 plain-number (plain-large-default e h) = omega arith
 plain-number (plain-bad-ranks h f) = omega arith
 plain-number (of-plain-table c) = table-number c
@@ -91,6 +93,7 @@ table-below {form} {s} {t} {n} {i} c = table-numbers form s t n i c .1
 
 rewrite-ten : {form : Form} {t : List ℕ} {mode default : ℕ} {ranks : List ℕ} {room words n i : ℕ} → RewriteCondition form t mode default ranks room words n i → n ≡ 10 → words < 160 * nodes 32 (routes t)
 rewrite-ten (no-mode f) e = absurd (omega arith)
+rewrite-ten (retired p) e = absurd (omega arith)
 rewrite-ten (large-default d h) e = absurd (omega arith)
 rewrite-ten (bad-ranks h f) e = absurd (omega arith)
 rewrite-ten (of-table c) e = let k = table-below c in absurd (omega arith)

@@ -1,5 +1,5 @@
 // What the programs share: a table rewritten in a mode, its host bits masked, and the result's records and the change as text, or the refusal; and
-// document 01's five, which read the table from standard input.
+// document 01's programs of a mode, which read the table from standard input.
 
 use libc::STDIN_FILENO;
 use libc::STDOUT_FILENO;

@@ -67,13 +67,13 @@ abbrev pub heldOf : Reply ℕ → AddressesHeld
 heldOf (gives n) = Count n
 heldOf (refuses number index) = NotCounted number index
 
--- Of each call; the hops are left out in modes 1 and 2.
+-- Of each call; the hops are left out in mode 1.
 abbrev pub rewriteAnswer : Form → List ℕ → ℕ → ℕ → List ℕ → ℕ → ℕ → List ℕ
-rewriteAnswer form t mode default ranks room words = replyText (ltb 2 mode) (records t) (rewriteReply form t mode default ranks room words)
+rewriteAnswer form t mode default ranks room words = replyText (ltb 1 mode) (records t) (rewriteReply form t mode default ranks room words)
 
 abbrev pub plainAnswer : Form → List ℕ → ℕ → ℕ → List ℕ → ℕ → List ℕ
 plainAnswer form t mode default ranks room =
-    replyText (ltb 2 mode) (records t) (replyBy (plainRules form t mode default ranks room) t mode default ranks)
+    replyText (ltb 1 mode) (records t) (replyBy (plainRules form t mode default ranks room) t mode default ranks)
 
 abbrev pub coverAnswer : Form → List ℕ → ℕ → ℕ → ℕ → List ℕ
 coverAnswer form t address len words = coversText (coversOf (coverReply form t address len words))

@@ -75,7 +75,7 @@ fn keep_rewritten(
         work,
     );
     let begin = room_for(kept, at);
-    let end = put_rewritten(answer, output, 2 < mode, begin, kept);
+    let end = put_rewritten(answer, output, 1 < mode, begin, kept);
     let after = keep_work(work, end, kept);
     keep_output(output, written(answer), after, kept)
 }
@@ -99,7 +99,7 @@ fn keep_plain(
     rooms::bytes::fill(output, FILLED_BYTE);
     let answer = plain::rewrite(table, form, mode as u32, default as u32, ranks, output);
     let begin = room_for(kept, at);
-    let end = put_rewritten(answer, output, 2 < mode, begin, kept);
+    let end = put_rewritten(answer, output, 1 < mode, begin, kept);
     keep_output(output, written(answer), end, kept)
 }
 

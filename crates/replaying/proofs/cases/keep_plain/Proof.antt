@@ -57,7 +57,7 @@ returns c =
     (rw (c .before .before .before .before .written .ensures) (output-filled _ _ _ _ _ _ _ (plain-guarded _ _ _ _ _ _) _ 165 (length (s .output .now)) (bytes .ensures) _ (done .ensures))) in
     put-at (c .before .before .before .before .before .before .before .before .before .before .before .room-for .ensures .0) (nothing .0) (nothing .1)
     (put-as
-    (by-text _ _ _ _ _ _ _ (plain-guarded _ _ _ _ _ _) _ (ltb 2 (s .mode)) (λ k. c .before .before .before .before .before .before .before .before .before .before .before .before .before .before .before .before .before .before .before .before .before .before .before .before .shared-slice-known .given k .fits) _ (done .ensures)
+    (by-text _ _ _ _ _ _ _ (plain-guarded _ _ _ _ _ _) _ (ltb 1 (s .mode)) (λ k. c .before .before .before .before .before .before .before .before .before .before .before .before .before .before .before .before .before .before .before .before .before .before .before .before .shared-slice-known .given k .fits) _ (done .ensures)
     ∙ ap (plainAnswer (s .form) (s .table .now) (s .mode) (s .default) (s .ranks .now)) (ap length (bytes .ensures) ∙ length-replicate _ _))
     (c .before .before .before .before .before .before .before .before .put-rewritten .ensures))
 

@@ -70,7 +70,7 @@ returns c =
     (rw (c .before .before .before .before .written .ensures) (output-filled _ _ _ _ _ _ _ (rewrite-guarded _ _ _ _ _ _ _) _ 165 (length (s .output .now)) (bytes .ensures) _ (done .ensures .inner))) in
     put-at (c .before .before .before .before .before .before .before .before .before .before .before .before .before .before .before .before .room-for .ensures .0) (neither .0 ∙ nothing .0) (neither .1 ∙ nothing .1)
     (put-as
-    (rewritten-text _ _ _ _ _ _ _ _ _ (ltb 2 (s .mode)) (λ k. c .before .before .before .before .before .before .before .before .before .before .before .before .before .before .before .before .before .before .before .before .before .before .before .before .before .before .before .before .before .before .before .before .before .before .before .before .before .shared-slice-known .given k .fits) _ (done .ensures)
+    (rewritten-text _ _ _ _ _ _ _ _ _ (ltb 1 (s .mode)) (λ k. c .before .before .before .before .before .before .before .before .before .before .before .before .before .before .before .before .before .before .before .before .before .before .before .before .before .before .before .before .before .before .before .before .before .before .before .before .before .shared-slice-known .given k .fits) _ (done .ensures)
     ∙ ap₂ (rewriteAnswer (s .form) (s .table .now) (s .mode) (s .default) (s .ranks .now)) (ap length (bytes .ensures) ∙ length-replicate _ _) (ap length (words .ensures) ∙ length-replicate _ _))
     (c .before .before .before .before .before .before .before .before .before .before .before .before .before .put-rewritten .ensures))
 

@@ -38,7 +38,7 @@ extern "C" {
 #endif
 
 /* One more whenever something that is declared or promised here changes. */
-#define SUOVVAMET_VERSION 7
+#define SUOVVAMET_VERSION 8
 
 /*
  * How a table is read, in every call: 0, or SUOVVAMET_STRICT for the strict choice. The other bits of the flags are kept for later and ignored;

@@ -46,8 +46,8 @@ returns c =
     let start = c .before .before .before .before .before .before .before .before .before .before .before .before .before .before in
     let s = start .before .args in
     put-as
-    (rewritten-text _ _ _ _ _ _ _ _ _ (ltb 2 (s .mode)) (λ k. start .shared-slice-known .given k .fits) _ (c .before .before .before .before .before .before .before .before .rewrite .ensures)
-    ∙ ap (λ (room : ℕ). replyText (ltb 2 (s .mode)) (records (s .table .now)) (rewriteReply byDefault (s .table .now) (s .mode) (s .default) [] room (length (s .work .now))))
+    (rewritten-text _ _ _ _ _ _ _ _ _ (ltb 1 (s .mode)) (λ k. start .shared-slice-known .given k .fits) _ (c .before .before .before .before .before .before .before .before .rewrite .ensures)
+    ∙ ap (λ (room : ℕ). replyText (ltb 1 (s .mode)) (records (s .table .now)) (rewriteReply byDefault (s .table .now) (s .mode) (s .default) [] room (length (s .work .now))))
     (length-replicate {A = ℕ} 8200 0))
     (c .before .before .put-rewritten .ensures)
 

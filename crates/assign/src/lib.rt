@@ -197,7 +197,7 @@ pub fn leaf_slots(covering: &[u8; 31], hops: &[u8; 31], fill: u8) -> u32
     push_l4(other)
 }
 
-// Writes one record, if it is by a hop and not by the one above, and says how many it wrote.
+// Writes one record, if it is by a hop and not by the one above, and says how many it wrote: that of each wide address whose half is in hand.
 pub fn emit(out: &mut [u8], addr: u64, len: usize, hop: u8, above: u8) -> usize
     requires { ⌜ len < 256 ⌝ }
     ensures { λ r. ⌜ ((a : ℕ) → a / 2 ≡ addr → Wrote (entryOver a len hop above) 0 r (now (out .entry)) (now (out .exit))) ⌝ }

@@ -19,6 +19,7 @@ module _ (depth : ℕ) (deep : depth ≤ 60) where
   whole : 2 ^ (64 - depth) * 2 ^ depth ≡ 2 ^ 64
   whole = let e : (64 - depth) + depth ≡ 64 = omega arith in sym (pow-add 2 (64 - depth) depth) ∙ ap (λ (k : ℕ). 2 ^ k) e
 
+  -- A node has twice as many wide addresses as code addresses.
   twice : 2 ^ (wide - depth) ≡ 2 ^ (64 - depth) * 2
   twice = let e : wide - depth ≡ suc (64 - depth) = omega arith in rw e (pow-suc 2 (64 - depth))
 
@@ -39,6 +40,7 @@ module _ (depth : ℕ) (deep : depth ≤ 60) where
       ∙ ap (λ (k : ℕ). k / 2 ^ 59) (low q 64 fits)
       ∙ half ∙ ap (λ (k : ℕ). k / 2 ^ 60) (sym two) ∙ down
 
+  -- So the slot of an address is had without the key of the node in which it lies.
   pub slot-of : (x a : ℕ) → At depth a → In (wide - depth) a (x * 2) → x * 2 ^ depth % 2 ^ 64 / 2 ^ 59 ≡ (x * 2 - a) / 2 ^ slotSize depth
   slot-of x a at i =
       let q : ℕ = at .aligned .0 in
@@ -58,6 +60,7 @@ slot-small y = omega arith
 pub index-up : (y depth l : ℕ) → y / 2 ^ slotSize depth / 2 ^ (5 - l) ≡ y / 2 ^ sizeAt (slotSize depth) l
 index-up y depth l = shr-shr y (slotSize depth) (5 - l)
 
+-- It is one of the level's.
 pub index-small : (s l : ℕ) → s < 32 → l ≤ 5 → s / 2 ^ (5 - l) < 2 ^ l
 index-small s l lt le = let e : l + (5 - l) ≡ 5 = omega arith in shr-lt l (5 - l) (rw e lt)
 

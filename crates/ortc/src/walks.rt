@@ -153,7 +153,8 @@ pub fn rewrite(
     Walked { count: n, top: at }
 }
 
-// A slot of the second walk: its node, where it has records, or else a region where all addresses have one answer.
+// A slot of the second walk: its node, where it has records, or else a region where all addresses have one answer. It stands at a wide address
+// whose half is `key`: at twice that, where it has records.
 fn rewrite_child(
     table: &[u8],
     lo: u16,

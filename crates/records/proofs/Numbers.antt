@@ -1,6 +1,6 @@
 -- Octets and the number that they write, first octet first, over how many they are. Assumes nothing.
 use mathlib.Core.Path.{_≡_, refl, sym, ap, ap₂, _∙_}
-use mathlib.Core.Bool.{true, and-eq-true-iff}
+use mathlib.Core.Bool.{true, false, and-eq-true-iff}
 use mathlib.Core.List.{List, [], _∷_, _++_, append-assoc}
 use Prim.Native.Nat.{ℕ, zero, suc, _+_, _-_, _*_, _/_, _%_, _^_, _≤_, _<_}
 use native.Mathlib.Nat.{add-zero, zero-add, add-assoc, pow-suc}
@@ -9,7 +9,7 @@ use native.Mathlib.Omega.{arith}
 use lib.Dec.{eqb}
 use lib.ListN.{length, getD, take, drop, replicate, length-append, length-drop}
 use lib.Seq.{getD-at, getD-drop, take-suc, drop-cons}
-use borrow.Author.Tests.{eqb-true, eq-eqb}
+use borrow.Author.Tests.{eqb-true, eq-eqb, ne-eqb}
 use Rattle.records.specs.Wire.{join, Bytes}
 use Rattle.records.specs.Sized.{number, clear, octetsOf}
 
@@ -112,6 +112,26 @@ zero-clear t k (suc n) z =
     let more : clear t (suc k) n ≡ true =
     zero-clear t (suc k) n (λ j h. let same : suc k + j ≡ k + suc j = omega arith in ap (λ (m : ℕ). getD t m 0) same ∙ z (suc j) (omega arith)) in
     rw (eq-eqb (getD t k 0) 0 here, more)
+
+-- Byte by byte, from byte k up to the end: a byte that is zero is passed, one that is not decides, and none is left.
+module _ (t : List ℕ) (k end : ℕ) where
+  pub clear-pass : k < end → getD t k 0 ≡ 0 → clear t k (end - k) ≡ clear t (k + 1) (end - (k + 1))
+  unfolding clear
+  clear-pass lt z =
+      let e : end - k ≡ suc (end - (k + 1)) = omega arith in
+      rw (e, eq-eqb (getD t k 0) 0 z, add-one)
+
+  pub clear-stop : k < end → (getD t k 0 ≡ 0 → ⊥) → clear t k (end - k) ≡ false
+  unfolding clear
+  clear-stop lt n =
+      let e : end - k ≡ suc (end - (k + 1)) = omega arith in
+      rw (e, ne-eqb (getD t k 0) 0 n)
+
+  pub clear-end : end ≤ k → clear t k (end - k) ≡ true
+  unfolding clear
+  clear-end le =
+      let e : end - k ≡ 0 = omega arith in
+      rw e
 
 -- So many zeros, in a list.
 pub take-zeros : (t : List ℕ) (k n : ℕ) → k + n ≤ length t → ((j : ℕ) → j < n → getD t (k + j) 0 ≡ 0) → take n (drop k t) ≡ replicate n 0

@@ -71,6 +71,9 @@ module _ (size : ℕ) (is : IsSize size) where
       ap₂ (λ (l : List ℕ) (m : ℕ). getD l m 0) (front r t) e
       ∙ getD-append-add (octetsOf (octetsIn size) (r .addr)) (r .len ∷ r .hop ∷ (replicate (octetsIn size - 2) 0 ++ t)) k 0
 
+  pub in-hop-head : (r : Route) (t : List ℕ) → byteIn size (recordIn size r ++ t) 0 (octetsIn size + 1) ≡ r .hop
+  in-hop-head r t = behind r t 1
+
   -- The first record has the route as it is, and without host bits it is the route.
   pub in-raw-head : (r : Route) (t : List ℕ) → r .addr < 2 ^ widthIn size → rawIn size (recordIn size r ++ t) 0 ≡ r
   unfolding rawIn
@@ -80,8 +83,7 @@ module _ (size : ℕ) (is : IsSize size) where
       ap₂ (λ (l : List ℕ) (k : ℕ). number l k n) (front r t) (mul-zero size)
       ∙ number-octets n (r .addr) (r .len ∷ r .hop ∷ (replicate (n - 2) 0 ++ t)) (omega (arith, size-width size is)) in
       let len : byteIn size (recordIn size r ++ t) 0 n ≡ r .len = ap (byteIn size (recordIn size r ++ t) 0) (sym (add-zero n)) ∙ behind r t 0 in
-      let hop : byteIn size (recordIn size r ++ t) 0 (n + 1) ≡ r .hop = behind r t 1 in
-      simp (addr, len, hop)
+      simp (addr, len, in-hop-head r t)
 
   pub in-route-head : (r : Route) (t : List ℕ) → Valid (widthIn size) r → routeIn size (recordIn size r ++ t) 0 ≡ r
   unfolding routeIn

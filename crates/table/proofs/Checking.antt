@@ -19,7 +19,7 @@ use Rattle.table.proofs.Alone.{table-unique, table-gives, table-refuses
 use Rattle.table.proofs.Masking.{table-carried, masked-length, masked-rules}
 
 -- Answers that say the same are the same.
-checked-same : (a b : Checked) → checkedSays a ≡ checkedSays b → a ≡ b
+pub checked-same : (a b : Checked) → checkedSays a ≡ checkedSays b → a ≡ b
 checked-same (Valid m) (Valid n) e = cc
 checked-same (Valid m) (Refused n i) e = let z : _≡_ {A = ℕ} 0 1 = cc in absurd (omega arith)
 checked-same (Refused n i) (Valid m) e = let z : _≡_ {A = ℕ} 0 1 = cc in absurd (omega arith)

@@ -9,3 +9,10 @@ pub mod Tables
 pub mod Masking
 pub mod Alone
 pub mod Checking
+pub mod SizedJudging
+pub mod SizedTested
+pub mod SizedAccepted
+pub mod SizedTables
+pub mod SizedMasking
+pub mod SizedAlone
+pub mod SizedChecking

@@ -16,3 +16,4 @@ pub mod SizedTables
 pub mod SizedMasking
 pub mod SizedAlone
 pub mod SizedChecking
+pub mod AtSize8

@@ -1,11 +1,11 @@
--- `sized::clear_between` tests byte by byte. Assumes nothing.
+-- `rules::clear_between` tests byte by byte. Assumes nothing.
 use Prim.Native.Nat.{_-_, _≤_}
 use mathlib.Core.Path.{_≡_, refl, sym, _∙_}
 use native.Mathlib.Omega.{arith}
 use Rattle.records.specs.Sized.{clear}
 use Rattle.records.proofs.Numbers.{clear-pass, clear-stop, clear-end}
-use Rattle.table.proofs.sized.clear_between.Statement.{statement}
-use Rattle.table.proofs.sized.clear_between.Tie as tie
+use Rattle.table.proofs.rules.clear_between.Statement.{statement}
+use Rattle.table.proofs.rules.clear_between.Tie as tie
 
 abbrev Inv-loop : tie.InvT-loop
 Inv-loop table k end at₀ at = (at ≤ end) × (clear table k (end - k) ≡ clear table at (end - at))

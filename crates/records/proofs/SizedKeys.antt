@@ -2,14 +2,15 @@
 use mathlib.Core.Path.{_≡_, sym, ap, _∙_}
 use mathlib.Core.List.{List, [], _∷_, _++_}
 use mathlib.Core.Logic.{inl, inr}
-use Prim.Native.Nat.{ℕ, _+_, _-_, _*_, _/_, _%_, _^_, _≤_, _<_}
+use Prim.Native.Nat.{ℕ, _+_, _-_, _*_, _/_, _%_, _≤_}
+use native.Mathlib.Nat.{mul-one}
 use native.Mathlib.Omega.{arith}
 use lib.ListN.{length}
 use Rattle.theory.specs.Routes.{Route}
 use Rattle.words.specs.Keys.{keyOf}
-use Rattle.records.specs.Wire.{laid}
-use Rattle.records.specs.Sized.{IsSize, widthIn, number, rawIn, octetsOf, recordIn}
-use Rattle.records.proofs.Numbers.{number-eight}
+use Rattle.records.specs.Wire.{rawAt, routeAt, laid}
+use Rattle.records.specs.Sized.{IsSize, number, rawIn, routeIn, octetsOf, recordIn}
+use Rattle.records.proofs.SizedWire.{raw-at-8, route-at-8}
 use Rattle.records.proofs.Laid.{laid-then}
 
 -- A size that is not 8 is 16.
@@ -17,20 +18,16 @@ pub size-long : (size : ℕ) → IsSize size → (size ≡ 8 → ⊥) → size �
 size-long size (inl e) n = absurd (n e)
 size-long size (inr e) n = e
 
--- What the code makes of a record's first eight octets is the key of its address.
-pub key-octets : (size : ℕ) → IsSize size → (t : List ℕ) (i top low : ℕ) → top < 4294967296 → low < 4294967296
-    → top ≡ number t (size * i) 4 → low ≡ number t (size * i + 4) 4
-    → (top * 4294967296 + low) / 2 ^ (64 - 4 * size) * 2 ^ (64 - 4 * size) % 2 ^ 64 ≡ keyOf (widthIn size) (rawIn size t i .addr)
+-- In records of 8 bytes the key is the address with 32 zeros, in records of 16 the eight octets.
+pub raw-key-8 : (t : List ℕ) (i : ℕ) → rawAt t i .addr * 4294967296 ≡ keyOf 32 (rawIn 8 t i .addr)
+raw-key-8 t i = ap (λ (r : Route). r .addr * 4294967296) (sym (raw-at-8 t i))
+
+pub key-8 : (t : List ℕ) (i : ℕ) → routeAt t i .addr * 4294967296 ≡ keyOf 32 (routeIn 8 t i .addr)
+key-8 t i = ap (λ (r : Route). r .addr * 4294967296) (sym (route-at-8 t i))
+
+pub raw-key-16 : (t : List ℕ) (i : ℕ) → number t (16 * i) 8 ≡ keyOf 64 (rawIn 16 t i .addr)
 unfolding rawIn
-key-octets size (inl e) t i top low h l et el =
-    let z : 64 - 4 * size ≡ 32 = omega arith in
-    let f : top ≡ number t (8 * i) 4 = rw e at et in
-    rw (z, e) (omega arith)
-key-octets size (inr e) t i top low h l et el =
-    let z : 64 - 4 * size ≡ 0 = omega arith in
-    let f : top ≡ number t (16 * i) 4 = rw e at et in
-    let g : low ≡ number t (16 * i + 4) 4 = rw e at el in
-    rw (z, e) (omega (arith, number-eight t (16 * i)))
+raw-key-16 t i = sym (mul-one (number t (16 * i) 8))
 
 -- The bytes of a route's record of 16 bytes, one by one: the octets of the address, then the rest.
 abbrev pub firstEight : ℕ → List ℕ

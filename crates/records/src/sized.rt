@@ -1,6 +1,7 @@
 // Records of 8 and of 16 bytes, over their size: reading a record's fields, and writing a record whole. An address is held as a key, its first bit on top.
 
-use crate::join4;
+use crate::addr_at;
+use crate::raw_addr_at;
 use crate::write_record;
 use words::key::masked_key;
 ghost use mathlib.Core.Path.{_≡_};
@@ -8,27 +9,44 @@ ghost use Prim.Native.Nat.{_+_, _-_, _*_, _/_, _^_, _<_, _≤_};
 ghost use mathlib.Core.List.{[], _∷_};
 ghost use lib.ListN.{length};
 ghost use Rattle.words.specs.Keys.{keyOf};
-ghost use Rattle.records.specs.Wire.{route, laid};
+ghost use Rattle.records.specs.Wire.{join, route, laid};
 ghost use Rattle.records.specs.Sized.{IsSize, widthIn, number, recordsIn, rawIn, routeIn, recordIn};
 
-// The four octets from byte k on.
-pub fn quad_at(table: &[u8], k: usize) -> u32
-    requires { ⌜ k + 4 ≤ length (now table) ⌝ }
-    ensures { λ r. ⌜ r ≡ number (now (table .entry)) k 4 ⌝ }
+// Eight octets as a number, the first the most significant.
+fn join8(a: u8, b: u8, c: u8, d: u8, e: u8, f: u8, g: u8, h: u8) -> u64
+    ensures { λ r. ⌜ r ≡ join a b c d * 4294967296 + join e f g h ⌝ }
 {
-    join4(table[k], table[k + 1], table[k + 2], table[k + 3])
+    let top = (((a as u64) * 256 + (b as u64)) * 256 + (c as u64)) * 256 + (d as u64);
+    (((top * 256 + (e as u64)) * 256 + (f as u64)) * 256 + (g as u64)) * 256 + (h as u64)
 }
 
-// The key of record i as its bytes have it: the first eight octets of the record, without those that are not the address's.
+// The eight octets from byte k on.
+pub fn oct_at(table: &[u8], k: usize) -> u64
+    requires { ⌜ k + 8 ≤ length (now table) ⌝ }
+    ensures { λ r. ⌜ r ≡ number (now (table .entry)) k 8 ⌝ }
+{
+    join8(
+        table[k],
+        table[k + 1],
+        table[k + 2],
+        table[k + 3],
+        table[k + 4],
+        table[k + 5],
+        table[k + 6],
+        table[k + 7],
+    )
+}
+
+// The key of record i as its bytes have it.
 pub fn raw_key_at(table: &[u8], size: usize, i: usize) -> u64
     requires { ⌜ IsSize size × (i < recordsIn size (now table)) ⌝ }
     ensures { λ r. ⌜ r ≡ keyOf (widthIn size) (rawIn size (now (table .entry)) i .addr) ⌝ }
 {
-    let k = size * i;
-    let top = quad_at(table, k);
-    let low = quad_at(table, k + 4);
-    let spare = 64 - 4 * size;
-    (((top as u64) * 4294967296 + (low as u64)) >> spare) << spare
+    if size == 8 {
+        (raw_addr_at(table, i) as u64) * 4294967296
+    } else {
+        oct_at(table, 16 * i)
+    }
 }
 
 // The length of record i.
@@ -52,7 +70,11 @@ pub fn key_at(table: &[u8], size: usize, i: usize) -> u64
     requires { ⌜ IsSize size × (i < recordsIn size (now table)) ⌝ }
     ensures { λ r. ⌜ r ≡ keyOf (widthIn size) (routeIn size (now (table .entry)) i .addr) ⌝ }
 {
-    masked_key(raw_key_at(table, size, i), length_at(table, size, i))
+    if size == 8 {
+        (addr_at(table, i) as u64) * 4294967296
+    } else {
+        masked_key(oct_at(table, 16 * i), length_at(table, 16, i))
+    }
 }
 
 // Writes eight bytes from byte k on. The others stay.

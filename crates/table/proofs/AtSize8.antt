@@ -1,6 +1,6 @@
 -- At size 8 a table is judged as TableRules and Conditions say: each rule, fact and condition over the size is the one there. Assumes nothing.
 use mathlib.Core.Path.{_≡_, refl, sym, ap, ap₂, _∙_, subst}
-use mathlib.Core.Bool.{Bool, true, false, not, _||_, _&&_}
+use mathlib.Core.Bool.{Bool, true, false, _&&_}
 use mathlib.Core.List.{List, _∷_, _++_}
 use mathlib.Core.Logic.{_⊎_, inl, inr, _↔_}
 use Prim.Native.Nat.{ℕ, zero, suc, _+_, _-_, _*_, _%_, _^_, _≤_, _<_}
@@ -9,15 +9,14 @@ use native.Mathlib.Omega.{arith}
 use lib.Dec.{leb, eqb}
 use lib.ListN.{length, getD}
 use Rattle.theory.specs.Routes.{Route, Before}
-use Rattle.words.specs.Prefix.{hostClear}
 use Rattle.refusals.specs.Rules.{Rule, rule, judge}
-use Rattle.records.specs.Wire.{byteAt, rawAt, routeAt, records}
-use Rattle.records.specs.Sized.{IsSize, clear, rawIn, routeIn, RestZero}
+use Rattle.records.specs.Wire.{byteAt, routeAt, records}
+use Rattle.records.specs.Sized.{IsSize, clear, routeIn}
 use Rattle.records.specs.declared.Form.{Form}
 use Rattle.records.proofs.SizedWire.{raw-at-8, route-at-8}
-use Rattle.table.specs.TableRules.{topHop, hostKept, tailKept, before, inOrder, recordRules, rulesFrom, tableRules}
+use Rattle.table.specs.TableRules.{topHop, tailKept, before, inOrder, recordRules, rulesFrom, tableRules}
 use Rattle.table.specs.Conditions as old
-use Rattle.table.specs.SizedRules.{hostKeptIn, tailKeptIn, inOrderIn, recordRulesIn, rulesFromIn, tableRulesIn}
+use Rattle.table.specs.SizedRules.{tailKeptIn, inOrderIn, recordRulesIn, rulesFromIn, tableRulesIn}
 use Rattle.table.specs.SizedConditions as new
 
 -- 8 is a size.

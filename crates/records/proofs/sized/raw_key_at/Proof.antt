@@ -1,46 +1,15 @@
--- `records::sized::raw_key_at` shifts out what is not the address's of a record's first eight octets. Assumes nothing.
+-- `records::sized::raw_key_at` reads four octets or eight. Assumes nothing.
+use mathlib.Core.Path.{_≡_, ap, _∙_}
+use Prim.Native.Nat.{ℕ, _*_, _<_}
 use native.Mathlib.Omega.{arith}
 use borrow.Author.Needs.{needs}
-use Rattle.records.proofs.SizedReading.{size-some, record-fits}
-use Rattle.records.proofs.SizedKeys.{key-octets}
+use Rattle.records.specs.Sized.{recordsIn}
+use Rattle.records.proofs.SizedKeys.{size-long, raw-key-8, raw-key-16}
 use Rattle.records.proofs.sized.raw_key_at.Statement.{statement}
 use Rattle.records.proofs.sized.raw_key_at.Tie as tie
 
-mul-k : tie.Need-mul-k
-mul-k c =
-    let a = c .before .args in
-    let p = c .before .pre in
-    omega (arith, record-fits (a .size) (p .0) (a .table .now) (a .i) (p .1), size-some (a .size) (p .0))
-
-quad-at-requires : tie.Need-quad-at-requires
-quad-at-requires c κs =
-    let a = c .before .args in
-    let p = c .before .pre in
-    omega (arith, record-fits (a .size) (p .0) (a .table .now) (a .i) (p .1), size-some (a .size) (p .0))
-
-add-quad-at : tie.Need-add-quad-at
-add-quad-at c =
-    let a = c .before .before .args in
-    let p = c .before .before .pre in
-    omega (arith, record-fits (a .size) (p .0) (a .table .now) (a .i) (p .1), size-some (a .size) (p .0))
-
-quad-at-requires-2 : tie.Need-quad-at-requires-2
-quad-at-requires-2 c κs =
-    let a = c .before .before .args in
-    let p = c .before .before .pre in
-    omega (arith, record-fits (a .size) (p .0) (a .table .now) (a .i) (p .1), size-some (a .size) (p .0))
-
-mul-spare : tie.Need-mul-spare
-mul-spare c =
-    let a = c .before .before .before .args in
-    let p = c .before .before .before .pre in
-    omega (arith, record-fits (a .size) (p .0) (a .table .now) (a .i) (p .1), size-some (a .size) (p .0))
-
-sub-spare : tie.Need-sub-spare
-sub-spare c =
-    let a = c .before .before .before .args in
-    let p = c .before .before .before .pre in
-    omega (arith, record-fits (a .size) (p .0) (a .table .now) (a .i) (p .1), size-some (a .size) (p .0))
+raw-addr-at-requires : tie.Need-raw-addr-at-requires
+raw-addr-at-requires c κs = rw (c .if1 .taken) at (c .before .before .pre .1)
 
 cast-result : tie.Need-cast-result
 cast-result c = search needs
@@ -48,44 +17,37 @@ cast-result c = search needs
 mul-result : tie.Need-mul-result
 mul-result c = search needs
 
-cast-result-2 : tie.Need-cast-result-2
-cast-result-2 c = search needs
+-- In the other branch the record has 16 bytes, and lies in the table.
+long : (c : tie.Else1) → c .before .before .args .size ≡ 16
+long c = size-long (c .before .before .args .size) (c .before .before .pre .0) (c .if1 .left)
 
-add-result : tie.Need-add-result
-add-result c = search needs
+inside : (c : tie.Else1) → c .before .before .args .i < recordsIn 16 (c .before .before .args .table .now)
+inside c = rw (long c) at (c .before .before .pre .1)
 
-shr-result : tie.Need-shr-result
-shr-result c =
-    let a = c .before .before .before .args in
-    let p = c .before .before .before .pre in
-    omega (arith, record-fits (a .size) (p .0) (a .table .now) (a .i) (p .1), size-some (a .size) (p .0))
+mul-oct-at : tie.Need-mul-oct-at
+mul-oct-at c = omega (arith, inside c)
 
-shl-result : tie.Need-shl-result
-shl-result c =
-    let a = c .before .before .before .args in
-    let p = c .before .before .before .pre in
-    omega (arith, record-fits (a .size) (p .0) (a .table .now) (a .i) (p .1), size-some (a .size) (p .0))
+oct-at-requires : tie.Need-oct-at-requires
+oct-at-requires c κs = omega (arith, inside c)
 
 returns : tie.Need-returns
 returns c =
     let a = c .before .before .before .args in
-    let p = c .before .before .before .pre in
-    key-octets (a .size) (p .0) (a .table .now) (a .i) _ _ (omega arith) (omega arith) (c .before .quad-at .ensures) (c .quad-at2 .ensures)
+    rw (c .before .if1 .taken) (ap (λ (x : ℕ). x * 4294967296) (c .raw-addr-at .ensures) ∙ raw-key-8 (a .table .now) (a .i))
+
+returns-2 : tie.Need-returns-2
+returns-2 c =
+    let a = c .before .before .before .args in
+    rw (long (c .before)) (c .oct-at .ensures ∙ raw-key-16 (a .table .now) (a .i))
 
 pub raw-key-at-spec : {M : Type 1} → statement M
 raw-key-at-spec =
     tie.close
     (tie.spec
-    mul-k
-    quad-at-requires
-    add-quad-at
-    quad-at-requires-2
-    mul-spare
-    sub-spare
+    raw-addr-at-requires
     cast-result
     mul-result
-    cast-result-2
-    add-result
-    shr-result
-    shl-result
-    returns)
+    mul-oct-at
+    oct-at-requires
+    returns
+    returns-2)

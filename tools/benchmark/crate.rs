@@ -58,7 +58,7 @@ fn main() {
     #[cfg(counted)]
     counted::begin();
     for _ in 0..times {
-        count = oracle::rewrite_records(head[3], head[4], black_box(records), &mut output, stage);
+        count = oracle::rewrite_records(false, head[3], head[4], black_box(records), &mut output, stage);
         black_box(&output);
     }
     #[cfg(counted)]

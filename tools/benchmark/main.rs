@@ -370,7 +370,6 @@ impl Bench {
 }
 
 impl Bench {
-    /// What a rewrite takes on the board: instructions, and what they come to at 180 MHz, one a cycle.
     /// Calls on a live map beside a rewrite of the same records, in a room with one node to spare.
     fn live(&self, words: &[String], with_times: bool) {
         println!("\n| records | call |{}", if with_times { " µs | mode 4 of all, µs |" } else { " instr. | mode 4 of all, instr. |" });
@@ -395,6 +394,7 @@ impl Bench {
         }
     }
 
+    /// What a rewrite takes on the board: instructions, and what they come to at 180 MHz, one a cycle.
     fn on_board(&self, tables: &[Table]) {
         println!("\nCortex-M4, instructions of a rewrite, and milliseconds at 180 MHz if each took one cycle.\n");
         println!("| table | records | nodes | mode 1 | mode 3 | mode 4 | mode 5 | plain, mode 1 | mode 4 | mode 5 |");

@@ -5,8 +5,20 @@ use std::fmt::Write;
 use crate::live::{self, Said};
 use crate::plans::{self, Step};
 
-/// Address, length, hop.
-pub type Route = (u32, u8, u8);
+/// The address with its first bit on top, so that one of 32 bits is the upper half; the length; the hop.
+pub type Route = (u64, u8, u8);
+
+/// Address, length, hop at 32 bits alone.
+pub type Short = (u32, u8, u8);
+
+/// Routes of 32 bits, from one form to the other.
+pub fn shortened(routes: &[Route]) -> Vec<Short> {
+    routes.iter().map(|&(address, length, hop)| ((address >> 32) as u32, length, hop)).collect()
+}
+
+pub fn lengthened(routes: &[Short]) -> Vec<Route> {
+    routes.iter().map(|&(address, length, hop)| ((address as u64) << 32, length, hop)).collect()
+}
 
 pub const REWRITE: u8 = 0;
 pub const COVER: u8 = 1;
@@ -32,26 +44,41 @@ pub const STRICT: u8 = 128;
 /// Added to the call where ranks are lent.
 pub const RANKED: u8 = 64;
 
+/// Added to the call where addresses have 64 bits.
+pub const LONG: u8 = 32;
+
+/// The most steps of a plan that is checked.
+const MOST_STEPS: u32 = 32_768;
+
+/// The most words of a live map's room.
+const MOST_LIVE: u32 = 412_240;
+
 /// The most commands to a live map.
 const MOST_COMMANDS: u32 = 8_191;
 
-/// The most words of work room that a case asks for: 160 for each of 5,153 nodes.
-pub const MOST_WORK: u32 = 824_480;
+/// The most words of work room that a case asks for: 160 for each of 5,153 nodes, or of 11,297 at 64 bits.
+pub fn most_work(long: bool) -> u32 {
+    if long { 1_807_520 } else { 824_480 }
+}
 
 /// The most bytes of output that a list of what has no route asks for.
-pub const MOST_LIST: u32 = 262_144;
+pub fn most_list(long: bool) -> u32 {
+    if long { 1_048_576 } else { 262_144 }
+}
 
 #[derive(Clone)]
 pub struct Case {
     pub call: u8,
     pub strict: bool,
+    /// Records of 16 bytes, addresses of 64 bits.
+    pub long: bool,
     /// The ranks that are lent; an empty list is as none.
     pub ranks: Option<Vec<u8>>,
     pub mode: u8,
     pub default: u8,
     pub query_length: u8,
-    /// The query's address; the edition of the special-use ranges.
-    pub query: u32,
+    /// The query's address, its first bit on top; the edition of the special-use ranges in the upper half.
+    pub query: u64,
     /// Words of work room; bytes of output for a list of what has no route; 65,536 times the bytes of a plan's new table, and the steps; not read by
     /// the plain engine.
     pub work: u32,
@@ -64,12 +91,17 @@ pub struct Case {
 
 impl Case {
     pub fn write(&self, to: &mut Vec<u8>) {
-        let choices = if self.strict { STRICT } else { 0 } + if self.ranks.is_some() { RANKED } else { 0 };
+        let choices =
+            if self.strict { STRICT } else { 0 } + if self.ranks.is_some() { RANKED } else { 0 } + if self.long { LONG } else { 0 };
         to.extend([self.call + choices, self.mode, self.default, self.query_length]);
-        to.extend(self.query.to_be_bytes());
+        // The upper half alone where it is all; else these bytes are not read.
+        to.extend(((self.query >> 32) as u32 ^ if self.long { u32::MAX } else { 0 }).to_be_bytes());
         to.extend(self.work.to_be_bytes());
         to.extend(self.room.to_be_bytes());
         to.extend((self.table.len() as u16).to_be_bytes());
+        if self.long {
+            to.extend(self.query.to_be_bytes());
+        }
         if let Some(ranks) = &self.ranks {
             to.push(ranks.len() as u8);
             to.extend(ranks);
@@ -85,7 +117,13 @@ impl Case {
         }
         let (head, rest) = from.split_at(16);
         let word = |at: usize| u32::from_be_bytes([head[at], head[at + 1], head[at + 2], head[at + 3]]);
-        let call = head[0] % RANKED;
+        let call = head[0] % LONG;
+        let long = head[0] & LONG != 0;
+        let (query, rest) = match (long, rest) {
+            (false, _) => ((word(4) as u64) << 32, rest),
+            (true, _) if rest.len() < 8 => return Err("case cut short"),
+            (true, _) => (u64::from_be_bytes(rest[..8].try_into().unwrap()), &rest[8..]),
+        };
         let (ranks, rest) = match (head[0] & RANKED != 0, rest) {
             (false, _) => (None, rest),
             (true, [count, rest @ ..]) if rest.len() >= *count as usize => {
@@ -96,6 +134,9 @@ impl Case {
         };
         if call == LIVE && word(12) >> 16 > MOST_COMMANDS {
             return Err("too many commands");
+        }
+        if call == CHECK && word(8) & 0xFFFF > MOST_STEPS {
+            return Err("too many steps");
         }
         let length = if call == LIVE { 0 } else { (word(12) & 0xFFFF) as usize };
         let more = match call {
@@ -110,26 +151,46 @@ impl Case {
         let case = Case {
             call,
             strict: head[0] >= STRICT,
+            long,
             ranks,
             mode: head[1],
             default: head[2],
             query_length: head[3],
-            query: word(4),
+            query,
             work: word(8),
             room: (word(12) >> 16) as u16,
             table: rest[..length].to_vec(),
             more: rest[length..length + more].to_vec(),
         };
-        if case.call > LIVE {
+        if case.call > LIVE || long && ![REWRITE, COVER, LOOKUP, UNROUTED, PLAIN].contains(&case.call) {
             return Err("no such call");
         }
-        if case.call == UNROUTED && case.work > MOST_LIST {
+        if case.call == UNROUTED && case.work > most_list(long) {
             return Err("output too large");
         }
-        if (case.call < UNROUTED || case.call == LIVE) && case.work > MOST_WORK {
+        if case.call < UNROUTED && case.work > most_work(long) || case.call == LIVE && case.work > MOST_LIVE {
             return Err("work room too large");
         }
         Ok((case, &rest[length + more..]))
+    }
+
+    /// The bytes of a record, and the bits of an address.
+    pub fn size(&self) -> usize {
+        if self.long { 16 } else { 8 }
+    }
+
+    pub fn width(&self) -> u8 {
+        4 * self.size() as u8
+    }
+
+    /// The edition that a case of special use names.
+    pub fn edition(&self) -> u32 {
+        (self.query >> 32) as u32
+    }
+
+    /// An address as answers have it.
+    pub fn shown(&self, address: u64) -> String {
+        if self.long { format!("{address:016x}") } else { dotted((address >> 32) as u32) }
     }
 
     /// The case in words, its table a record a line.
@@ -139,16 +200,19 @@ impl Case {
             REWRITE => format!("rewrite, mode {}", self.mode),
             PLAIN if self.mode == 5 => format!("plain rewrite, mode 5, default {}", self.default),
             PLAIN => format!("plain rewrite, mode {}", self.mode),
-            COVER => format!("cover query of {}/{}", dotted(self.query), self.query_length),
-            LOOKUP => format!("lookup of {}", dotted(self.query)),
+            COVER => format!("cover query of {}/{}", self.shown(self.query), self.query_length),
+            LOOKUP => format!("lookup of {}", self.shown(self.query)),
             HELD => "addresses held".to_string(),
             CHIP => "chip image".to_string(),
-            SPECIAL => format!("special use by RFC {}", self.query),
+            SPECIAL => format!("special use by RFC {}", self.edition()),
             CHECK => "check of a plan".to_string(),
             PLAN => "plan".to_string(),
             LIVE => "live map".to_string(),
             _ => "list of what has no route".to_string(),
         };
+        if self.long {
+            text.push_str(", 64 bits");
+        }
         if self.strict {
             text.push_str(", strict");
         }
@@ -173,7 +237,7 @@ impl Case {
                 self.table.len()
             ),
         };
-        list_records(&mut text, &self.table);
+        list_records(&mut text, &self.table, self.long);
         if self.call == LIVE {
             for command in live::commands(self) {
                 let _ = writeln!(text, "  {}", live::in_words(command));
@@ -182,7 +246,7 @@ impl Case {
         if self.call == CHECK || self.call == PLAN {
             let (_, new, steps) = plans::parts(self);
             text.push_str("  new:\n");
-            list_records(&mut text, new);
+            list_records(&mut text, new, false);
             for [a, b, c, d, length, hop, put, _] in steps {
                 let _ = match put {
                     0 => writeln!(text, "  take {a}.{b}.{c}.{d}/{length}"),
@@ -195,10 +259,13 @@ impl Case {
 }
 
 /// The records of a table, a line each.
-fn list_records(text: &mut String, table: &[u8]) {
-    for record in table.chunks(8) {
+fn list_records(text: &mut String, table: &[u8], long: bool) {
+    for record in table.chunks(if long { 16 } else { 8 }) {
         let _ = match record {
-            [a, b, c, d, length, hop, 0, 0] => writeln!(text, "  {a}.{b}.{c}.{d}/{length} {hop}"),
+            [a, b, c, d, length, hop, 0, 0] if !long => writeln!(text, "  {a}.{b}.{c}.{d}/{length} {hop}"),
+            [a, b, c, d, e, f, g, h, length, hop, 0, 0, 0, 0, 0, 0] => {
+                writeln!(text, "  {:016x}/{length} {hop}", u64::from_be_bytes([*a, *b, *c, *d, *e, *f, *g, *h]))
+            }
             _ => writeln!(text, "  bytes {}", hex(record)),
         };
     }
@@ -226,7 +293,9 @@ pub enum Answer {
 }
 
 impl Answer {
-    pub fn text(&self, mode: u8) -> String {
+    pub fn text(&self, case: &Case) -> String {
+        let dotted = |address: u64| case.shown(address);
+        let mode = case.mode;
         let mut text = String::new();
         let _ = match self {
             Answer::Rewritten(routes, change) => {
@@ -277,8 +346,8 @@ impl Answer {
             Answer::Planned(Some(steps)) => {
                 for step in steps {
                     let _ = match *step {
-                        Step::Put((address, length, hop)) => writeln!(text, "put {}/{length} {hop}", dotted(address)),
-                        Step::Take(address, length) => writeln!(text, "take {}/{length}", dotted(address)),
+                        Step::Put((address, length, hop)) => writeln!(text, "put {}/{length} {hop}", self::dotted(address)),
+                        Step::Take(address, length) => writeln!(text, "take {}/{length}", self::dotted(address)),
                     };
                 }
                 writeln!(text, "steps {}", steps.len())
@@ -288,13 +357,30 @@ impl Answer {
     }
 }
 
-pub fn table_of(routes: &[Route]) -> Vec<u8> {
+pub fn table_of(routes: &[Route], long: bool) -> Vec<u8> {
+    let octets = if long { 8 } else { 4 };
     let mut table = Vec::new();
     for &(address, length, hop) in routes {
-        table.extend(address.to_be_bytes());
-        table.extend([length, hop, 0, 0]);
+        table.extend(&address.to_be_bytes()[..octets]);
+        table.extend([length, hop]);
+        table.extend(&[0; 6][..octets - 2]);
     }
     table
+}
+
+/// The address of a record's bytes as they stand.
+pub fn address_of(record: &[u8]) -> u64 {
+    let octets = record.len() / 2;
+    record[..octets].iter().fold(0, |number, &octet| number << 8 | octet as u64) << (64 - 8 * octets)
+}
+
+/// A record's length and hop.
+pub fn length_of(record: &[u8]) -> u8 {
+    record[record.len() / 2]
+}
+
+pub fn hop_of(record: &[u8]) -> u8 {
+    record[record.len() / 2 + 1]
 }
 
 pub fn dotted(address: u32) -> String {

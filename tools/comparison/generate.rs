@@ -4,7 +4,7 @@
 use std::collections::BTreeMap;
 
 use crate::case::{
-    table_of, Answer, Case, Route, CHECK, CHIP, COVER, HELD, LIVE, LOOKUP, MOST_LIST, MOST_WORK, PLAIN, PLAN, REWRITE, SPECIAL, UNROUTED,
+    address_of, length_of, most_list, most_work, table_of, Answer, Case, Route, CHECK, CHIP, COVER, HELD, LIVE, LOOKUP, PLAIN, PLAN, REWRITE, SPECIAL, UNROUTED,
 };
 use crate::model::{self, Fault};
 use crate::{live, plans};
@@ -59,13 +59,19 @@ impl Random {
         from[self.below(from.len())]
     }
 
-    pub fn address(&mut self) -> u32 {
+    /// An address of 64 bits.
+    pub fn address(&mut self) -> u64 {
+        self.next()
+    }
+
+    /// One of 32 bits.
+    pub fn short(&mut self) -> u32 {
         self.next() as u32
     }
 }
 
-fn mask(length: u32) -> u32 {
-    u32::MAX.checked_shl(32 - length).unwrap_or(0)
+fn mask(length: u32) -> u64 {
+    u64::MAX.checked_shl(64 - length).unwrap_or(0)
 }
 
 /// The modes that there are. Mode 2 is retired.
@@ -100,14 +106,32 @@ pub const SHAPES: [&str; 24] = [
 ];
 pub const LARGE: usize = 19;
 
+/// Shapes of 64 bits alone, after those.
+pub const LONG_SHAPES: [&str; 7] = [
+    "lengths 34 to 36",
+    "lengths 39 to 41",
+    "lengths 44 to 46",
+    "lengths 49 to 51",
+    "lengths 54 to 56",
+    "lengths 59 to 61",
+    "lengths 62 to 64",
+];
+
+/// The name of a shape.
+fn shape_name(shape: usize) -> &'static str {
+    SHAPES.get(shape).copied().unwrap_or_else(|| LONG_SHAPES[shape - SHAPES.len()])
+}
+
 struct Building<'a> {
     random: &'a mut Random,
+    /// The bits of an address.
+    width: usize,
     hops: Vec<u8>,
-    routes: BTreeMap<(u32, u8), u8>,
+    routes: BTreeMap<(u64, u8), u8>,
 }
 
 impl Building<'_> {
-    fn put(&mut self, address: u32, length: usize) {
+    fn put(&mut self, address: u64, length: usize) {
         let hop = self.random.pick(&self.hops);
         self.routes.insert((address & mask(length as u32), length as u8), hop);
     }
@@ -125,19 +149,19 @@ impl Building<'_> {
 
     /// Splits a prefix again and again until `parts` are left; each part has an entry with the given chance, and some of the
     /// prefixes that were split have one too.
-    fn split(&mut self, address: u32, length: usize, parts: usize, filled: usize, above: usize) {
+    fn split(&mut self, address: u64, length: usize, parts: usize, filled: usize, above: usize) {
         let mut open = vec![(address, length)];
         while open.len() < parts {
             let at = self.random.below(open.len());
             let (address, length) = open[at];
-            if length == 32 {
+            if length == self.width {
                 break;
             }
             if self.random.chance(above) {
                 self.put(address, length);
             }
             open[at] = (address, length + 1);
-            open.push((address | 1 << (31 - length), length + 1));
+            open.push((address | 1 << (63 - length), length + 1));
         }
         for (address, length) in open {
             if self.random.chance(filled) {
@@ -147,27 +171,28 @@ impl Building<'_> {
     }
 }
 
-/// The routes of a table of the given shape, with as many different hops.
-pub fn routes_of(random: &mut Random, shape: usize, hop_count: usize) -> Vec<Route> {
+/// The routes of a table of the given shape, with as many different hops, at 32 bits or at 64.
+pub fn routes_of(random: &mut Random, long: bool, shape: usize, hop_count: usize) -> Vec<Route> {
+    let width = if long { 64 } else { 32 };
     let mut hops: Vec<u8> = (0..64).collect();
     for i in 0..hop_count {
         let other = random.within(i, 63);
         hops.swap(i, other);
     }
     hops.truncate(hop_count);
-    let mut b = Building { random, hops, routes: BTreeMap::new() };
+    let mut b = Building { random, width, hops, routes: BTreeMap::new() };
     match shape {
         0 => {}
         1 => {
-            let (address, length) = (b.random.address(), b.random.within(0, 32));
+            let (address, length) = (b.random.address(), b.random.within(0, width));
             b.put(address, length);
         }
         2 => {
             let address = b.random.address();
-            (0..=32).for_each(|length| b.put(address, length));
+            (0..=width).for_each(|length| b.put(address, length));
         }
         3 => {
-            for length in 0..=32 {
+            for length in 0..=width {
                 let address = b.random.address();
                 b.put(address, length);
             }
@@ -181,12 +206,13 @@ pub fn routes_of(random: &mut Random, shape: usize, hop_count: usize) -> Vec<Rou
         10 => b.near(29, 32),
         11 => {
             let (base, size, filled) = (b.random.address(), b.random.within(1, 6), b.random.pick(&[50, 80, 95, 100]));
-            let base = base & mask(32 - size as u32);
-            for host in 0..1 << size {
-                for length in 30..=32 {
-                    let first = host & !mask(length as u32) == 0;
-                    if first && b.random.chance(if length == 32 { filled } else { filled / 3 }) {
-                        b.put(base | host, length);
+            let base = base & mask((width - size) as u32);
+            for host in 0..1u64 << size {
+                let address = base | host << (64 - width);
+                for length in width - 2..=width {
+                    let first = address & !mask(length as u32) & mask(width as u32) == 0;
+                    if first && b.random.chance(if length == width { filled } else { filled / 3 }) {
+                        b.put(address, length);
                     }
                 }
             }
@@ -194,12 +220,12 @@ pub fn routes_of(random: &mut Random, shape: usize, hop_count: usize) -> Vec<Rou
         12 | 13 => {
             let address = b.random.address();
             let taken = b.random.pick(&[20, 50, 90]);
-            for length in 0..=32 {
+            for length in 0..=width {
                 if b.random.chance(taken) {
                     b.put(address, length);
                 }
                 if shape == 13 && length > 0 && b.random.chance(taken) {
-                    b.put(address ^ 1 << (32 - length), length);
+                    b.put(address ^ 1 << (64 - length), length);
                 }
             }
         }
@@ -208,12 +234,12 @@ pub fn routes_of(random: &mut Random, shape: usize, hop_count: usize) -> Vec<Rou
             let common = b.random.pick(&[0, 0, 8, 16]);
             for _ in 0..b.random.within(2, 60) {
                 let address = base & mask(common as u32) | b.random.address() & !mask(common as u32);
-                let length = b.random.within(common, 32);
+                let length = b.random.within(common, width);
                 b.put(address, length);
             }
         }
         15 => {
-            let (address, length) = (b.random.address(), b.random.within(1, 30));
+            let (address, length) = (b.random.address(), b.random.within(1, width - 2));
             let (parts, filled, above) = (b.random.within(2, 60), b.random.pick(&[60, 90, 100]), b.random.pick(&[0, 10, 40]));
             b.split(address & mask(length as u32), length, parts, filled, above);
         }
@@ -230,34 +256,39 @@ pub fn routes_of(random: &mut Random, shape: usize, hop_count: usize) -> Vec<Rou
         }
         18 => {
             let bits = b.random.within(1, 6);
-            let length = b.random.within(0, 32 - bits);
+            let length = b.random.within(0, width - bits);
             let base = b.random.address() & mask(length as u32);
-            for part in 0..1u32 << bits {
-                let address = base | part << (32 - length - bits);
+            for part in 0..1u64 << bits {
+                let address = base | part << (64 - length - bits);
                 let hop = b.hops[part as usize % b.hops.len()];
                 b.routes.insert((address, (length + bits) as u8), hop);
             }
         }
         19 => {
             for part in 0..1024 {
-                let (tail, length) = (b.random.address() >> 10, b.random.within(30, 32));
-                b.put(part << 22 | tail, length);
+                let (tail, length) = (b.random.address() >> 10, b.random.within(if long { 60 } else { 30 }, width));
+                b.put(part << 54 | tail, length);
             }
         }
-        20 => (0..1024).for_each(|part| b.put(part << 22, 10)),
+        20 => (0..1024).for_each(|part| b.put(part << 54, 10)),
         21 => {
-            let base = b.random.address() & if b.random.chance(50) { mask(22) } else { mask(31) };
-            (0..1024).for_each(|host| b.put(base.wrapping_add(host), 32));
+            let bits = if b.random.chance(50) { 10 } else { 1 };
+            let base = b.random.address() & mask((width - bits) as u32);
+            (0..1024u64).for_each(|host| b.put(base.wrapping_add(host << (64 - width)), width));
         }
         22 => {
             while b.routes.len() < 1024 {
-                let (address, length) = (b.random.address(), b.random.within(6, 32));
+                let (address, length) = (b.random.address(), b.random.within(6, width));
                 b.put(address, length);
             }
         }
-        _ => {
+        23 => {
             let (parts, above) = (b.random.within(900, 1024), b.random.pick(&[0, 0, 5]));
             b.split(0, 0, parts, 100, above);
+        }
+        _ => {
+            let low = [34, 39, 44, 49, 54, 59, 62][shape - SHAPES.len()];
+            b.near(low, low + 2);
         }
     }
     b.routes.into_iter().map(|((address, length), hop)| (address, length, hop)).take(1024).collect()
@@ -273,28 +304,30 @@ fn is_set(call: u8, mode: u8) -> bool {
 
 /// A prefix to ask for: a record's, one near it, or any.
 fn ask(random: &mut Random, case: &mut Case, routes: &[Route]) {
-    case.query = random.address();
-    case.query_length = random.within(0, 32) as u8;
+    let (width, all) = (case.width() as i64, mask(case.width() as u32));
+    case.query = random.address() & all;
+    case.query_length = random.within(0, width as usize) as u8;
     if !routes.is_empty() && random.chance(85) {
         let (address, length, _) = random.pick(routes);
         let tail = !mask(length as u32);
-        case.query = match random.below(6) {
-            0 => address,
-            1 => address | tail,
-            2 => (address | tail).wrapping_add(1),
-            3 => address.wrapping_sub(1),
-            _ => address | random.address() & tail,
-        };
+        case.query = all
+            & match random.below(6) {
+                0 => address,
+                1 => address | tail,
+                2 => (address | tail).wrapping_add(1),
+                3 => address.wrapping_sub(1),
+                _ => address | random.address() & tail,
+            };
         let near = length as i64 + random.within(0, 6) as i64 - 4;
         if random.chance(80) {
-            case.query_length = near.clamp(0, 32) as u8;
+            case.query_length = near.clamp(0, width) as u8;
         }
     }
 }
 
 /// Puts records into a table that lie in, at, beside and above the special-use ranges of one of the editions, and names an edition.
 fn near_special(random: &mut Random, case: &mut Case, routes: &mut Vec<Route>) {
-    case.query = random.pick(&[5735, 6890]);
+    case.query = random.pick(&[5735, 6890]) << 32;
     let ranges = model::ranges(random.pick(&[5735, 6890]), Fault::None).unwrap_or_default();
     // Most tables keep few records, so that the first in a range is not always the first of all.
     if random.chance(60) {
@@ -358,14 +391,14 @@ fn lend_ranks(random: &mut Random, case: &mut Case) {
 }
 
 /// Sets host bits in some of the records, or in none or all.
-pub fn loosen(random: &mut Random, table: &mut [u8]) {
+pub fn loosen(random: &mut Random, table: &mut [u8], size: usize) {
     let loosened = random.pick(&[0, 10, 50, 100]);
-    for record in table.chunks_exact_mut(8) {
+    for record in table.chunks_exact_mut(size) {
         if random.chance(loosened) {
-            let any = random.address();
-            let tail = random.pick(&[1, any, u32::MAX]) & !mask((record[4] as u32).min(32));
-            let address = u32::from_be_bytes([record[0], record[1], record[2], record[3]]);
-            record[..4].copy_from_slice(&(address | tail).to_be_bytes());
+            let (any, last) = (random.address(), 1 << (64 - 4 * size));
+            let tail = random.pick(&[last, any, u64::MAX]) & !mask((length_of(record) as u32).min(4 * size as u32));
+            let address = (address_of(record) | tail).to_be_bytes();
+            record[..size / 2].copy_from_slice(&address[..size / 2]);
         }
     }
 }
@@ -395,9 +428,9 @@ fn make_room(random: &mut Random, case: &mut Case, rooms: usize) {
         return;
     }
     if case.call == UNROUTED {
-        case.work = MOST_LIST;
+        case.work = most_list(case.long);
         let Answer::Unrouted(list) = model::answer(case, Fault::None) else { unreachable!("every list fits") };
-        let room = 8 * list.len() as u32;
+        let room = (case.size() * list.len()) as u32;
         case.work = match rooms {
             0 => room,
             1 => room + random.within(1, 100) as u32,
@@ -407,15 +440,16 @@ fn make_room(random: &mut Random, case: &mut Case, rooms: usize) {
         return;
     }
     let work = 160 * model::nodes(&routes, Fault::None) as u32;
-    case.work = MOST_WORK;
+    let most = most_work(case.long);
+    case.work = most;
     case.room = u16::MAX;
     let room = match model::answer(case, Fault::None) {
-        Answer::Rewritten(out, _) => 8 * out.len() as u16,
+        Answer::Rewritten(out, _) => (case.size() * out.len()) as u16,
         _ => 0,
     };
     (case.work, case.room) = match rooms {
         0 => (work, room),
-        1 => ((work + random.within(1, 400) as u32).min(MOST_WORK), room + random.within(1, 100) as u16),
+        1 => ((work + random.within(1, 400) as u32).min(most), room + random.within(1, 100) as u16),
         2 => (work - 1, room),
         3 => (work, room.saturating_sub(1)),
         4 => (work - 1, room.saturating_sub(1)),
@@ -425,11 +459,11 @@ fn make_room(random: &mut Random, case: &mut Case, rooms: usize) {
 }
 
 pub fn blank(call: u8, mode: u8) -> Case {
-    Case { call, strict: false, ranks: None, mode, default: 0, query_length: 0, query: 0, work: 0, room: 0, table: Vec::new(), more: Vec::new() }
+    Case { call, strict: false, long: false, ranks: None, mode, default: 0, query_length: 0, query: 0, work: 0, room: 0, table: Vec::new(), more: Vec::new() }
 }
 
 /// A call on an accepted table. What `rooms` says of a room that the call is not lent is passed over.
-fn whole(random: &mut Random, call: u8, mode: u8, shape: usize, rooms: usize) -> Made {
+fn whole(random: &mut Random, call: u8, long: bool, mode: u8, shape: usize, rooms: usize) -> Made {
     let rooms = match (call, rooms) {
         (COVER, 3 | 6) => 0,
         (COVER, 4) => 2,
@@ -438,8 +472,9 @@ fn whole(random: &mut Random, call: u8, mode: u8, shape: usize, rooms: usize) ->
         _ => rooms,
     };
     let hop_count = if shape == 18 && random.chance(50) { 64 } else { random.pick(&[1, 2, 2, 3, 4, 5, 8, 16, 63, 64]) };
-    let mut routes = routes_of(random, shape, hop_count);
+    let mut routes = routes_of(random, long, shape, hop_count);
     let mut case = blank(call, mode);
+    case.long = long;
     // What a call does not read is no less arbitrary.
     case.default = if call == REWRITE && mode == 5 { random.below(64) as u8 } else { random.pick(&[0, 63, 64, 255]) };
     if call == REWRITE && mode == 5 && !routes.is_empty() && random.chance(50) {
@@ -452,15 +487,16 @@ fn whole(random: &mut Random, call: u8, mode: u8, shape: usize, rooms: usize) ->
     if call == SPECIAL {
         near_special(random, &mut case, &mut routes);
     }
-    case.table = table_of(&routes);
+    case.table = table_of(&routes, long);
     case.strict = random.chance(25);
     if !case.strict {
-        loosen(random, &mut case.table);
+        let size = case.size();
+        loosen(random, &mut case.table, size);
     }
     lend_ranks(random, &mut case);
     make_room(random, &mut case, rooms);
     let rooms = if call == LOOKUP || call == HELD || call == SPECIAL { "none lent" } else { ROOMS[rooms] };
-    Made { case, shape: SHAPES[shape], rooms, damage: None }
+    Made { case, shape: shape_name(shape), rooms, damage: None }
 }
 
 /// The numbers that a call can give.
@@ -503,25 +539,25 @@ pub fn pairs(call: u8) -> Vec<(u8, u8, Order)> {
 
 /// Damages record `at` so that it deserves `number`. Order (8) comes first where it is wanted, as it moves records. A record that stands there
 /// twice may have other host bits, where they are masked.
-pub fn spoil(random: &mut Random, table: &mut [u8], at: usize, number: u8, is_set: bool, strict: bool) {
-    let (from, to) = (8 * at, 8 * at + 8);
+pub fn spoil(random: &mut Random, table: &mut [u8], size: usize, at: usize, number: u8, is_set: bool, strict: bool) {
+    let (from, to, octets) = (size * at, size * at + size, size / 2);
     match number {
+        5 if size == 16 => table[from + 8] = random.pick(&[65, 65, 66, 128, 255]),
         5 => table[from + 4] = random.pick(&[33, 33, 34, 64, 128, 255]),
-        6 => table[from + 3] |= 1,
+        6 => table[from + octets - 1] |= 1,
         7 => match random.below(3) {
-            0 => table[from + 5] = if is_set { random.pick(&[1, 63, 64, 255]) } else { random.pick(&[64, 64, 65, 128, 255]) },
-            1 => table[from + 6] = random.pick(&[1, 128, 255]),
-            _ => table[from + 7] = random.pick(&[1, 128, 255]),
+            0 => table[from + octets + 1] = if is_set { random.pick(&[1, 63, 64, 255]) } else { random.pick(&[64, 64, 65, 128, 255]) },
+            _ => table[random.within(from + octets + 2, to - 1)] = random.pick(&[1, 128, 255]),
         },
         _ if random.chance(50) => {
-            table.copy_within(from - 8..from, from);
+            table.copy_within(from - size..from, from);
             if !strict {
-                loosen(random, &mut table[from..to]);
+                loosen(random, &mut table[from..to], size);
             }
         }
         _ => {
             for byte in from..to {
-                table.swap(byte - 8, byte);
+                table.swap(byte - size, byte);
             }
         }
     }
@@ -537,7 +573,7 @@ enum Size {
 }
 
 /// A call with one fault, or with two of them (`second` not 0).
-fn damaged(random: &mut Random, call: u8, first: u8, second: u8, order: Order, size: Size) -> Made {
+fn damaged(random: &mut Random, call: u8, long: bool, first: u8, second: u8, order: Order, size: Size) -> Made {
     let has = |number: u8| first == number || second == number;
     let mode = match call {
         REWRITE if has(1) => random.pick(&[0, 6, 255]),
@@ -549,28 +585,30 @@ fn damaged(random: &mut Random, call: u8, first: u8, second: u8, order: Order, s
     };
     let set = is_set(call, mode) || call == REWRITE && (has(1) || has(16));
     let mut case = blank(call, mode);
+    case.long = long;
+    let (bytes, width) = (case.size(), case.width() as usize);
     case.default = if has(2) { random.pick(&[64, 64, 65, 255]) } else { random.pick(&[0, 62, 63]) };
     // Lengths of 13 to 30 leave a host bit to set, and no record lies in another: every mode has a result.
     let count = match size {
         Size::Few => random.within(8, 14),
         Size::Full => 1024,
         Size::Over => random.pick(&[1025, 1025, 1026, 1100]),
-        Size::Longest => 8191,
+        Size::Longest => 65_535 / bytes,
     };
     let bits = if count > 14 { 13 } else { 4 };
-    let mut routes: Vec<Route> = (0..count as u32)
+    let mut routes: Vec<Route> = (0..count as u64)
         .map(|i| {
-            let length = random.within(13, 30) as u32;
-            ((i << (32 - bits) | random.address() >> bits) & mask(length), length as u8, random.below(64) as u8)
+            let length = random.within(13, width - 2) as u32;
+            ((i << (64 - bits) | random.address() >> bits) & mask(length), length as u8, random.below(64) as u8)
         })
         .collect();
     if set {
         routes = without_hops(routes);
     }
-    case.table = table_of(&routes);
+    case.table = table_of(&routes, long);
     case.strict = has(6) || random.chance(25);
     if !case.strict {
-        loosen(random, &mut case.table);
+        loosen(random, &mut case.table, bytes);
     }
     if has(15) {
         case.ranks = Some(unlawful(random));
@@ -579,16 +617,18 @@ fn damaged(random: &mut Random, call: u8, first: u8, second: u8, order: Order, s
     }
     ask(random, &mut case, &routes);
     if call == SPECIAL {
-        case.query = if has(14) { random.pick(&[0, 1, 5734, 5736, 6889, 6891, u32::MAX]) } else { random.pick(&[5735, 6890]) };
+        let edition: u32 = if has(14) { random.pick(&[0, 1, 5734, 5736, 6889, 6891, u32::MAX]) } else { random.pick(&[5735, 6890]) };
+        case.query = (edition as u64) << 32;
     }
-    case.query_length = if has(9) { random.pick(&[33, 33, 34, 64, 255]) } else { random.pick(&[0, 8, 31, 32]) };
+    let width = width as u8;
+    case.query_length = if has(9) { random.pick(&[width + 1, width + 1, width + 2, 128, 255]) } else { random.pick(&[0, 8, width - 1, width]) };
     if call == CHIP {
         make_room(random, &mut case, 0);
         case.room = if has(12) { random.pick(&[0, 8_191, 8_193, 65_535]) } else { 8_192 };
     } else if call == UNROUTED {
-        case.work = MOST_LIST;
+        case.work = most_list(long);
         if has(4) {
-            case.work = if has(11) { 0 } else { MOST_LIST };
+            case.work = if has(11) { 0 } else { most_list(long) };
         } else {
             make_room(random, &mut case, 0);
             if has(11) {
@@ -598,7 +638,7 @@ fn damaged(random: &mut Random, call: u8, first: u8, second: u8, order: Order, s
     } else if has(1) || has(16) || has(2) || has(15) || has(4) || has(9) {
         // The need of work room or output is not defined here, or does not matter: none, or plenty.
         case.work = if has(10) { 0 } else { 16_384 };
-        case.room = if has(11) { 0 } else { 8 * (count as u16 + 1) };
+        case.room = if has(11) { 0 } else { (bytes * (count + 1)).min(65_535) as u16 };
     } else {
         make_room(random, &mut case, 0);
         if has(10) {
@@ -622,11 +662,11 @@ fn damaged(random: &mut Random, call: u8, first: u8, second: u8, order: Order, s
     faults.sort_by_key(|&(number, _)| number != 8);
     for (number, at) in faults {
         if (5..=8).contains(&number) {
-            spoil(random, &mut case.table, at, number, set, case.strict);
+            spoil(random, &mut case.table, bytes, at, number, set, case.strict);
         }
     }
     if has(3) {
-        for _ in 0..random.within(1, 7) {
+        for _ in 0..random.within(1, (bytes - 1).min(65_535 - case.table.len())) {
             case.table.push(random.pick(&[0, 0, 1, 255]));
         }
     }
@@ -639,7 +679,7 @@ fn damaged(random: &mut Random, call: u8, first: u8, second: u8, order: Order, s
         Size::Few => "damaged",
         Size::Full => "damaged, 1,024 records",
         Size::Over => "damaged, over 1,024 records",
-        Size::Longest => "damaged, 8,191 records",
+        Size::Longest => "damaged, as long as a case can be",
     };
     Made { case, shape, rooms: "as the damage asks", damage: Some(Damage { first, second, expect }) }
 }
@@ -665,6 +705,7 @@ pub fn seeded(seed: u64, index: u64) -> Made {
     if call == CHECK || call == PLAN {
         return plans::seeded(random, call);
     }
+    let long = [REWRITE, COVER, LOOKUP, UNROUTED].contains(&call) && random.chance(40);
     if random.chance(20) {
         // Damage by number 4 needs a long table, and comes less often.
         let pairs = pairs(call);
@@ -680,13 +721,17 @@ pub fn seeded(seed: u64, index: u64) -> Made {
                 (false, 0) => Size::Full,
                 _ => Size::Few,
             };
-            return damaged(random, call, first, second, order, size);
+            return damaged(random, call, long, first, second, order, size);
         }
     }
     let mode = if call == REWRITE { random.pick(&MODES) } else { random.pick(&[0, 1, 2, 6, 255]) };
-    let shape = if random.chance(2) { random.within(LARGE, SHAPES.len() - 1) } else { random.below(LARGE) };
+    let shape = match (random.below(100), long) {
+        (0..=1, _) => random.within(LARGE, SHAPES.len() - 1),
+        (2..=30, true) => SHAPES.len() + random.below(LONG_SHAPES.len()),
+        _ => random.below(LARGE),
+    };
     let rooms = if random.chance(70) { random.below(2) } else { random.within(2, ROOMS.len() - 1) };
-    whole(random, call, mode, shape, rooms)
+    whole(random, call, long, mode, shape, rooms)
 }
 
 /// The same rewrite by the plain engine. The bytes of its case that say how much work room is lent speak of none or of too much: they are not to
@@ -708,7 +753,7 @@ fn prefix(text: &str) -> Route {
     let (prefix, hop) = text.split_once('>').unwrap_or((text, "0"));
     let (address, length) = prefix.split_once('/').unwrap();
     let octets: Vec<u8> = address.split('.').map(|octet| octet.parse().unwrap()).collect();
-    (u32::from_be_bytes([octets[0], octets[1], octets[2], octets[3]]), length.parse().unwrap(), hop.parse().unwrap())
+    ((u32::from_be_bytes([octets[0], octets[1], octets[2], octets[3]]) as u64) << 32, length.parse().unwrap(), hop.parse().unwrap())
 }
 
 fn prefixes(text: &str) -> Vec<Route> {
@@ -738,7 +783,7 @@ pub fn worked(at: usize) -> (Case, Vec<Route>, i64) {
     let (_, mode, default, input, result, change) = WORKED[at];
     let mut case = blank(REWRITE, mode);
     (case.default, case.work, case.room) = (default, 16_384, 8_200);
-    case.table = table_of(&prefixes(input));
+    case.table = table_of(&prefixes(input), false);
     (case, prefixes(result), change)
 }
 
@@ -749,7 +794,7 @@ pub fn fixed() -> Vec<Made> {
     let mut list: Vec<Made> =
         (0..WORKED.len()).map(|at| Made { case: worked(at).0, shape: "worked", rooms: "of the programs", damage: None }).collect();
     let small = |random: &mut Random, call, mode, shape, rooms| loop {
-        let made = whole(random, call, mode, shape, rooms);
+        let made = whole(random, call, false, mode, shape, rooms);
         if made.case.table.len() <= 320 || shape >= LARGE {
             return made;
         }
@@ -772,12 +817,12 @@ pub fn fixed() -> Vec<Made> {
     }
     // 1,024 records, none near another, with the most nodes: fill writes 1,025 records. Exactly the rooms for that, then one byte less,
     // then one word less.
-    let routes: Vec<Route> = (0..1024u32).map(|part| (part << 22, 32, 1 + (part % 63) as u8)).collect();
+    let routes: Vec<Route> = (0..1024u64).map(|part| (part << 54, 32, 1 + (part % 63) as u8)).collect();
     for (rooms, work, room) in
-        [("exact", MOST_WORK, 8_200), ("one byte short", MOST_WORK, 8_199), ("one word short", MOST_WORK - 1, 8_200)]
+        [("exact", most_work(false), 8_200), ("one byte short", most_work(false), 8_199), ("one word short", most_work(false) - 1, 8_200)]
     {
         let mut case = blank(REWRITE, 5);
-        (case.work, case.room, case.table) = (work, room, table_of(&routes));
+        (case.work, case.room, case.table) = (work, room, table_of(&routes, false));
         list.push(Made { case, shape: "1,024: most nodes", rooms, damage: None });
     }
     // Work rooms that document 01 names: 160 words for no record or a /4, 320 for a /5, 1,120 for a /32.
@@ -786,7 +831,7 @@ pub fn fixed() -> Vec<Made> {
             for short in [0, 1] {
                 let mut case = blank(call, mode);
                 let routes: Vec<Route> = length.map(|length| (0, length, 0)).into_iter().collect();
-                (case.work, case.room, case.table) = (words - short, 8, table_of(&routes));
+                (case.work, case.room, case.table) = (words - short, 8, table_of(&routes, false));
                 list.push(Made {
                     case,
                     shape: "named in document 01",
@@ -799,21 +844,21 @@ pub fn fixed() -> Vec<Made> {
     let size = |first, second| if first == 4 || second == 4 { Size::Over } else { Size::Few };
     for call in [REWRITE, COVER, LOOKUP, HELD] {
         for &number in numbers(call) {
-            list.push(damaged(random, call, number, 0, Order::Same, size(number, 0)));
+            list.push(damaged(random, call, false, number, 0, Order::Same, size(number, 0)));
         }
         for (first, second, order) in pairs(call) {
             // The long tables of number 4 are kept to the calls that differ.
             if (first == 4 || second == 4) && (call == HELD || second == 6 || second == 7) {
                 continue;
             }
-            list.push(damaged(random, call, first, second, order, size(first, second)));
+            list.push(damaged(random, call, false, first, second, order, size(first, second)));
         }
     }
-    list.push(damaged(random, REWRITE, 6, 8, Order::FirstLater, Size::Full));
-    list.push(damaged(random, LOOKUP, 8, 0, Order::Same, Size::Full));
+    list.push(damaged(random, REWRITE, false, 6, 8, Order::FirstLater, Size::Full));
+    list.push(damaged(random, LOOKUP, false, 8, 0, Order::Same, Size::Full));
     // The edges of modes, defaults and query lengths.
-    let table = table_of(&[prefix("10.0.0.0/8>63"), prefix("10.0.0.0/9>0")]);
-    let set = table_of(&[prefix("0.0.0.0/1"), prefix("128.0.0.0/1")]);
+    let table = table_of(&[prefix("10.0.0.0/8>63"), prefix("10.0.0.0/9>0")], false);
+    let set = table_of(&[prefix("0.0.0.0/1"), prefix("128.0.0.0/1")], false);
     for mode in [0, 2, 6, 255] {
         list.push(edge(REWRITE, mode, 0, 0, &table));
     }
@@ -821,7 +866,7 @@ pub fn fixed() -> Vec<Made> {
         list.push(edge(REWRITE, mode, default, 0, &table));
     }
     // Ranks: each order of three hops, the first and the last alone moved, lists that are none; a list in every mode and in every other call.
-    let side_by_side = table_of(&prefixes("10.0.0.0/10>0 10.64.0.0/10>1 10.128.0.0/9>2 11.0.0.0/9>62 11.128.0.0/9>63"));
+    let side_by_side = table_of(&prefixes("10.0.0.0/10>0 10.64.0.0/10>1 10.128.0.0/9>2 11.0.0.0/9>62 11.128.0.0/9>63"), false);
     let turned = |by: u8| (0..64).map(|hop| (hop + by) % 64).collect::<Vec<u8>>();
     let lists = [Vec::new(), turned(0), turned(1), turned(2), turned(62), turned(63), (0..64).rev().collect(), vec![0; 64], turned(0)[..63].to_vec()];
     for ranks in lists.into_iter().chain([[&turned(0)[..], &[64]].concat(), [&turned(0)[..63], &[64]].concat(), vec![0; 255]]) {
@@ -841,7 +886,7 @@ pub fn fixed() -> Vec<Made> {
     }
     // Addresses held: document 02's nested routes; all addresses by one record, and by two with one inside; the last address.
     for text in ["10.0.0.0/8>1 10.1.0.0/16>2", "0.0.0.0/0>1", "0.0.0.0/1>1 128.0.0.0/1>1 128.0.0.0/9>2", "255.255.255.255/32>1"] {
-        list.push(edge(HELD, 0, 0, 0, &table_of(&prefixes(text))));
+        list.push(edge(HELD, 0, 0, 0, &table_of(&prefixes(text), false)));
     }
     // The list of what has no route: every shape, with just enough output and one byte less; of the large ones those whose list is short, and a
     // list of 22,528 prefixes that does not fit.
@@ -854,11 +899,11 @@ pub fn fixed() -> Vec<Made> {
         list.push(small(random, UNROUTED, 0, shape, rooms));
     }
     for &number in numbers(UNROUTED) {
-        list.push(damaged(random, UNROUTED, number, 0, Order::Same, size(number, 0)));
+        list.push(damaged(random, UNROUTED, false, number, 0, Order::Same, size(number, 0)));
     }
     for (first, second, order) in pairs(UNROUTED) {
         if second == 11 && first != 4 {
-            list.push(damaged(random, UNROUTED, first, second, order, Size::Few));
+            list.push(damaged(random, UNROUTED, false, first, second, order, Size::Few));
         }
     }
     // The chip's image: every shape, the full tables, image rooms of other sizes, the refusals and their pairs with 12.
@@ -869,11 +914,11 @@ pub fn fixed() -> Vec<Made> {
         list.push(small(random, CHIP, 0, 14, rooms));
     }
     for &number in numbers(CHIP) {
-        list.push(damaged(random, CHIP, number, 0, Order::Same, size(number, 0)));
+        list.push(damaged(random, CHIP, false, number, 0, Order::Same, size(number, 0)));
     }
     for (first, second, order) in pairs(CHIP) {
         if second == 12 && first != 4 {
-            list.push(damaged(random, CHIP, first, second, order, Size::Few));
+            list.push(damaged(random, CHIP, false, first, second, order, Size::Few));
         }
     }
     // Special use: both editions on every shape, at every range of both, one bit wider and one bit longer; the refusals.
@@ -885,18 +930,18 @@ pub fn fixed() -> Vec<Made> {
         for (address, length, _) in first.into_iter().chain([prefix("100.64.0.0/10"), prefix("192.0.0.0/29"), prefix("224.0.0.0/4")]) {
             for other in [length, length - 1, (length + 1).min(32)] {
                 let routes = [(address & mask(other as u32), other, 5)];
-                let mut made = edge(SPECIAL, 0, 0, 0, &table_of(&routes));
-                made.case.query = edition;
+                let mut made = edge(SPECIAL, 0, 0, 0, &table_of(&routes, false));
+                made.case.query = (edition as u64) << 32;
                 list.push(made);
             }
         }
     }
     for &number in numbers(SPECIAL) {
-        list.push(damaged(random, SPECIAL, number, 0, Order::Same, size(number, 0)));
+        list.push(damaged(random, SPECIAL, false, number, 0, Order::Same, size(number, 0)));
     }
     for (first, second, order) in pairs(SPECIAL) {
         if first == 14 && second != 4 {
-            list.push(damaged(random, SPECIAL, first, second, order, Size::Few));
+            list.push(damaged(random, SPECIAL, false, first, second, order, Size::Few));
         }
     }
     // Host bits, masked and refused: the octets of 10.0.0.0/8 in the wrong order; two records that mask to one prefix; records in order only once they
@@ -906,11 +951,11 @@ pub fn fixed() -> Vec<Made> {
         for call in [REWRITE, COVER, LOOKUP, HELD, UNROUTED, CHIP, SPECIAL] {
             for strict in [false, true] {
                 let hops = if call == COVER { without_hops(prefixes(text)) } else { prefixes(text) };
-                let mut made = edge(call, 4, 0, 8, &table_of(&hops));
+                let mut made = edge(call, 4, 0, 8, &table_of(&hops, false));
                 made.case.strict = strict;
                 match call {
                     CHIP => made.case.room = 8_192,
-                    SPECIAL => made.case.query = 6890,
+                    SPECIAL => made.case.query = 6890 << 32,
                     _ => {}
                 }
                 list.push(made);
@@ -929,7 +974,7 @@ pub fn fixed() -> Vec<Made> {
 
 fn edge(call: u8, mode: u8, default: u8, query_length: u8, table: &[u8]) -> Made {
     let mut case = blank(call, mode);
-    (case.default, case.query_length, case.query) = (default, query_length, 0x0A01_0203);
+    (case.default, case.query_length, case.query) = (default, query_length, 0x0A01_0203 << 32);
     (case.work, case.room, case.table) = (16_384, 8_200, table.to_vec());
     Made { case, shape: "edge of a number", rooms: "of the programs", damage: None }
 }

@@ -3,7 +3,7 @@
 
 use std::collections::BTreeMap;
 
-use crate::case::{dotted, Answer, Case, Route, LIVE};
+use crate::case::{dotted, lengthened, shortened, Answer, Case, Short as Route, LIVE};
 use crate::generate::{self, Made, Random};
 use crate::model::{self, Fault};
 
@@ -36,6 +36,10 @@ pub enum Said {
     NoCommand,
 }
 
+fn nodes(routes: &[Route], fault: Fault) -> usize {
+    model::nodes(&lengthened(routes), fault)
+}
+
 fn mask(length: u8) -> u32 {
     u32::MAX.checked_shl(32 - length as u32).unwrap_or(0)
 }
@@ -57,7 +61,7 @@ fn shown(room: &[u32], fault: Fault) -> Option<Vec<Route>> {
         }
         routes.push(route);
     }
-    (model::nodes(&routes, Fault::None) <= room.len() / 160).then_some(routes)
+    (nodes(&routes, Fault::None) <= room.len() / 160).then_some(routes)
 }
 
 /// Lays the records from the room's start; what lies behind them stays.
@@ -139,9 +143,9 @@ fn told(room: &mut [u32], command: &Command, most: &mut usize, fault: Fault) -> 
         after.remove(&prefix);
     }
     let counted = match fault {
-        Fault::NodesBeforePut => model::nodes(&routes, fault),
-        Fault::NodesNeverGivenUp => model::nodes(&routes_of(&after), fault).max(*most),
-        _ => model::nodes(&routes_of(&after), Fault::None),
+        Fault::NodesBeforePut => nodes(&routes, fault),
+        Fault::NodesNeverGivenUp => nodes(&routes_of(&after), fault).max(*most),
+        _ => nodes(&routes_of(&after), Fault::None),
     };
     if fault == Fault::NodesNeverGivenUp {
         *most = counted;
@@ -192,8 +196,9 @@ pub fn by_crate(case: &Case) -> Answer {
     let mut answers = Vec::new();
     for command in commands(case) {
         let (what, strict, hop, length, address) = parts(command);
+        let key = (address as u64) << 32;
         if flipped {
-            map = shown(&room, Fault::None).map(|routes| oracle::Map::of(&routes));
+            map = shown(&room, Fault::None).map(|routes| oracle::Map::of(&lengthened(&routes)));
             flipped = false;
         }
         let by_model = told(&mut room, command, &mut 0, Fault::None);
@@ -206,18 +211,18 @@ pub fn by_crate(case: &Case) -> Answer {
                 flipped = true;
                 by_model
             }
-            (LOOK, Some(map)) => Said::Match(map.lookup(address)),
+            (LOOK, Some(map)) => Said::Match(map.lookup(key)),
             (PUT | TAKE, Some(_)) if bad_prefix(strict, length, address, Fault::None).is_some() => by_model,
-            (TAKE, Some(map)) => if map.remove(address, length) { Said::Done } else { Said::Absent },
+            (TAKE, Some(map)) => if map.remove(key, length) { Said::Done } else { Said::Absent },
             (PUT, Some(_)) if hop > 63 => by_model,
             (PUT, Some(map)) => {
-                let before = map.insert(address, length, hop as u8);
+                let before = map.insert(key, length, hop as u8);
                 let number = if map.len() > 1024 { 17 } else if map.nodes() > fit { 10 } else { 0 };
                 if number == 0 {
                     Said::Done
                 } else {
                     assert!(before.is_none(), "a replaced record needs no room");
-                    map.remove(address, length);
+                    map.remove(key, length);
                     Said::Refused(number)
                 }
             }
@@ -245,8 +250,8 @@ pub fn seeded(random: &mut Random) -> Made {
         return full(random.below(3));
     }
     let shape = random.below(generate::LARGE);
-    let pool = generate::routes_of(random, shape, 8);
-    let needed = 160 * model::nodes(&pool, Fault::None) as u32;
+    let pool = shortened(&generate::routes_of(random, false, shape, 8));
+    let needed = 160 * nodes(&pool, Fault::None) as u32;
     let (rooms, words) = match random.below(8) {
         0 => ("under 160 words", random.pick(&[0, 1, 2, 159])),
         1 => ("one node", random.pick(&[160, 161, 319])),
@@ -269,17 +274,17 @@ pub fn seeded(random: &mut Random) -> Made {
             _ => PUT,
         };
         let (address, length, hop) = if pool.is_empty() || random.chance(10) {
-            (random.address(), random.below(33) as u8, random.below(64) as u8)
+            (random.short(), random.below(33) as u8, random.below(64) as u8)
         } else {
             random.pick(&pool)
         };
         let strict = if random.chance(25) { STRICT } else { 0 };
-        let tail = if random.chance(30) { random.address() & !mask(length) } else { 0 };
+        let tail = if random.chance(30) { random.short() & !mask(length) } else { 0 };
         let hop = if random.chance(3) { random.pick(&[64, 65, 255, 256, 65_535]) } else if random.chance(20) { random.below(64) as u16 } else { hop as u16 };
         let bad_length = if random.chance(3) { Some(random.pick(&[33, 34, 64, 128, 255])) } else { None };
         commands.push(match what {
             FLIP => command(FLIP + strict, 0, random.below(256) as u8, random.pick(&[0, 1, 1, 2, 2, 3, 3, 4, 4, 5, 6, 7, 9, words.saturating_sub(1), words])),
-            LOOK if random.chance(30) => command(LOOK + strict, hop, length, random.address()),
+            LOOK if random.chance(30) => command(LOOK + strict, hop, length, random.short()),
             _ => command(what + strict, hop, bad_length.unwrap_or(length), address | tail),
         });
     }
@@ -302,11 +307,11 @@ fn full(rooms: usize) -> Made {
         command(LOOK, 0, 0, 0x0A00_0401),
     ];
     let commands: Vec<Command> = [command(MAKE, 0, 0, 0)].into_iter().chain(hosts).chain(more).collect();
-    let nodes = |count: u32| model::nodes(&(0..count).map(|i| (0x0A00_0000 + i, 32, 0)).collect::<Vec<Route>>(), Fault::None) as u32;
+    let needed = |count: u32| nodes(&(0..count).map(|i| (0x0A00_0000 + i, 32, 0)).collect::<Vec<Route>>(), Fault::None) as u32;
     let (words, rooms) = match rooms {
-        0 => (160 * nodes(1025), "roomy"),
-        1 => (160 * nodes(1024), "exact"),
-        _ => (160 * nodes(1024) - 1, "one word short"),
+        0 => (160 * needed(1025), "roomy"),
+        1 => (160 * needed(1024), "exact"),
+        _ => (160 * needed(1024) - 1, "one word short"),
     };
     cased(words, &commands, "1,024: /32 side by side", rooms)
 }

@@ -17,7 +17,7 @@ use std::process::{exit, Command, Stdio};
 use std::sync::{Mutex, OnceLock};
 use std::thread;
 
-use case::{Answer, Case, Route, CHECK, CHIP, COVER, HELD, LIVE, LOOKUP, PLAIN, PLAN, REWRITE, SPECIAL, UNROUTED};
+use case::{address_of, hop_of, length_of, lengthened, Answer, Case, Route, Short, CHECK, CHIP, COVER, HELD, LIVE, LOOKUP, PLAIN, PLAN, REWRITE, SPECIAL, UNROUTED};
 use generate::Made;
 use model::Fault;
 
@@ -27,43 +27,51 @@ const QUICK_CASES: u64 = 20_000;
 const QUICK_REPLAY_CASES: u64 = 2_000;
 const QUICK_WORDS: u64 = 100_000;
 
-/// The last address of a prefix.
-fn last_of(&(address, length, _): &Route) -> u64 {
-    address as u64 + (1 << (32 - length as u64)) - 1
+/// The first bits set.
+fn mask(length: u8) -> u64 {
+    u64::MAX.checked_shl(64 - length as u32).unwrap_or(0)
+}
+
+/// The last address of a prefix at a width.
+fn last_of(width: u8, &(address, length, _): &Route) -> u64 {
+    address | (!mask(length) & mask(width))
 }
 
 /// Is the list one of all that has no route, as far as the crate can be asked? Its longest match finds none at the first and the last address
 /// of each prefix, and at the addresses before and after just where a prefix beside it has them; and its mode 1 leaves the list as it is, so that
 /// no two of the prefixes make a wider one.
-fn listed_by_crate(routes: &[Route], list: &[Route]) -> bool {
+fn listed_by_crate(long: bool, routes: &[Route], list: &[Route]) -> bool {
+    let width = if long { 64 } else { 32 };
+    // From one address to the next.
+    let one = !mask(width - 1) & mask(width);
     let (mut asked, mut none) = (Vec::new(), Vec::new());
     for (i, prefix) in list.iter().enumerate() {
-        let (first, last) = (prefix.0 as u64, last_of(prefix));
-        asked.extend([first as u32, last as u32]);
+        let (first, last) = (prefix.0, last_of(width, prefix));
+        asked.extend([first, last]);
         none.extend([true, true]);
         if first > 0 {
-            asked.push(first as u32 - 1);
-            none.push(i > 0 && last_of(&list[i - 1]) + 1 == first);
+            asked.push(first - one);
+            none.push(i > 0 && last_of(width, &list[i - 1]) == first - one);
         }
-        if last < u32::MAX as u64 {
-            asked.push(last as u32 + 1);
-            none.push(list.get(i + 1).is_some_and(|next| next.0 as u64 == last + 1));
+        if last < mask(width) {
+            asked.push(last + one);
+            none.push(list.get(i + 1).is_some_and(|next| next.0 == last + one));
         }
     }
-    let found = oracle::lookups(routes, &asked);
-    found.iter().zip(&none).all(|(found, none)| found.is_none() == *none) && oracle::rewrite(1, 0, list) == (list.to_vec(), 0)
+    let found = oracle::lookups(long, routes, &asked);
+    found.iter().zip(&none).all(|(found, none)| found.is_none() == *none) && oracle::rewrite(long, 1, 0, list) == (list.to_vec(), 0)
 }
 
 /// Does the first slot that matches answer as the crate's longest match, at the edges of every slot's prefix and beside them?
 fn matched_by_crate(routes: &[Route], slots: &[Route]) -> bool {
-    let mut asked = vec![0, u32::MAX];
+    let mut asked = vec![0, mask(32)];
     for slot in slots {
-        let (first, last) = (slot.0, last_of(slot) as u32);
-        asked.extend([first, last, first.wrapping_sub(1), last.wrapping_add(1)]);
+        let (first, last) = (slot.0, last_of(32, slot));
+        asked.extend([first, last, first.wrapping_sub(1 << 32), last.wrapping_add(1 << 32)]);
     }
-    let matches = |slot: &&Route, address: u32| (slot.0 as u64..=last_of(slot)).contains(&(address as u64));
-    let first_match = |&address: &u32| slots.iter().find(|slot| matches(slot, address)).map(|slot| (slot.2, slot.1));
-    oracle::lookups(routes, &asked).into_iter().eq(asked.iter().map(first_match))
+    let matches = |slot: &&Route, address: u64| (slot.0..=last_of(32, slot)).contains(&address);
+    let first_match = |&address: &u64| slots.iter().find(|slot| matches(slot, address)).map(|slot| (slot.2, slot.1));
+    oracle::lookups(false, routes, &asked).into_iter().eq(asked.iter().map(first_match))
 }
 
 /// The crate's rewrite. Under ranks it is given each hop's rank for the hop, so that the smallest number is the lowest rank, and the ranks that come out
@@ -73,11 +81,11 @@ fn rewritten_by_crate(case: &Case, routes: &[Route]) -> (Vec<Route>, i64) {
         Some(ranks @ [_, ..]) if case.mode >= 4 => {
             let ranked: Vec<Route> = routes.iter().map(|&(address, length, hop)| (address, length, ranks[hop as usize])).collect();
             let default = if case.mode == 5 { ranks[case.default as usize] } else { 0 };
-            let (out, change) = oracle::rewrite(case.mode, default, &ranked);
+            let (out, change) = oracle::rewrite(case.long, case.mode, default, &ranked);
             let hop = |rank: u8| ranks.iter().position(|&of| of == rank).expect("each rank is there") as u8;
             (out.into_iter().map(|(address, length, rank)| (address, length, hop(rank))).collect(), change)
         }
-        _ => oracle::rewrite(case.mode, case.default, routes),
+        _ => oracle::rewrite(case.long, case.mode, case.default, routes),
     }
 }
 
@@ -86,13 +94,13 @@ const MOST_ASKED: usize = 20_000;
 
 /// Is the model's word about a plan the crate's? Its longest match after each step is asked at every point where a prefix of the tables or of the steps begins
 /// or is over; of long plans at as many of the points as can be afforded, where a word of yes is held to.
-fn followed_by_crate(old: &[Route], new: &[Route], steps: &[plans::Step], good: bool) -> bool {
+fn followed_by_crate(old: &[Short], new: &[Short], steps: &[plans::Step], good: bool) -> bool {
     let (was, goal) = (plans::held(old), plans::held(new));
     let points = plans::points_of(&was, &goal, steps);
     let every = (points.len() * (steps.len() + 1)).div_ceil(MOST_ASKED);
-    let points: Vec<u32> = points.into_iter().step_by(every).collect();
-    let hops = |routes: &[Route]| -> Vec<Option<u8>> {
-        oracle::lookups(routes, &points).into_iter().map(|found| found.map(|(hop, _)| hop)).collect()
+    let points: Vec<u64> = points.into_iter().step_by(every).map(|point| (point as u64) << 32).collect();
+    let hops = |routes: &[Short]| -> Vec<Option<u8>> {
+        oracle::lookups(false, &lengthened(routes), &points).into_iter().map(|found| found.map(|(hop, _)| hop)).collect()
     };
     let (old_hops, new_hops) = (hops(old), hops(new));
     let mut table = was;
@@ -100,7 +108,7 @@ fn followed_by_crate(old: &[Route], new: &[Route], steps: &[plans::Step], good: 
         if plans::done(&mut table, step, Fault::None).is_none() {
             return !good;
         }
-        let routes: Vec<Route> = table.iter().map(|(&(address, length), &hop)| (address, length, hop)).collect();
+        let routes: Vec<Short> = table.iter().map(|(&(address, length), &hop)| (address, length, hop)).collect();
         let kept = |((now, old), new): ((&Option<u8>, &Option<u8>), &Option<u8>)| now == old || now == new;
         if !hops(&routes).iter().zip(&old_hops).zip(&new_hops).all(kept) {
             return !good;
@@ -131,35 +139,35 @@ fn expected(case: &Case) -> Answer {
         return Answer::Refused(number, at);
     }
     // The records as they stand: the crate does its own masking.
-    let record = |r: &[u8]| (u32::from_be_bytes([r[0], r[1], r[2], r[3]]), r[4], r[5]);
-    let routes: Vec<Route> = case.table.chunks(8).map(record).collect();
-    let work_short = || (case.work as usize) < 160 * oracle::nodes(&routes);
+    let record = |r: &[u8]| (address_of(r), length_of(r), hop_of(r));
+    let routes: Vec<Route> = case.table.chunks(case.size()).map(record).collect();
+    let work_short = || (case.work as usize) < 160 * oracle::nodes(case.long, &routes);
     match case.call {
         REWRITE if work_short() => Answer::Refused(10, 0),
         REWRITE | PLAIN => {
             let (out, change) = rewritten_by_crate(case, &routes);
             if case.mode == 1 {
-                let of_retired = oracle::rewrite(1, 0, &oracle::consistent_set(&routes)).0;
+                let of_retired = oracle::rewrite(case.long, 1, 0, &oracle::consistent_set(case.long, &routes)).0;
                 assert!(of_retired == out, "the crate's mode 1 makes something else of what its mode 2 wrote");
             }
-            if (case.room as usize) < 8 * out.len() {
+            if (case.room as usize) < case.size() * out.len() {
                 Answer::Refused(11, 0)
             } else {
                 Answer::Rewritten(out, change)
             }
         }
         COVER if work_short() => Answer::Refused(10, 0),
-        COVER => Answer::Covered(oracle::covers(&routes, case.query, case.query_length)),
-        LOOKUP => Answer::Match(oracle::lookup(&routes, case.query)),
+        COVER => Answer::Covered(oracle::covers(case.long, &routes, case.query, case.query_length)),
+        LOOKUP => Answer::Match(oracle::lookup(case.long, &routes, case.query)),
         SPECIAL => {
-            let ranges = model::ranges(case.query, Fault::None).unwrap_or_default();
+            let ranges = model::ranges(case.edition(), Fault::None).unwrap_or_default();
             Answer::Special(oracle::within(&ranges, &routes).into_iter().position(|inside| inside))
         }
         HELD => Answer::Addresses(oracle::addresses(&routes).map_or(1 << 32, u64::from)),
         _ => {
             let answer = model::answer(case, Fault::None);
             match &answer {
-                Answer::Unrouted(list) => assert!(listed_by_crate(&routes, list), "the crate finds another list of what has no route"),
+                Answer::Unrouted(list) => assert!(listed_by_crate(case.long, &routes, list), "the crate finds another list of what has no route"),
                 Answer::Slots(slots) => {
                     assert!(matched_by_crate(&routes, slots), "the crate finds another answer than the first slot's")
                 }
@@ -199,15 +207,15 @@ fn fail(message: String) -> ! {
 /// The expected text of a case, after the model and the damage's plan were held to it.
 fn settle(made: &Made) -> (String, Answer) {
     let case = &made.case;
-    let by_model = model::answer(case, Fault::None).text(case.mode);
+    let by_model = model::answer(case, Fault::None).text(case);
     let answer =
         catch_unwind(|| expected(case)).unwrap_or_else(|_| differ(case, ("the crate", "a panic\n"), ("the model", &by_model)));
-    let text = answer.text(case.mode);
+    let text = answer.text(case);
     if text != by_model {
         differ(case, ("the crate", &text), ("the model", &by_model));
     }
     if let Some(damage) = &made.damage {
-        let planned = Answer::Refused(damage.expect.0, damage.expect.1).text(case.mode);
+        let planned = Answer::Refused(damage.expect.0, damage.expect.1).text(case);
         if text != planned {
             differ(case, ("the model", &text), ("the plan of the damage", &planned));
         }
@@ -231,7 +239,7 @@ impl Counts {
             LOOKUP => "lookup".to_string(),
             HELD => "addresses held".to_string(),
             CHIP => "chip image".to_string(),
-            SPECIAL => format!("special use, RFC {}", if [5735, 6890].contains(&made.case.query) { made.case.query } else { 0 }),
+            SPECIAL => format!("special use, RFC {}", if [5735, 6890].contains(&made.case.edition()) { made.case.edition() } else { 0 }),
             CHECK => "check of a plan".to_string(),
             PLAN => "plan".to_string(),
             LIVE => "live map".to_string(),
@@ -276,13 +284,14 @@ impl Counts {
             self.add(format!("refusal  {number:2}"));
         }
         let host_bits =
-            made.case.table.chunks_exact(8).any(|r| r[4] < 32 && u32::from_be_bytes([r[0], r[1], r[2], r[3]]) << r[4] != 0);
+            made.case.table.chunks_exact(made.case.size()).any(|r| length_of(r) < 64 && address_of(r) << length_of(r) != 0);
         let reading = match (made.case.strict, host_bits) {
             (true, _) => "strict",
             (false, true) => "masked, with host bits",
             (false, false) => "masked, with none",
         };
         self.add(format!("reading  {reading}"));
+        self.add(format!("width    {}", made.case.width()));
         let ranks = match &made.case.ranks {
             None => "none lent",
             Some(ranks) if ranks.is_empty() => "an empty list",
@@ -399,8 +408,11 @@ fn run(cases: u64, seed: u64, command: Option<&str>, by_replay: u64) {
             } else {
                 seen += 1;
             }
-            made.push(one);
-            texts.push(text);
+            // No call of the library takes 64 bits: there the crate and the model are alone.
+            if !one.case.long {
+                made.push(one);
+                texts.push(text);
+            }
             if seen <= by_replay {
                 count = made.len();
             }
@@ -433,7 +445,7 @@ fn run(cases: u64, seed: u64, command: Option<&str>, by_replay: u64) {
 fn run_worked() {
     for at in 0..generate::WORKED.len() {
         let (case, routes, change) = generate::worked(at);
-        let paper = Answer::Rewritten(routes, change).text(case.mode);
+        let paper = Answer::Rewritten(routes, change).text(&case);
         let (text, _) = settle(&Made { case: case.clone(), shape: "worked", rooms: "of the programs", damage: None });
         if text != paper {
             differ(&case, ("document 01", &paper), ("the crate", &text));
@@ -509,14 +521,14 @@ fn check_ends(command: &str) {
     let (case, _, _) = generate::worked(1);
     let mut good = Vec::new();
     case.write(&mut good);
-    let text = expected(&case).text(case.mode);
+    let text = expected(&case).text(&case);
     let mut tries = vec![(Vec::new(), String::new())];
     for cut in [1, 15, 16, good.len() - 1] {
         tries.push((good[..cut].to_vec(), String::new()));
         tries.push(([&good[..], &good[..cut]].concat(), text.clone()));
     }
     for bytes in
-        [&[(0, LIVE + 1)][..], &[(0, 191)], &[(8, 1)], &[(0, UNROUTED), (8, 0), (9, 4), (10, 0), (11, 1)]]
+        [&[(0, LIVE + 1)][..], &[(0, 128 + LIVE + 1)], &[(8, 1)], &[(0, UNROUTED), (8, 0), (9, 4), (10, 0), (11, 1)]]
     {
         let mut odd = good.clone();
         bytes.iter().for_each(|&(at, byte)| odd[at] = byte);
@@ -542,9 +554,9 @@ fn self_test() {
     let mut index = 0;
     while !left.is_empty() && index < QUICK_CASES {
         for made in generate::both(1, index) {
-            let text = expected(&made.case).text(made.case.mode);
+            let text = expected(&made.case).text(&made.case);
             left.retain(|&(fault, what)| {
-                let same = model::answer(&made.case, fault).text(made.case.mode) == text;
+                let same = model::answer(&made.case, fault).text(&made.case) == text;
                 if !same {
                     println!("compare: planted fault found by case {index:5} of seed 1: {what}");
                 }

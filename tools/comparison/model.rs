@@ -4,7 +4,7 @@
 //! A call of the model can be given a fault, a planted mistake: `tools/compare --self-test` shows with them that the comparison
 //! finds mistakes. `Fault::None` is the model itself.
 
-use crate::case::{Answer, Case, Route, CHECK, CHIP, COVER, HELD, LIVE, LOOKUP, PLAIN, PLAN, REWRITE, SPECIAL, UNROUTED};
+use crate::case::{self, hop_of, length_of, Answer, Case, Route, CHECK, CHIP, COVER, HELD, LIVE, LOOKUP, PLAIN, PLAN, REWRITE, SPECIAL, UNROUTED};
 use crate::{live, plans};
 
 #[derive(Clone, Copy, PartialEq, Eq, Debug)]
@@ -157,29 +157,29 @@ pub const FAULTS: [(Fault, &str); 70] = [
 ];
 
 /// The first `length` bits set.
-fn mask(length: u32) -> u32 {
-    u32::MAX.checked_shl(32 - length).unwrap_or(0)
+fn mask(length: u32) -> u64 {
+    u64::MAX.checked_shl(64 - length).unwrap_or(0)
 }
 
 /// A record's address, whose first octet comes first.
-fn address_of(record: &[u8], fault: Fault) -> u32 {
-    let octets = [record[0], record[1], record[2], record[3]];
-    if fault == Fault::OctetsBackwards {
-        return u32::from_le_bytes(octets);
+fn address_of(record: &[u8], fault: Fault) -> u64 {
+    let octets = record.len() / 2;
+    match fault {
+        Fault::OctetsBackwards => (0..octets).map(|at| (record[at] as u64) << (64 - 8 * octets + 8 * at)).sum(),
+        _ => case::address_of(record),
     }
-    u32::from_be_bytes(octets)
 }
 
 /// A record's address without the bits past its length.
-fn masked(record: &[u8], fault: Fault) -> u32 {
-    address_of(record, fault) & mask((record[4] as u32).min(32))
+fn masked(record: &[u8], fault: Fault) -> u64 {
+    address_of(record, fault) & mask((length_of(record) as u32).min(64))
 }
 
 /// The lowest number against a record, whose index is not 0 where there is one before it.
 fn bad_record(record: &[u8], before: Option<&[u8]>, is_map: bool, strict: bool, fault: Fault) -> Option<u8> {
     let address = |r: &[u8]| if fault == Fault::OrderUnmasked { address_of(r, fault) } else { masked(r, fault) };
-    let (here, length, hop) = (address(record), record[4], record[5]);
-    if length > 32 {
+    let (here, length, hop) = (address(record), length_of(record), hop_of(record));
+    if length as usize > 4 * record.len() {
         return Some(5);
     }
     let host_bits = address_of(record, fault) & !mask(length as u32) != 0;
@@ -187,10 +187,10 @@ fn bad_record(record: &[u8], before: Option<&[u8]>, is_map: bool, strict: bool, 
         return Some(6);
     }
     let most = if is_map || fault == Fault::SetTakesHops { 63 } else { 0 };
-    let bytes_bad = hop > most || record[6] != 0 || record[7] != 0;
+    let bytes_bad = hop > most || record[record.len() / 2 + 2..].iter().any(|&byte| byte != 0);
     let order_bad = before.is_some_and(|b| match fault {
-        Fault::EqualRecordsTaken => (here, length) < (address(b), b[4]),
-        _ => (here, length) <= (address(b), b[4]),
+        Fault::EqualRecordsTaken => (here, length) < (address(b), length_of(b)),
+        _ => (here, length) <= (address(b), length_of(b)),
     });
     if fault == Fault::OrderBeforeHop && order_bad {
         return Some(8);
@@ -251,7 +251,7 @@ pub fn accepted(case: &Case, fault: Fault) -> Result<Vec<Route>, (u8, usize)> {
             return Err((15, 0));
         }
     }
-    if case.call == SPECIAL && ranges(case.query, fault).is_none() {
+    if case.call == SPECIAL && ranges(case.edition(), fault).is_none() {
         return Err((14, 0));
     }
     let is_map = match case.call {
@@ -259,25 +259,25 @@ pub fn accepted(case: &Case, fault: Fault) -> Result<Vec<Route>, (u8, usize)> {
         COVER => false,
         _ => true,
     };
-    let routes = routes_of(&case.table, is_map, case.strict, fault)?;
-    if case.call == COVER && case.query_length > 32 {
+    let routes = routes_of(&case.table, case.size(), is_map, case.strict, fault)?;
+    if case.call == COVER && case.query_length > case.width() {
         return Err((9, 0));
     }
     Ok(routes)
 }
 
 /// The routes of an accepted table, or the refusal by a number of 3 to 8.
-pub fn routes_of(table: &[u8], is_map: bool, strict: bool, fault: Fault) -> Result<Vec<Route>, (u8, usize)> {
-    if table.len() % 8 != 0 {
+pub fn routes_of(table: &[u8], size: usize, is_map: bool, strict: bool, fault: Fault) -> Result<Vec<Route>, (u8, usize)> {
+    if table.len() % size != 0 {
         return Err((3, 0));
     }
-    let too_many = table.len() / 8 > 1024;
+    let too_many = table.len() / size > 1024;
     if too_many && fault != Fault::RecordBeforeCount {
         return Err((4, 0));
     }
     let mut bad = None;
-    for (i, record) in table.chunks(8).enumerate() {
-        let before = if i == 0 { None } else { Some(&table[8 * i - 8..8 * i]) };
+    for (i, record) in table.chunks(size).enumerate() {
+        let before = if i == 0 { None } else { Some(&table[size * i - size..size * i]) };
         if let Some(number) = bad_record(record, before, is_map, strict, fault) {
             if bad.is_none() || fault == Fault::LastBadRecord {
                 bad = Some((number, i));
@@ -291,7 +291,7 @@ pub fn routes_of(table: &[u8], is_map: bool, strict: bool, fault: Fault) -> Resu
         return Err((4, 0));
     }
     let address = |r: &[u8]| if fault == Fault::RoutesUnmasked { address_of(r, fault) } else { masked(r, fault) };
-    Ok(table.chunks(8).map(|r| (address(r), r[4], r[5])).collect())
+    Ok(table.chunks(size).map(|r| (address(r), length_of(r), hop_of(r))).collect())
 }
 
 /// The root and, for each record of length L, a node at each of the depths 5, 10, up to 5 * floor(L/5).
@@ -313,15 +313,17 @@ pub fn nodes(routes: &[Route], fault: Fault) -> usize {
 /// nearest entry at or above it.
 #[derive(Clone, Copy)]
 struct Position<'a> {
-    address: u32,
+    /// The bits of an address.
+    width: u32,
+    address: u64,
     length: u32,
     routes: &'a [Route],
     hop: Option<u8>,
 }
 
 impl<'a> Position<'a> {
-    fn root(routes: &'a [Route]) -> Self {
-        Position { address: 0, length: 0, routes, hop: None }.entered()
+    fn root(width: u32, routes: &'a [Route]) -> Self {
+        Position { width, address: 0, length: 0, routes, hop: None }.entered()
     }
 
     /// The entry that stands exactly here comes first among the routes below.
@@ -344,12 +346,12 @@ impl<'a> Position<'a> {
     fn halves(&self) -> Option<(Self, Self)> {
         let below = self.below();
         // Below a whole address there is nothing; only a planted fault leaves routes there.
-        if below.is_empty() || self.length == 32 {
+        if below.is_empty() || self.length == self.width {
             return None;
         }
-        let upper = self.address | 1 << (31 - self.length);
+        let upper = self.address | 1 << (63 - self.length);
         let (zero, one) = below.split_at(below.partition_point(|route| route.0 < upper));
-        let half = |address, routes| Position { address, length: self.length + 1, routes, hop: self.hop }.entered();
+        let half = |address, routes| Position { address, length: self.length + 1, routes, ..*self }.entered();
         Some((half(self.address, zero), half(upper, one)))
     }
 
@@ -361,7 +363,7 @@ impl<'a> Position<'a> {
     /// How many addresses of the position are under some member?
     fn held(&self) -> u64 {
         match self.halves() {
-            _ if self.hop.is_some() => 1 << (32 - self.length),
+            _ if self.hop.is_some() => 1 << (self.width - self.length),
             Some((zero, one)) => zero.held() + one.held(),
             None => 0,
         }
@@ -405,7 +407,7 @@ fn sets(position: Position, default: Option<u8>, fault: Fault) -> Sets {
     }
 }
 
-fn assign(sets: &Sets, address: u32, length: u32, above: Option<u8>, ranks: &[u8], fault: Fault, out: &mut Vec<Route>) {
+fn assign(sets: &Sets, address: u64, length: u32, above: Option<u8>, ranks: &[u8], fault: Fault, out: &mut Vec<Route>) {
     let here = match (sets.set, above) {
         (None, _) => None,
         (Some(_), Some(hop)) if fault == Fault::NodeEdgeInherits && length % 5 == 0 => Some(hop),
@@ -420,7 +422,7 @@ fn assign(sets: &Sets, address: u32, length: u32, above: Option<u8>, ranks: &[u8
     };
     if let Some(halves) = &sets.halves {
         assign(&halves.0, address, length + 1, here, ranks, fault, out);
-        assign(&halves.1, address | 1 << (31 - length), length + 1, here, ranks, fault, out);
+        assign(&halves.1, address | 1 << (63 - length), length + 1, here, ranks, fault, out);
     }
 }
 
@@ -438,17 +440,18 @@ fn outermost(routes: &[Route]) -> Vec<Route> {
     routes.iter().copied().filter(|route| nearest_above(routes, route).is_none()).collect()
 }
 
-fn rewritten(mode: u8, default: u8, ranks: &[u8], routes: &[Route], fault: Fault) -> Vec<Route> {
+fn rewritten(case: &Case, routes: &[Route], fault: Fault) -> Vec<Route> {
+    let (mode, ranks, width) = (case.mode, case.ranks.as_deref().unwrap_or(&[]), case.width() as u32);
     let mut out = Vec::new();
     match mode {
         1 if fault == Fault::NoMerge => return outermost(routes),
         1 | 2 => {
-            Position::root(routes).maximal_covered(&mut out);
+            Position::root(width, routes).maximal_covered(&mut out);
             if fault == Fault::MergeUnaligned {
                 let mut merged: Vec<Route> = Vec::new();
                 for route in out {
                     match merged.last_mut() {
-                        Some(last) if last.1 == route.1 && route.1 > 0 && route.0 - last.0 == 1 << (32 - route.1) => last.1 -= 1,
+                        Some(last) if last.1 == route.1 && route.1 > 0 && route.0 - last.0 == 1 << (64 - route.1) => last.1 -= 1,
                         _ => merged.push(route),
                     }
                 }
@@ -467,25 +470,25 @@ fn rewritten(mode: u8, default: u8, ranks: &[u8], routes: &[Route], fault: Fault
             }
         }
         _ => {
-            let default = if fault == Fault::DefaultIsZero { 0 } else { default };
-            let sets = sets(Position::root(routes), if mode == 5 { Some(default) } else { None }, fault);
+            let default = if fault == Fault::DefaultIsZero { 0 } else { case.default };
+            let sets = sets(Position::root(width, routes), if mode == 5 { Some(default) } else { None }, fault);
             assign(&sets, 0, 0, None, ranks, fault, &mut out);
         }
     }
     out
 }
 
-fn covers(routes: &[Route], query: u32, length: u8, fault: Fault) -> bool {
-    let length = length as u32;
+fn covers(case: &Case, routes: &[Route], fault: Fault) -> bool {
+    let (query, length) = (case.query, case.query_length as u32);
     let first = if fault == Fault::QueryTailCounts { query } else { query & mask(length) };
     if routes.iter().any(|route| route.1 as u32 <= length && first & mask(route.1 as u32) == route.0) {
         return true;
     }
     let within: Vec<Route> = routes.iter().copied().filter(|route| route.0 & mask(length) == first).collect();
-    fault != Fault::CoverWithoutMerge && Position { address: first, length, routes: &within, hop: None }.covered()
+    fault != Fault::CoverWithoutMerge && Position { width: case.width() as u32, address: first, length, routes: &within, hop: None }.covered()
 }
 
-fn lookup(routes: &[Route], address: u32, fault: Fault) -> Option<(u8, u8)> {
+fn lookup(routes: &[Route], address: u64, fault: Fault) -> Option<(u8, u8)> {
     let matches = routes.iter().filter(|route| address & mask(route.1 as u32) == route.0);
     let best = match fault {
         Fault::ShortestMatch => matches.min_by_key(|route| route.1),
@@ -497,36 +500,36 @@ fn lookup(routes: &[Route], address: u32, fault: Fault) -> Option<(u8, u8)> {
 fn addresses(routes: &[Route], fault: Fault) -> u64 {
     match fault {
         Fault::AddressesTwice => routes.iter().map(|route| 1 << (32 - route.1 as u64)).sum(),
-        Fault::AddressesWrap => Position::root(routes).held() as u32 as u64,
-        _ => Position::root(routes).held(),
+        Fault::AddressesWrap => Position::root(32, routes).held() as u32 as u64,
+        _ => Position::root(32, routes).held(),
     }
 }
 
 /// The widest prefixes without a route: what lies between the records, cut into blocks as large as their first address and the gap allow.
-fn unrouted(routes: &[Route], fault: Fault) -> Vec<Route> {
+fn unrouted(width: u8, routes: &[Route], fault: Fault) -> Vec<Route> {
     let mut list = Vec::new();
-    let mut from = 0u64;
-    let gap = |list: &mut Vec<Route>, mut from: u64, to: u64| {
+    let mut from = 0u128;
+    let gap = |list: &mut Vec<Route>, mut from: u128, to: u128| {
         while from < to {
-            let aligned = from.trailing_zeros().min(32);
+            let aligned = from.trailing_zeros().min(64);
             let size = aligned.min((to - from).ilog2());
-            list.push((from as u32, 32 - size as u8, 0));
+            list.push((from as u64, 64 - size as u8, 0));
             from += 1 << size;
         }
     };
     for &(address, length, _) in routes {
-        if fault == Fault::HoleOverRecord && length == 32 {
+        if fault == Fault::HoleOverRecord && length == width {
             continue;
         }
-        gap(&mut list, from, address as u64);
-        from = from.max(address as u64 + (1 << (32 - length as u64)));
+        gap(&mut list, from, address as u128);
+        from = from.max(address as u128 + (1 << (64 - length as u32)));
     }
-    gap(&mut list, from, 1 << 32);
+    gap(&mut list, from, 1 << 64);
     match fault {
         Fault::HoleNotWidest => {
             let halves = |&(address, length, hop): &Route| match length {
-                32 => vec![(address, 32, hop)],
-                _ => vec![(address, length + 1, hop), (address | 1 << (31 - length), length + 1, hop)],
+                _ if length == width => vec![(address, length, hop)],
+                _ => vec![(address, length + 1, hop), (address | 1 << (63 - length), length + 1, hop)],
             };
             list.iter().flat_map(halves).collect()
         }
@@ -542,8 +545,8 @@ fn unrouted(routes: &[Route], fault: Fault) -> Vec<Route> {
 fn slots(mut routes: Vec<Route>, fault: Fault) -> Vec<Route> {
     match fault {
         Fault::SlotsByRisingLength => routes.sort_by_key(|route| (route.1, route.0)),
-        Fault::SlotsByFallingAddress => routes.sort_by_key(|route| (32 - route.1, !route.0)),
-        _ => routes.sort_by_key(|route| (32 - route.1, route.0)),
+        Fault::SlotsByFallingAddress => routes.sort_by_key(|route| (64 - route.1, !route.0)),
+        _ => routes.sort_by_key(|route| (64 - route.1, route.0)),
     }
     routes
 }
@@ -595,7 +598,7 @@ pub fn ranges(edition: u32, fault: Fault) -> Option<Vec<Route>> {
         6890 => &RFC_6890,
         _ => return None,
     };
-    let range = |&(address, length): &(&str, u8)| (u32::from(address.parse::<std::net::Ipv4Addr>().unwrap()), length, 0);
+    let range = |&(address, length): &(&str, u8)| ((u32::from(address.parse::<std::net::Ipv4Addr>().unwrap()) as u64) << 32, length, 0);
     Some(list.iter().map(range).collect())
 }
 
@@ -628,8 +631,8 @@ pub fn answer(case: &Case, fault: Fault) -> Answer {
     let work_short = || (case.work as usize) < 160 * nodes(&routes, fault);
     match case.call {
         REWRITE | PLAIN => {
-            let out = rewritten(case.mode, case.default, case.ranks.as_deref().unwrap_or(&[]), &routes, fault);
-            let output_short = (case.room as usize) < 8 * out.len();
+            let out = rewritten(case, &routes, fault);
+            let output_short = (case.room as usize) < case.size() * out.len();
             if fault == Fault::OutputBeforeWork && output_short {
                 return Answer::Refused(11, 0);
             }
@@ -643,19 +646,19 @@ pub fn answer(case: &Case, fault: Fault) -> Answer {
             Answer::Rewritten(out, if fault == Fault::ChangeBackwards { -change } else { change })
         }
         COVER if work_short() => Answer::Refused(10, 0),
-        COVER => Answer::Covered(covers(&routes, case.query, case.query_length, fault)),
+        COVER => Answer::Covered(covers(case, &routes, fault)),
         LOOKUP => Answer::Match(lookup(&routes, case.query, fault)),
         HELD => Answer::Addresses(addresses(&routes, fault)),
         UNROUTED => {
-            let list = unrouted(&routes, fault);
-            if (case.work as usize) < 8 * list.len() {
+            let list = unrouted(case.width(), &routes, fault);
+            if (case.work as usize) < case.size() * list.len() {
                 return Answer::Refused(11, 0);
             }
             Answer::Unrouted(list)
         }
         CHIP if case.room < 8192 || case.room > 8192 && fault != Fault::ImageMayBeLonger => Answer::Refused(12, 0),
         CHIP => Answer::Slots(slots(routes, fault)),
-        SPECIAL => Answer::Special(special(&routes, &ranges(case.query, fault).unwrap_or_default(), fault)),
+        SPECIAL => Answer::Special(special(&routes, &ranges(case.edition(), fault).unwrap_or_default(), fault)),
         _ => unreachable!("a case names a call"),
     }
 }

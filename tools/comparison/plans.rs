@@ -2,7 +2,7 @@
 
 use std::collections::BTreeMap;
 
-use crate::case::{table_of, Answer, Case, Route, CHECK, PLAN};
+use crate::case::{lengthened, shortened, table_of, Answer, Case, Short as Route, CHECK, PLAN};
 use crate::generate::{self, Damage, Made, Random};
 use crate::model::{self, Fault};
 
@@ -153,8 +153,9 @@ pub fn parts(case: &Case) -> (&[u8], &[u8], Vec<StepBytes>) {
 /// The routes of both tables and the steps of an accepted case; or the refusal by 3 to 8, 23 to 28 or 13.
 pub fn accepted(case: &Case, fault: Fault) -> Result<(Vec<Route>, Vec<Route>, Vec<Step>), (u8, usize)> {
     let (installed, new, steps) = parts(case);
-    let old = model::routes_of(installed, true, case.strict, fault)?;
-    let new = model::routes_of(new, true, case.strict, fault).map_err(|(number, at)| (if fault == Fault::NewAsInstalled { number } else { number + 20 }, at))?;
+    let routes = |table| model::routes_of(table, 8, true, case.strict, fault).map(|routes| shortened(&routes));
+    let old = routes(installed)?;
+    let new = routes(new).map_err(|(number, at)| (if fault == Fault::NewAsInstalled { number } else { number + 20 }, at))?;
     let read = |(at, bytes): (usize, &StepBytes)| step_of(bytes, case.strict, fault).ok_or((13, at));
     let steps = steps.iter().enumerate().map(read).collect::<Result<Vec<Step>, (u8, usize)>>()?;
     Ok((old, new, steps))
@@ -188,7 +189,7 @@ fn varied(random: &mut Random, routes: &[Route]) -> Vec<Route> {
     }
     for _ in 0..random.below(12) {
         let (address, length, hop) = match routes {
-            [] => (random.address(), random.below(33) as u8, 1),
+            [] => (random.short(), random.below(33) as u8, 1),
             _ => random.pick(routes),
         };
         let near = (length as usize + random.below(5)).saturating_sub(2).min(32) as u8;
@@ -216,7 +217,7 @@ const SPOILED: [&str; 11] = [
 fn spoil(random: &mut Random, how: usize, old: &[Route], steps: &mut Vec<Step>) {
     if how == 9 || how == 10 {
         let (address, length) = match (old, steps.as_slice()) {
-            ([], []) => (random.address(), random.below(33) as u8),
+            ([], []) => (random.short(), random.below(33) as u8),
             (_, [_, ..]) if old.is_empty() || random.chance(40) => prefix_of(random.pick(steps)),
             _ => {
                 let (address, length, _) = random.pick(old);
@@ -282,7 +283,7 @@ fn written(random: &mut Random, steps: &[Step], strict: bool) -> Vec<u8> {
         }
         step[7] = random.pick(&[0, 1, 255]);
         if random.chance(loosened) {
-            let address = u32::from_be_bytes([step[0], step[1], step[2], step[3]]) | random.address() & !mask(step[4]);
+            let address = u32::from_be_bytes([step[0], step[1], step[2], step[3]]) | random.short() & !mask(step[4]);
             step[..4].copy_from_slice(&address.to_be_bytes());
         }
         bytes.extend(step);
@@ -293,10 +294,11 @@ fn written(random: &mut Random, steps: &[Step], strict: bool) -> Vec<u8> {
 /// The installed table, the new one, whether strict, and the steps that lead from one to the other.
 fn tables(random: &mut Random, shape: usize) -> (Vec<Route>, Vec<Route>, Vec<Step>) {
     let hops = random.pick(&[1, 2, 2, 3, 8, 64]);
-    let old = generate::routes_of(random, shape, hops);
+    let routes = |random: &mut Random| shortened(&generate::routes_of(random, false, shape, hops));
+    let old = routes(random);
     let new = match random.below(10) {
         0 => old.clone(),
-        1 => generate::routes_of(random, shape, hops),
+        1 => routes(random),
         _ => varied(random, &old),
     };
     let steps = proposed(&old, &new, Fault::None);
@@ -306,11 +308,11 @@ fn tables(random: &mut Random, shape: usize) -> (Vec<Route>, Vec<Route>, Vec<Ste
 /// A case of either call over these tables and bytes.
 fn cased(random: &mut Random, call: u8, strict: bool, tables: (&[Route], &[Route]), steps: &[u8], room: usize) -> Case {
     let mut case = generate::blank(call, random.pick(&[0, 1, 6, 255]));
-    (case.strict, case.table) = (strict, table_of(tables.0));
-    let mut new = table_of(tables.1);
+    (case.strict, case.table) = (strict, table_of(&lengthened(tables.0), false));
+    let mut new = table_of(&lengthened(tables.1), false);
     if !strict {
-        generate::loosen(random, &mut case.table);
-        generate::loosen(random, &mut new);
+        generate::loosen(random, &mut case.table, 8);
+        generate::loosen(random, &mut new, 8);
     }
     case.work = (new.len() as u32) << 16 | if call == CHECK { steps.len() / 8 } else { room } as u32;
     case.more = new;
@@ -388,7 +390,7 @@ fn spoil_table(random: &mut Random, table: &mut Vec<u8>, number: u8, strict: boo
         }
         _ => {
             let at = random.within(1, table.len() / 8 - 1);
-            generate::spoil(random, table, at, number, false, strict);
+            generate::spoil(random, table, 8, at, number, false, strict);
             at
         }
     }
@@ -404,7 +406,7 @@ pub fn damaged(random: &mut Random, call: u8, first: u8, second: u8) -> Made {
         (0..count)
             .map(|i| {
                 let length = length(random);
-                ((i << 28 | random.address() >> 4) & mask(length), length, random.below(64) as u8)
+                ((i << 28 | random.short() >> 4) & mask(length), length, random.below(64) as u8)
             })
             .collect()
     };

@@ -26,8 +26,8 @@ pub record Ready (t : List ℕ) (mode : ℕ) : Type 0 where
 -- From `top` on the room holds what the mode's writing walk reads: the coverage of the nodes below no member in mode 1, the nodes' sets in modes 4
 -- and 5.
 pub record Prepared (t : List ℕ) (mode fill top : ℕ) (work : List ℕ) : Type 0 where
-  pub coverage : mode ≡ 1 → StoredBy uncovered coverageWord 7 0 (whole t) top work
-  pub sets : 4 ≤ mode → Stored (setWords (answerIn (whole t) none (hopOf fill))) 7 0 (whole t) top work
+  pub coverage : mode ≡ 1 → StoredBy uncovered coverageWord 13 0 (whole t) top work
+  pub sets : 4 ≤ mode → Stored (setWords (answerIn (whole t) none (hopOf fill))) 13 0 (whole t) top work
 
 -- What the mode makes of the table at wide addresses, by a choice among a set's hops.
 unfoldable pub wideResult : (List ℕ → ℕ) → List ℕ → ℕ → ℕ → List Route

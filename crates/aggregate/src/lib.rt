@@ -65,7 +65,7 @@ fn rewrite_checked(
     requires { ⌜ Ready (now table) mode ⌝ }
     requires { ⌜ Fills mode fill ⌝ }
     requires { ⌜ before ≡ records (now table) ⌝ }
-    requires { ⌜ 160 * nodesBelow 7 0 (whole (now table)) ≤ length (now work) ⌝ }
+    requires { ⌜ 160 * nodesBelow 13 0 (whole (now table)) ≤ length (now work) ⌝ }
     ensures { λ r. ⌜ Finished (now (table .entry)) mode fill (now (ranks .entry)) (now (output .entry)) r (now (output .exit)) ⌝ }
 {
     let top = prepare(table, mode, fill, work);
@@ -162,12 +162,12 @@ pub fn rewrite(
     answer
 }
 
-// The query as a wide address, without the bits past its length.
-fn wide_query(address: u32, len: usize) -> u64
+// The query's address, its first bit on top, without the bits past its length: half of its wide address.
+fn half_query(address: u32, len: usize) -> u64
     requires { ⌜ len ≤ 32 ⌝ }
-    ensures { λ r. ⌜ r ≡ startOf (32 - len) address * 2 ^ spare ⌝ }
+    ensures { λ r. ⌜ r * 2 ≡ startOf (32 - len) address * 2 ^ spare ⌝ }
 {
-    (masked(address, len as u8) as u64) * 8
+    (masked(address, len as u8) as u64) * 4294967296
 }
 
 // The cover query, for a room of so many words.
@@ -190,7 +190,7 @@ fn covers_in(table: &[u8], form: Form, address: u32, len: u32, room: usize) -> C
                 };
             }
             let n = len as usize;
-            if covers_in_aggregate(table, 0, records as u16, 0, 0, wide_query(address, n), n) {
+            if covers_in_aggregate(table, 0, records as u16, 0, 0, half_query(address, n), n) {
                 Covers::Covered
             } else {
                 Covers::Uncovered

@@ -18,7 +18,7 @@ ghost use Rattle.aggregate.specs.Walks.{whole, Ready, Prepared, wideResu
 pub fn prepare(table: &[u8], mode: u32, fill: u8, work: &mut [u32]) -> usize
     requires { ⌜ Ready (now table) mode ⌝ }
     requires { ⌜ Fills mode fill ⌝ }
-    requires { ⌜ 160 * nodesBelow 7 0 (whole (now table)) ≤ length (now work) ⌝ }
+    requires { ⌜ 160 * nodesBelow 13 0 (whole (now table)) ≤ length (now work) ⌝ }
     ensures { λ r. ⌜ Prepared (now (table .entry)) mode fill r (now (work .exit)) ⌝ }
 {
     let records = (table.len() / 8) as u16;

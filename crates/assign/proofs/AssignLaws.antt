@@ -344,7 +344,7 @@ leaf-entry choose law n a len hop over k p q =
     entry-is choose law (shown .0) (leaf (hopOf hop)) (shown .1) n a len hop over k p q (sym (leaf-assigned choose wide law (hopOf hop) (hopOf over)))
 
 -- The entries that the bits and the hops of a node say are those of ORTC's walk.
-module _ (choose : List ℕ → ℕ) (law : Chooses choose) (f : ℕ → Answer) (depth key above entries : ℕ) (hops xs : List ℕ) (deep : depth ≤ 30) (first : above ≤ noHop)
+module _ (choose : List ℕ → ℕ) (law : Chooses choose) (f : ℕ → Answer) (depth key above entries : ℕ) (hops xs : List ℕ) (deep : depth ≤ 60) (first : above ≤ noHop)
     (shown : ShowsNode f (slotSize depth) key xs)
     (assigns : (l j : ℕ) → l ≤ 4 → j < 2 ^ l → AssignedHop choose f (slotSize depth) key above hops l j)
     (bits : (b : ℕ) → b < 31 → bit entries b ≡ hasEntry hops above b) where

@@ -27,7 +27,6 @@ ghost use Rattle.words.specs.Bits.{bit};
 ghost use Rattle.words.specs.Positions.{position};
 ghost use Rattle.positions.specs.Runs.{noHop, hopOf, orElse, placeAt};
 ghost use Rattle.hops.specs.Sets.{ShowsSet};
-ghost use Rattle.nodes.specs.Node.{wide};
 ghost use Rattle.nodes.specs.Output.{Wrote};
 ghost use Rattle.nodes.specs.Room.{Begins};
 ghost use Rattle.gather.specs.Gathered.{overAt};
@@ -198,10 +197,10 @@ pub fn leaf_slots(covering: &[u8; 31], hops: &[u8; 31], fill: u8) -> u32
     push_l4(other)
 }
 
-// Writes one record, if it is by a hop and not by the one above, and says how many it wrote.
+// Writes one record, if it is by a hop and not by the one above, and says how many it wrote: that of each wide address whose half is in hand.
 pub fn emit(out: &mut [u8], addr: u64, len: usize, hop: u8, above: u8) -> usize
-    requires { ⌜ (addr < 2 ^ wide) × (len < 256) ⌝ }
-    ensures { λ r. ⌜ Wrote (entryOver addr len hop above) 0 r (now (out .entry)) (now (out .exit)) ⌝ }
+    requires { ⌜ len < 256 ⌝ }
+    ensures { λ r. ⌜ ((a : ℕ) → a / 2 ≡ addr → Wrote (entryOver a len hop above) 0 r (now (out .entry)) (now (out .exit))) ⌝ }
 {
     if hop == above {
         return 0;

@@ -171,7 +171,7 @@ module _ {t : List ℕ} {lo hi depth key inherited : ℕ} {first end hops : List
       )
       (entry-is t (getD first (position l j) 0) (getD end (position l j) 0) (getD hops (position l j) 0) (overAt hops (position l j) inherited)
       (placeAt (slotSize depth) key l j) (sizeAt (slotSize depth) l) (depth + l)
-      (own wide (sizeAt (slotSize depth) l) (placeAt (slotSize depth) key l j) (run t lo hi)) (omega (arith, f .node .deep))
+      (own wide (sizeAt (slotSize depth) l) (placeAt (slotSize depth) key l j) (run t lo hi)) (omega (arith, f .node .at .deep))
       (ap headHop (sym (position-run (f .gathered) l j le lt)))
       (hops-cover l j le lt ∙ cover-own wide (slotSize depth) key (run t lo hi) (hopOf inherited) l j
       ∙ ap (orElse (own wide (sizeAt (slotSize depth) l) (placeAt (slotSize depth) key l j) (run t lo hi))) (sym (hops-over l j le lt))))
@@ -179,7 +179,7 @@ module _ {t : List ℕ} {lo hi depth key inherited : ℕ} {first end hops : List
   -- The walk through the node, by its slots.
   pub map-slots : mapWalk (run t lo hi) (wide - depth) key (hopOf inherited) ≡ slots (entryAt entries hops depth key) (mapSlot t first end hops depth key) 32
   map-slots =
-      let size : wide - depth ≡ slotSize depth + 5 = omega (arith, f .node .deep) in
+      let size : wide - depth ≡ slotSize depth + 5 = omega (arith, f .node .at .deep) in
       rw size (walk-slots (consistentMapOut wide (run t lo hi)) (consistentMapNext wide (run t lo hi)) (slotSize depth) key (hopOf inherited)
       ∙ slots-agree 5 _ (entryAt entries hops depth key) (λ l j lt small. sym (map-entry l j (omega arith) small)) _ (mapSlot t first end hops depth key)
       (λ c lt. slot-reads (f .gathered) c lt _
@@ -188,12 +188,12 @@ module _ {t : List ℕ} {lo hi depth key inherited : ℕ} {first end hops : List
   -- It has no more entries than the node has records.
   pub map-most : length (slots (entryAt entries hops depth key) (mapSlot t first end hops depth key) 32) ≤ hi - lo
   map-most =
-      let size : wide - depth ≡ slotSize depth + 5 = omega (arith, f .node .deep) in
+      let size : wide - depth ≡ slotSize depth + 5 = omega (arith, f .node .at .deep) in
       rw (← map-slots, size) (omega (arith, kept-few (node-run (f .node)) (hopOf inherited), run-length t lo hi))
 
   -- A slot with records has what the walk of its node has.
   pub map-child : (c place : ℕ) → place ≡ placeAt (slotSize depth) key 5 c
       → mapWalk (runAt t first end (31 + c)) (wide - (depth + 5)) place (hopOf (getD hops (15 + c / 2) 0)) ≡ mapSlot t first end hops depth key c
   map-child c place e =
-      let size : wide - (depth + 5) ≡ slotSize depth = omega (arith, f .node .deep) in
+      let size : wide - (depth + 5) ≡ slotSize depth = omega (arith, f .node .at .deep) in
       rw (size, e)

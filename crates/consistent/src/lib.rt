@@ -11,7 +11,7 @@ use words::bits::next_bit;
 use words::bits::with_bit;
 ghost use mathlib.Core.Path.{_≡_};
 ghost use mathlib.Core.Bool.{false, not, _&&_, _||_};
-ghost use Prim.Native.Nat.{ℕ, _-_, _≤_, _<_};
+ghost use Prim.Native.Nat.{ℕ, _-_, _*_, _≤_, _<_};
 ghost use lib.Dec.{eqb, ltb};
 ghost use lib.ListN.{getD};
 ghost use Rattle.words.specs.Bits.{bit};
@@ -72,9 +72,9 @@ pub fn aggregate_consistent_map(
     inherited: u8,
     out: &mut [u8],
 ) -> usize
-    requires { ⌜ Node (now table) lo hi depth key ⌝ }
+    requires { ⌜ Node (now table) lo hi depth (key * 2) ⌝ }
     requires { ⌜ inherited ≤ noHop ⌝ }
-    ensures { λ r. ⌜ Wrote (walk (consistentMapOut wide (run (now (table .entry)) lo hi)) (consistentMapNext wide (run (now (table .entry)) lo hi)) (wide - depth) key (hopOf inherited)) 0 r (now (out .entry)) (now (out .exit)) ⌝ }
+    ensures { λ r. ⌜ Wrote (walk (consistentMapOut wide (run (now (table .entry)) lo hi)) (consistentMapNext wide (run (now (table .entry)) lo hi)) (wide - depth) (key * 2) (hopOf inherited)) 0 r (now (out .entry)) (now (out .exit)) ⌝ }
 {
     let mut first = [0u16; 63];
     let mut end = [0u16; 63];

@@ -25,10 +25,10 @@ use Rattle.words.proofs.PositionLaws.{in-word, Place, above}
 use Rattle.positions.specs.Runs.{inside, sizeAt, placeAt, memberOver}
 use Rattle.positions.proofs.Runs.{Nested, nested-start, throughout-under}
 use Rattle.positions.proofs.RunsNode.{size-slot, above-lt, ownAt, slot-run, level-held, level-covered, halves-covered}
-use Rattle.nodes.specs.Node.{wide, run, slotSize, Node}
+use Rattle.nodes.specs.Node.{bits, wide, run, slotSize, Node}
 use Rattle.gather.specs.Gathered.{runAt, levelOf, Gathered, Occupied}
 use Rattle.gather.proofs.GatherLaws.{node-run, slot-records, no-child, member-is, has-record, slot-vacant, slot-occupied, child-node}
-use Rattle.gather.proofs.GatherPlaces.{in-heap, same-position, level-slot, place-in, place-at}
+use Rattle.gather.proofs.GatherPlaces.{in-heap, index-lt, same-position, level-slot, place-in, place-at}
 use Rattle.gather.proofs.BusySlots.{next-steps}
 use Rattle.gather.proofs.MarkedBits.{Marked, passes-up, marked-none, marked-take, marked-skip, marked-all}
 use Rattle.gather.proofs.MemberLaws.{slot-is}
@@ -56,7 +56,7 @@ module _ {t : List ℕ} {lo hi depth key : ℕ} {first end : List ℕ} {present 
       ≡ coveredIn (slotSize depth) key (run t lo hi) 5 c
   child-covered c lt has =
       let place = placeAt (slotSize depth) key 5 c in
-      let size : sizeAt (slotSize (depth + 5)) 0 ≡ slotSize depth = omega (arith, child-node n g c lt has .deep) in
+      let size : sizeAt (slotSize (depth + 5)) 0 ≡ slotSize depth = omega (arith, child-node n g c lt has .at .deep) in
       let top : placeAt (slotSize (depth + 5)) place 0 0 ≡ place = omega arith in
       ap₂ (throughout (held wide (runAt t first end (31 + c)))) size top
       ∙ ap (λ (u : List Route). throughout (held wide u) (slotSize depth) place) (slot-records g c lt)
@@ -270,16 +270,16 @@ module _ {t : List ℕ} {lo hi depth key : ℕ} {first end : List ℕ} {present 
 
   -- ---- A prefix that lies in the node, by its level and its index there.
 
-  module _ (query len : ℕ) (lens : (depth ≤ len) × (len ≤ 32)) (aligned : Aligned (wide - len) query)
-      (lies : (key ≤ query) × (query < key + 2 ^ (wide - depth))) where
+  module _ (query len : ℕ) (lens : (depth ≤ len) × (len ≤ bits)) (aligned : Aligned (wide - len) query)
+      (lies : In (wide - depth) key query) where
     -- The prefix as a route.
     abbrev asked : Route
     asked = record { addr = query; len = len; hop = 0 }
 
     asked-within : Within wide (wide - depth) key asked
     asked-within =
-        let i : Nested (wide - len) query (wide - depth) key = nested-start (wide - len) query (wide - depth) key (omega arith) aligned (n .aligned) lies in
-        let deep = n .deep in
+        let i : Nested (wide - len) query (wide - depth) key = nested-start (wide - len) query (wide - depth) key (omega arith) aligned (n .at .aligned) lies in
+        let deep = n .at .deep in
         record { low = i .from; high = i .upto; deep = omega arith; short = omega arith; aligned = aligned }
 
     -- Above the slots it is a position.
@@ -287,8 +287,8 @@ module _ {t : List ℕ} {lo hi depth key : ℕ} {first end : List ℕ} {present 
         → throughout (held wide (run t lo hi)) (sizeAt (slotSize depth) l) (placeAt (slotSize depth) key l j)
         ≡ throughout (held wide (run t lo hi)) (wide - len) query
     query-position l j le e q =
-        let z = place-at depth key (n .deep) (n .aligned) asked asked-within l j (omega arith) e q in
-        let deep = n .deep in
+        let z = place-at depth key (n .at .deep) (n .at .aligned) asked asked-within l j (omega arith) e q in
+        let deep = n .at .deep in
         let size : sizeAt (slotSize depth) l ≡ wide - len = omega (arith, z .0) in
         ap₂ (throughout (held wide (run t lo hi))) size (sym (z .1))
 
@@ -296,9 +296,9 @@ module _ {t : List ℕ} {lo hi depth key : ℕ} {first end : List ℕ} {present 
     pub query-nested : (c : ℕ) → levelOf len depth ≡ 5 → (query - key) / 2 ^ sizeAt (slotSize depth) 5 ≡ c
         → Nested (wide - len) query (slotSize depth) (placeAt (slotSize depth) key 5 c)
     query-nested c e q =
-        let deep = n .deep in
+        let deep = n .at .deep in
         let longer : depth + 5 ≤ len = level-slot len depth e in
-        let i : In (sizeAt (slotSize depth) 5) (placeAt (slotSize depth) key 5 c) query = place-in depth key (n .deep) (n .aligned) asked asked-within 5 c .0 q in
+        let i : In (sizeAt (slotSize depth) 5) (placeAt (slotSize depth) key 5 c) query = place-in depth key (n .at .deep) (n .at .aligned) asked asked-within 5 c .0 q in
         let size : 2 ^ sizeAt (slotSize depth) 5 ≡ 2 ^ slotSize depth = ap (λ (k : ℕ). 2 ^ k) (size-slot (slotSize depth)) in
         nested-start (wide - len) query (slotSize depth) (placeAt (slotSize depth) key 5 c) (omega arith) aligned
         (slot-run wide (slotSize depth) key (node-run n) c .aligned) (omega (arith, i, size))
@@ -309,25 +309,28 @@ module _ {t : List ℕ} {lo hi depth key : ℕ} {first end : List ℕ} {present 
 pub record Sought (t : List ℕ) (lo hi depth key query len : ℕ) (first end : List ℕ) (present level b : ℕ) : Type 0 where
   pub node : Node t lo hi depth key
   pub gathered : Gathered t lo hi depth key first end present
-  pub lens : (depth ≤ len) × (len ≤ 32)
+  pub lens : (depth ≤ len) × (len ≤ bits)
   pub aligned : Aligned (wide - len) query
-  pub lies : (key ≤ query) × (query < key + 2 ^ (wide - depth))
+  pub lies : In (wide - depth) key query
   pub leveled : (level ≡ levelOf len depth) × (level ≤ 5)
   pub placed : b ≡ position level ((query - key) / 2 ^ sizeAt (slotSize depth) level)
-  pub few : (query - key) / 2 ^ sizeAt (slotSize depth) level < 2 ^ level
 
 module _ {t : List ℕ} {lo hi depth key query len : ℕ} {first end : List ℕ} {present level b : ℕ}
     (s : Sought t lo hi depth key query len first end present level b) where
+  -- Its index is one of its level's.
+  few : (query - key) / 2 ^ sizeAt (slotSize depth) level < 2 ^ level
+  few = index-lt depth level (query - key) (s .node .at .deep) (s .leveled .1) (omega (arith, s .lies))
+
   -- It is one of the 63 places.
   pub place-lt : b < 63
-  place-lt = rw (s .placed) (in-heap level ((query - key) / 2 ^ sizeAt (slotSize depth) level) (s .leveled .1) (s .few))
+  place-lt = rw (s .placed) (in-heap level ((query - key) / 2 ^ sizeAt (slotSize depth) level) (s .leveled .1) few)
 
   -- A place before 31 is a position, and what is found of the position is found of the prefix.
   pub position-answer : (r : Bool) → b < 31
       → ((l j : ℕ) → l ≤ 4 → j < 2 ^ l → b ≡ position l j → r ≡ throughout (held wide (run t lo hi)) (sizeAt (slotSize depth) l) (placeAt (slotSize depth) key l j))
       → r ≡ throughout (held wide (run t lo hi)) (wide - len) query
   position-answer r h found =
-      found level index le (s .few) (s .placed)
+      found level index le few (s .placed)
       ∙ query-position (s .node) (s .gathered) query len (s .lens) (s .aligned) (s .lies) level index le (sym (s .leveled .0)) refl
     where
       index : ℕ
@@ -347,9 +350,9 @@ module _ {t : List ℕ} {lo hi depth key query len : ℕ} {first end : List ℕ}
       go : (level ≡ 5) ⊎ (level < 5) → (level ≡ 5) × (b - 31 ≡ (query - key) / 2 ^ sizeAt (slotSize depth) 5) × (b - 31 < 32)
       go (inl five) =
           let placed = rw five at (s .placed) in
-          let few = rw five at (s .few) in
+          let small = rw five at few in
           (five, omega arith, omega arith)
-      go (inr lt) = absurd (omega (arith, s .placed, in-word level ((query - key) / 2 ^ sizeAt (slotSize depth) level) (omega arith) (s .few)))
+      go (inr lt) = absurd (omega (arith, s .placed, in-word level ((query - key) / 2 ^ sizeAt (slotSize depth) level) (omega arith) few))
 
   -- with the prefix in it,
   pub slot-nested : 31 ≤ b → Nested (wide - len) query (slotSize depth) (placeAt (slotSize depth) key 5 (b - 31))
@@ -377,10 +380,10 @@ module _ {t : List ℕ} {lo hi depth key query len : ℕ} {first end : List ℕ}
       (child-node (s .node) (s .gathered) (b - 31) (place-slot h .2)) has
 
   pub slot-lies : 31 ≤ b → (depth + 5 ≤ len)
-      × ((placeAt (slotSize depth) key 5 (b - 31) ≤ query) × (query < placeAt (slotSize depth) key 5 (b - 31) + 2 ^ (wide - (depth + 5))))
+      × In (wide - (depth + 5)) (placeAt (slotSize depth) key 5 (b - 31)) query
   slot-lies h =
       let i = slot-nested h in
-      let deep = s .node .deep in
+      let deep = s .node .at .deep in
       let size : wide - (depth + 5) ≡ slotSize depth = omega arith in (
         level-slot len depth (sym (s .leveled .0) ∙ place-slot h .0),
         (i .from, rw size (omega (arith, i .upto, pow-pos (wide - len)))),

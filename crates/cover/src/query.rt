@@ -11,14 +11,14 @@ use words::coverage::fold_coverage;
 use words::coverage::member_coverage;
 ghost use mathlib.Core.Path.{_≡_};
 ghost use mathlib.Core.Bool.{not, _&&_, _||_};
-ghost use Prim.Native.Nat.{ℕ, _+_, _-_, _/_, _^_, _≤_, _<_};
+ghost use Prim.Native.Nat.{ℕ, _-_, _*_, _/_, _^_, _≤_, _<_};
 ghost use lib.Dec.{eqb};
 ghost use Rattle.theory.specs.Routes.{held, Aligned};
-ghost use Rattle.theory.specs.Results.{throughout};
+ghost use Rattle.theory.specs.Results.{In, throughout};
 ghost use Rattle.words.specs.Bits.{bit};
 ghost use Rattle.words.specs.Positions.{position};
 ghost use Rattle.positions.specs.Runs.{sizeAt, placeAt};
-ghost use Rattle.nodes.specs.Node.{wide, run, slotSize, Node};
+ghost use Rattle.nodes.specs.Node.{bits, wide, run, slotSize, Node};
 ghost use Rattle.cover.specs.Coverage.{recordOver};
 
 // The covered slots, with slot c if its child is.
@@ -46,9 +46,9 @@ fn child_cover_mask_for_bit(b: usize) -> u32
 
 // Do the node's members cover position b? Only the slots below it are asked, and none below a member.
 pub fn bit_covered(table: &[u8], lo: u16, hi: u16, depth: usize, key: u64, b: usize) -> bool
-    requires { ⌜ Node (now table) lo hi depth key ⌝ }
+    requires { ⌜ Node (now table) lo hi depth (key * 2) ⌝ }
     requires { ⌜ b < 31 ⌝ }
-    ensures { λ r. ⌜ ((l j : ℕ) → l ≤ 4 → j < 2 ^ l → b ≡ position l j → r ≡ throughout (held wide (run (now (table .entry)) lo hi)) (sizeAt (slotSize depth) l) (placeAt (slotSize depth) key l j)) ⌝ }
+    ensures { λ r. ⌜ ((l j : ℕ) → l ≤ 4 → j < 2 ^ l → b ≡ position l j → r ≡ throughout (held wide (run (now (table .entry)) lo hi)) (sizeAt (slotSize depth) l) (placeAt (slotSize depth) (key * 2) l j)) ⌝ }
 {
     let mut first = [0u16; 63];
     let mut end = [0u16; 63];
@@ -95,16 +95,16 @@ pub fn covers_in_aggregate(
     query: u64,
     len: usize,
 ) -> bool
-    requires { ⌜ Node (now table) lo hi depth key ⌝ }
-    requires { ⌜ (depth ≤ len) × (len ≤ 32) ⌝ }
-    requires { ⌜ Aligned (wide - len) query ⌝ }
-    requires { ⌜ (key ≤ query) × (query < key + 2 ^ (wide - depth)) ⌝ }
-    ensures { λ r. ⌜ r ≡ throughout (held wide (run (now (table .entry)) lo hi)) (wide - len) query ⌝ }
+    requires { ⌜ Node (now table) lo hi depth (key * 2) ⌝ }
+    requires { ⌜ (depth ≤ len) × (len ≤ bits) ⌝ }
+    requires { ⌜ Aligned (wide - len) (query * 2) ⌝ }
+    requires { ⌜ In (wide - depth) (key * 2) (query * 2) ⌝ }
+    ensures { λ r. ⌜ r ≡ throughout (held wide (run (now (table .entry)) lo hi)) (wide - len) (query * 2) ⌝ }
 {
     let mut first = [0u16; 63];
     let mut end = [0u16; 63];
     gather_run(table, lo, hi, depth, key, &mut first, &mut end);
-    let b = heap_index(query, level_of(len, depth), depth, key);
+    let b = heap_index(query, level_of(len, depth), depth);
     if b < 31 {
         if record_over(&first, &end, b) {
             return true;

@@ -25,7 +25,7 @@ use Rattle.positions.specs.Wide.{widened}
 use Rattle.positions.proofs.Runs.{inside-within}
 use Rattle.positions.proofs.RunsNode.{size-slot, place-aligned, above-lt}
 use Rattle.positions.proofs.Wide.{all-widen, table-widen, short-widen}
-use Rattle.nodes.specs.Node.{wide, spare, wideAt, run, slotSize, Node}
+use Rattle.nodes.specs.Node.{bits, reach, wide, spare, wideAt, run, slotSize, Node}
 use Rattle.nodes.proofs.OutputLaws.{slot-within}
 use Rattle.gather.specs.Gathered.{filed, some, runAt, Gathered, Occupied, valueOf, coveringAt}
 use Rattle.gather.proofs.GatherPlaces.{filed-position}
@@ -36,9 +36,9 @@ use Rattle.gather.proofs.GatherRuns.{member-run, run-none, run-first, s
 -- A node's records are a run of its position.
 pub node-run : {t : List ℕ} {lo hi depth key : ℕ} → Node t lo hi depth key → Run wide (slotSize depth + 5) key (run t lo hi)
 node-run {depth} n =
-    let deep = n .deep in
+    let deep = n .at .deep in
     let e : wide - depth ≡ slotSize depth + 5 = omega arith in
-    record { fits = omega arith; aligned = rw e at (n .aligned); table = n .table; within = rw e at (n .within) }
+    record { fits = omega arith; aligned = rw e at (n .at .aligned); table = n .table; within = rw e at (n .within) }
 
 module _ {t : List ℕ} {lo hi depth key : ℕ} {first end : List ℕ} {present : ℕ} (g : Gathered t lo hi depth key first end present) where
   -- Those of a position are the routes that stand at it.
@@ -164,9 +164,8 @@ module _ {t : List ℕ} {lo hi depth key : ℕ} {first end : List ℕ} {present 
         high = ends-in (31 + c) (omega arith);
         level = suc (n .level);
         fives = omega (arith, n .fives);
-        deep = omega (arith, all-member inner one .deep, all-member shorts one, n .fives, n .deep);
-        aligned = rw size base;
-        small = slot-within depth key c (n .deep) lt (n .small);
+        at = record { deep = omega (arith, deeper); aligned = rw size base; small = slot-within depth key c (n .at) lt };
+        within-reach = deeper;
         table = rw (slot-records g c lt) (table-part wide _ (n .table));
         within = rw size inner;
         short = shorts;
@@ -174,7 +173,7 @@ module _ {t : List ℕ} {lo hi depth key : ℕ} {first end : List ℕ} {present 
       }
     where
       size : wide - (depth + 5) ≡ slotSize depth
-      size = omega (arith, n .deep)
+      size = omega (arith, n .at .deep)
 
       base : Aligned (slotSize depth) (placeAt (slotSize depth) key 5 c)
       base =
@@ -186,11 +185,14 @@ module _ {t : List ℕ} {lo hi depth key : ℕ} {first end : List ℕ} {present 
           rw (slot-records g c lt)
           (inside-within wide (slotSize depth) (placeAt (slotSize depth) key 5 c) (omega arith) base (n .table .valid))
 
-      shorts : All (λ r. r .len ≤ 32) (runAt t first end (31 + c))
+      shorts : All (λ r. r .len ≤ bits) (runAt t first end (31 + c))
       shorts = rw (slot-records g c lt) (all-part _ (λ r h e. h) (n .short))
 
       one : Member (wideAt t (getD first (31 + c) 0)) (runAt t first end (31 + c))
       one = member-run t (getD first (31 + c) 0) (getD end (31 + c) 0) (getD first (31 + c) 0) (omega arith) has
+
+      deeper : depth + 5 + 5 ≤ reach
+      deeper = omega (arith, all-member inner one .deep, all-member shorts one, n .fives, n .at .deep)
 
 -- ---- The node of a whole table.
 
@@ -200,21 +202,20 @@ unfolding routes
 root-run t = let e : records t - 0 ≡ records t = omega arith in rw e
 
 -- Those of a table, by hops of the code, are those of a node.
-pub root-node : (t : List ℕ) → Table 32 (routes t) → All (λ r. r .hop < noHop) (routes t) → Node t 0 (records t) 0 0
+pub root-node : (t : List ℕ) → Table bits (routes t) → All (λ r. r .hop < noHop) (routes t) → Node t 0 (records t) 0 0
 root-node t ok hops =
     record {
       low = omega arith;
       high = omega arith;
       level = 0;
       fives = refl;
-      deep = omega arith;
-      aligned = aligned-zero wide;
-      small = omega arith;
+      at = record { deep = omega arith; aligned = aligned-zero wide; small = omega arith };
+      within-reach = omega arith;
       table = rw (root-run t) table;
       within = rw (root-run t) (all-map (valid-within wide) (table .valid));
-      short = rw (root-run t) (short-widen 32 spare (ok .valid));
+      short = rw (root-run t) (short-widen bits spare (ok .valid));
       hops = rw (root-run t) (all-widen spare (λ r h. h) hops);
     }
   where
     table : Table wide (widened spare (routes t))
-    table = table-widen 32 spare ok
+    table = table-widen bits spare ok

@@ -83,7 +83,7 @@ index-in s j y = (
 )
 
 -- An address of a node at this depth has one of the indices of a level.
-pub index-lt : (depth l x : ℕ) → depth ≤ 30 → l ≤ 5 → x < 2 ^ (wide - depth) → x / 2 ^ sizeAt (slotSize depth) l < 2 ^ l
+pub index-lt : (depth l x : ℕ) → depth ≤ 60 → l ≤ 5 → x < 2 ^ (wide - depth) → x / 2 ^ sizeAt (slotSize depth) l < 2 ^ l
 index-lt depth l x deep le lt =
     let e : wide - depth ≡ l + sizeAt (slotSize depth) l = omega arith in
     div-lt-iff-lt-mul (pow-pos (sizeAt (slotSize depth) l)) .1 (rw (e, pow-add 2 l (sizeAt (slotSize depth) l)) at lt)
@@ -111,7 +111,7 @@ filed-position m key l j r lt = rw (lt-ltb l 5 lt)
 filed-slot : (m key l j : ℕ) (r : Route) → l ≡ 5 → filed m key l j r ≡ isIn wide (sizeAt m l) (placeAt m key l j) r
 filed-slot m key l j r e = rw (le-ltb l 5 (omega arith))
 
-module _ (depth key : ℕ) (deep : depth ≤ 30) (aligned : Aligned (wide - depth) key) where
+module _ (depth key : ℕ) (deep : depth ≤ 60) (aligned : Aligned (wide - depth) key) where
   -- The positions of a level start where their size lets them.
   start-aligned : (l j : ℕ) → Aligned (sizeAt (slotSize depth) l) (placeAt (slotSize depth) key l j)
   start-aligned l j =

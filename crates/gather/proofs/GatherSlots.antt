@@ -36,8 +36,8 @@ module _ {t : List ℕ} {lo hi depth key : ℕ} (node : Node t lo hi depth key) 
   same-slot i k b le lt h is slot below =
       let ri = node-within node i le (omega arith) in
       let at : b ≡ position 5 (b - 31) = omega arith in
-      let place = heap-level depth key (node .deep) (node .aligned) (wideAt t i) ri 5 (b - 31) (omega (arith, is, node-heap node i le (omega arith))) (is ∙ at) in
-      slot-next depth key (node .deep) (node .aligned) (wideAt t i) (wideAt t k) ri (node-within node k (omega arith) h) (node-before node i k le lt h)
+      let place = heap-level depth key (node .at .deep) (node .at .aligned) (wideAt t i) ri 5 (b - 31) (omega (arith, is, node-heap node i le (omega arith))) (is ∙ at) in
+      slot-next depth key (node .at .deep) (node .at .aligned) (wideAt t i) (wideAt t k) ri (node-within node k (omega arith) h) (node-before node i k le lt h)
       5 (b - 31) (omega arith) (place .0) (place .1) (omega (arith, below, ap (λ (n : ℕ). 2 ^ n) (size-slot (slotSize depth))))
       ∙ sym at
 

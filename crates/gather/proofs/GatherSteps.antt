@@ -68,13 +68,13 @@ module _ {t : List ℕ} {lo hi depth key : ℕ} (node : Node t lo hi depth key) 
 
   -- It has one of the 63 places.
   pub node-heap : (i : ℕ) → lo ≤ i → i < hi → heapOf depth key (wideAt t i) < 63
-  node-heap i le lt = heap-lt depth key (node .deep) (node .aligned) (wideAt t i) (node-within i le lt)
+  node-heap i le lt = heap-lt depth key (node .at .deep) (node .at .aligned) (wideAt t i) (node-within i le lt)
 
   -- A record between two of one place is of that place.
   node-between : (i j k : ℕ) → lo ≤ i → i < j → j < k → k < hi → heapOf depth key (wideAt t k) ≡ heapOf depth key (wideAt t i)
       → heapOf depth key (wideAt t j) ≡ heapOf depth key (wideAt t i)
   node-between i j k le p q h e =
-      heap-between depth key (node .deep) (node .aligned) (wideAt t i) (wideAt t j) (wideAt t k)
+      heap-between depth key (node .at .deep) (node .at .aligned) (wideAt t i) (wideAt t j) (wideAt t k)
       (node-within i le (omega arith)) (node-within j (omega arith) (omega arith)) (node-within k (omega arith) h)
       (node-before i j le p (omega arith)) (node-before j k (omega arith) q h) e
 
@@ -177,7 +177,7 @@ module _ {t : List ℕ} {lo hi depth key : ℕ} (node : Node t lo hi depth key) 
   module _ {first end : List ℕ} {present : ℕ} (g : Passed t lo hi depth key first end present) where
     filed-here : (l j : ℕ) → l ≤ 5 → j < 2 ^ l → (k : ℕ) → lo ≤ k → k < hi
         → filed (slotSize depth) key l j (wideAt t k) ≡ eqb (heapOf depth key (wideAt t k)) (position l j)
-    filed-here l j le lt k a h = filed-heap depth key (node .deep) (node .aligned) (wideAt t k) (node-within k a h) l j le lt
+    filed-here l j le lt k a h = filed-heap depth key (node .at .deep) (node .at .aligned) (wideAt t k) (node-within k a h) l j le lt
 
     -- The records of a place are a run.
     found : (l j : ℕ) → l ≤ 5 → j < 2 ^ l → runAt t first end (position l j) ≡ part (filed (slotSize depth) key l j) (run t lo hi)

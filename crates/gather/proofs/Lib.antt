@@ -1,4 +1,5 @@
 -- The laws of what a pass over a node's run finds, and of the loops over what it found.
+pub mod Halves
 pub mod GatherPlaces
 pub mod GatherRuns
 pub mod GatherSteps

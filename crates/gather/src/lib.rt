@@ -10,19 +10,20 @@ ghost use Prim.Native.Nat.{ℕ, _+_, _-_, _*_, _/_, _^_, _≤_, _<_};
 ghost use lib.Dec.{eqb};
 ghost use mathlib.Core.Bool.{false, _||_};
 ghost use lib.ListN.{length, getD};
+ghost use Rattle.theory.specs.Results.{In};
 ghost use Rattle.records.specs.Wire.{records};
 ghost use Rattle.words.specs.Bits.{bit};
 ghost use Rattle.words.specs.Positions.{position};
 ghost use Rattle.positions.specs.Runs.{sizeAt, placeAt};
-ghost use Rattle.nodes.specs.Node.{wide, slotSize, wideAt, Node};
+ghost use Rattle.nodes.specs.Node.{wide, slotSize, wideAt, At, Node};
 ghost use Rattle.gather.specs.Gathered.{levelOf, Gathered, Occupied, firstOf, valueOf, overAt, coveringAt};
 
-// The wide address of record i.
-pub fn wide_at(table: &[u8], i: usize) -> u64
+// The address of record i, its first bit on top: half of its wide address.
+pub fn half_at(table: &[u8], i: usize) -> u64
     requires { ⌜ i < records (now table) ⌝ }
-    ensures { λ r. ⌜ (r ≡ wideAt (now (table .entry)) i .addr) × (r < 2 ^ wide) ⌝ }
+    ensures { λ r. ⌜ r * 2 ≡ wideAt (now (table .entry)) i .addr ⌝ }
 {
-    (addr_at(table, i) as u64) * 8
+    (addr_at(table, i) as u64) * 4294967296
 }
 
 // The length of record i.
@@ -35,21 +36,20 @@ pub fn size_at(table: &[u8], i: usize) -> usize
 
 // The level of a length in a node at this depth: 0 to 4 for its positions, 5 for its slots.
 pub fn level_of(len: usize, depth: usize) -> usize
-    requires { ⌜ (depth ≤ 30) × (depth ≤ len) ⌝ }
+    requires { ⌜ (depth ≤ 60) × (depth ≤ len) ⌝ }
     ensures { λ r. ⌜ (r ≡ levelOf len depth) × (r ≤ 5) ⌝ }
 {
     if len < depth + 5 { len - depth } else { 5 }
 }
 
-// The place, in the heap of a node, of the address at a level.
-pub fn heap_index(addr: u64, level: usize, depth: usize, key: u64) -> usize
-    requires { ⌜ (depth ≤ 30) × (level ≤ 5) ⌝ }
-    requires { ⌜ (key ≤ addr) × (addr < key + 2 ^ (wide - depth)) ⌝ }
-    ensures { λ r. ⌜ r ≡ position level ((addr - key) / 2 ^ sizeAt (slotSize depth) level) ⌝ }
-    ensures { λ r. ⌜ (addr - key) / 2 ^ sizeAt (slotSize depth) level < 2 ^ level ⌝ }
+// The place of the address at a level, in the heap of the node at this depth in which it lies. A bit set before the address's own makes the
+// number of the place out of its first bits.
+pub fn heap_index(addr: u64, level: usize, depth: usize) -> usize
+    requires { ⌜ (depth ≤ 60) × (level ≤ 5) ⌝ }
+    ensures { λ r. ⌜ ((key : ℕ) → At depth key → In (wide - depth) key (addr * 2) → r ≡ position level ((addr * 2 - key) / 2 ^ sizeAt (slotSize depth) level)) ⌝ }
+    ensures { λ r. ⌜ r < 63 ⌝ }
 {
-    let below = 35 - depth - level;
-    (1 << level) - 1 + (((addr - key) >> below) as usize)
+    (((9223372036854775808 + ((addr << depth) >> 1)) >> (63 - level)) - 1) as usize
 }
 
 // Where the records of a place begin, once record i is one of them.
@@ -84,19 +84,18 @@ pub fn with_slot(occupied: u32, b: usize) -> u32
     }
 }
 
-// The first of the records i..hi that stands at the wide address `past` or after it; hi where none does. The addresses are compared with the
-// narrow limit, which is quicker than widening each.
-pub fn first_past(table: &[u8], i: usize, hi: usize, past: u64) -> usize
+// The first of the records i..hi that stands after the address `last`; hi where none does. The addresses are compared as the table has them,
+// which is quicker than moving each up.
+pub fn first_past(table: &[u8], i: usize, hi: usize, last: u64) -> usize
     requires { ⌜ (i ≤ hi) × (hi ≤ records (now table)) ⌝ }
-    requires { ⌜ past ≤ 2 ^ 36 ⌝ }
     ensures { λ r. ⌜ (i ≤ r) × (r ≤ hi) ⌝ }
-    ensures { λ r. ⌜ ((k : ℕ) → i ≤ k → k < r → wideAt (now (table .entry)) k .addr < past) ⌝ }
-    ensures { λ r. ⌜ (r < hi → past ≤ wideAt (now (table .entry)) r .addr) ⌝ }
+    ensures { λ r. ⌜ ((k : ℕ) → i ≤ k → k < r → wideAt (now (table .entry)) k .addr ≤ last * 2) ⌝ }
+    ensures { λ r. ⌜ (r < hi → last * 2 < wideAt (now (table .entry)) r .addr) ⌝ }
 {
-    let limit = (past + 7) / 8;
+    let limit = (last >> 32) as u32;
     let mut at = i;
     while at < hi {
-        if limit <= addr_at(table, at) as u64 {
+        if limit < addr_at(table, at) {
             return at;
         }
         at += 1;
@@ -107,20 +106,15 @@ pub fn first_past(table: &[u8], i: usize, hi: usize, past: u64) -> usize
 // Where the records of place b end, record i being its first: a slot has all that stand before its end, a position that one.
 pub fn place_end(table: &[u8], i: usize, hi: usize, b: usize, depth: usize, key: u64) -> usize
     requires { ⌜ (i < hi) × (hi ≤ records (now table)) ⌝ }
-    requires { ⌜ (b < 63) × ((depth ≤ 30) × (key + 2 ^ (wide - depth) ≤ 2 ^ wide)) ⌝ }
+    requires { ⌜ (b < 63) × At depth (key * 2) ⌝ }
     ensures { λ r. ⌜ (i < r) × (r ≤ hi) ⌝ }
-    ensures { λ r. ⌜ ((k : ℕ) → i < k → k < r → (31 ≤ b) × (wideAt (now (table .entry)) k .addr < placeAt (slotSize depth) key 5 (b - 31) + 2 ^ slotSize depth)) ⌝ }
-    ensures { λ r. ⌜ (r < hi → 31 ≤ b → placeAt (slotSize depth) key 5 (b - 31) + 2 ^ slotSize depth ≤ wideAt (now (table .entry)) r .addr) ⌝ }
+    ensures { λ r. ⌜ ((k : ℕ) → i < k → k < r → (31 ≤ b) × (wideAt (now (table .entry)) k .addr < placeAt (slotSize depth) (key * 2) 5 (b - 31) + 2 ^ slotSize depth)) ⌝ }
+    ensures { λ r. ⌜ (r < hi → 31 ≤ b → placeAt (slotSize depth) (key * 2) 5 (b - 31) + 2 ^ slotSize depth ≤ wideAt (now (table .entry)) r .addr) ⌝ }
 {
     if b < 31 {
         i + 1
     } else {
-        first_past(
-            table,
-            i + 1,
-            hi,
-            slot_key(key, depth, b - 31) + (1 << (30 - depth)),
-        )
+        first_past(table, i + 1, hi, slot_last(key, depth, b - 31))
     }
 }
 
@@ -141,11 +135,11 @@ pub fn gather_run(
     first: &mut [u16; 63],
     end: &mut [u16; 63],
 ) -> Gathering
-    requires { ⌜ Node (now table) lo hi depth key ⌝ }
+    requires { ⌜ Node (now table) lo hi depth (key * 2) ⌝ }
     requires { ⌜ (length (now first) ≡ 63) × (length (now end) ≡ 63) ⌝ }
     requires { ⌜ ((b : ℕ) → b < 63 → (getD (now first) b 0 ≡ 0) × (getD (now end) b 0 ≡ 0)) ⌝ }
-    ensures { λ r. ⌜ Gathered (now (table .entry)) lo hi depth key (now (first .exit)) (now (end .exit)) (r .present) ⌝ }
-    ensures { λ r. ⌜ Occupied (now (table .entry)) lo hi depth key (r .occupied) ⌝ }
+    ensures { λ r. ⌜ Gathered (now (table .entry)) lo hi depth (key * 2) (now (first .exit)) (now (end .exit)) (r .present) ⌝ }
+    ensures { λ r. ⌜ Occupied (now (table .entry)) lo hi depth (key * 2) (r .occupied) ⌝ }
 {
     let mut present: u32 = 0;
     let mut occupied: u32 = 0;
@@ -153,7 +147,7 @@ pub fn gather_run(
     let mut i = lo as usize;
     while i < upto {
         let level = level_of(size_at(table, i), depth);
-        let b = heap_index(wide_at(table, i), level, depth, key);
+        let b = heap_index(half_at(table, i), level, depth);
         let stop = place_end(table, i, upto, b, depth, key);
         first[b] = first_of(first[b], end[b], i as u16);
         end[b] = stop as u16;
@@ -216,10 +210,19 @@ pub fn covering_hops(
     covering_values(table, first, end, inherited)
 }
 
-// The wide address of slot c.
+// The address of slot c: half of its wide address. At depth 60 two slots have one.
 pub fn slot_key(key: u64, depth: usize, c: usize) -> u64
-    requires { ⌜ (depth ≤ 30) × ((c < 32) × (key + 2 ^ (wide - depth) ≤ 2 ^ wide)) ⌝ }
-    ensures { λ r. ⌜ r ≡ placeAt (slotSize depth) key 5 c ⌝ }
+    requires { ⌜ (c < 32) × At depth (key * 2) ⌝ }
+    ensures { λ r. ⌜ r ≡ placeAt (slotSize depth) (key * 2) 5 c / 2 ⌝ }
+    ensures { λ r. ⌜ (depth < 60 → r * 2 ≡ placeAt (slotSize depth) (key * 2) 5 c) ⌝ }
 {
-    key + ((c as u64) << (30 - depth))
+    key + (((c as u64) << 59) >> depth)
+}
+
+// The last address of slot c: half of its last wide address.
+fn slot_last(key: u64, depth: usize, c: usize) -> u64
+    requires { ⌜ (c < 32) × At depth (key * 2) ⌝ }
+    ensures { λ r. ⌜ r ≡ (placeAt (slotSize depth) (key * 2) 5 c + 2 ^ slotSize depth - 1) / 2 ⌝ }
+{
+    slot_key(key, depth, c) + (576460752303423487u64 >> depth)
 }

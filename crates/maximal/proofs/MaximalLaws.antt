@@ -150,7 +150,7 @@ module _ {t : List ℕ} {lo hi depth key : ℕ} {first end : List ℕ} {present 
       → coveredAt (held wide (runAt t first end (31 + c))) (slotSize (depth + 5)) (placeAt (slotSize depth) key 5 c) 0 0 ≡ here 5 c
   child-here c lt has free =
       let place = placeAt (slotSize depth) key 5 c in
-      let size : sizeAt (slotSize (depth + 5)) 0 ≡ slotSize depth = omega (arith, child-node n g c lt has .deep) in
+      let size : sizeAt (slotSize (depth + 5)) 0 ≡ slotSize depth = omega (arith, child-node n g c lt has .at .deep) in
       let top : placeAt (slotSize (depth + 5)) place 0 0 ≡ place = omega arith in
       ap₂ (throughout (held wide (runAt t first end (31 + c)))) size top
       ∙ sym (ap (λ (o : Bool). o || throughout (held wide (runAt t first end (31 + c))) (slotSize depth) place) (record-over-slot n g c lt ∙ free))
@@ -298,7 +298,7 @@ module _ {t : List ℕ} {lo hi depth key : ℕ} {first end : List ℕ} {present 
       → entryAt entries hops depth key l j
       ≡ maximalOut wide (held wide (run t lo hi)) (sizeAt (slotSize depth) l) (placeAt (slotSize depth) key l j) (state l j)
   entry-is e hops bare l j le lt =
-      let len : wide - sizeAt (slotSize depth) l ≡ depth + l = omega (arith, n .deep) in
+      let len : wide - sizeAt (slotSize depth) l ≡ depth + l = omega (arith, n .at .deep) in
       rw (entry-bit e l j le lt, bare (position l j) (in-word l j le lt), ← len)
       (listed (prefix wide (sizeAt (slotSize depth) l) (placeAt (slotSize depth) key l j)) (state l j) (here n g l j))
     where
@@ -345,7 +345,7 @@ module _ {t : List ℕ} {lo hi depth key : ℕ} {first end : List ℕ} {present 
         → maximalWalk (run t lo hi) (wide - depth) key above
         ≡ slots (entryAt entries hops depth key) (maximalSlot t depth key above first end pushed) 32
     maximal-slots {entries} e hops bare =
-        let size : wide - depth ≡ slotSize depth + 5 = omega (arith, n .deep) in
+        let size : wide - depth ≡ slotSize depth + 5 = omega (arith, n .at .deep) in
         rw size (walk-slots (maximalOut wide (held wide (run t lo hi))) (maximalNext (held wide (run t lo hi))) (slotSize depth) key above
         ∙ slots-agree 5 _ (entryAt entries hops depth key) (λ l j lt small. sym (entry-is e hops bare l j (omega arith) small)) _ _ slot-walk 32 (le-refl 32))
 

@@ -85,7 +85,7 @@ module _ {t : List ℕ} {lo hi depth key : ℕ} {first end : List ℕ} {present 
       let nodes = nodesBelow (nodesDeep (depth + 5)) in
       let all = slot-nodes-le nodes (slotSize depth) key (run t lo hi) (openRoutes t lo hi depth key) (uncovered-selects (slotSize depth) key (run t lo hi)) 32 in
       let enough : 160 * (1 + slotNodes wide nodes (slotSize depth) key (run t lo hi) 32) ≤ top =
-      rw (nodes-below-deep depth (s .node .level) key (run t lo hi) (s .node .fives) (s .node .deep)) at (room .0) in
+      rw (nodes-below-deep depth (s .node .level) key (run t lo hi) (s .node .fives) (s .node .at .deep)) at (room .0) in
       record {
         opened = s;
         bound = omega arith;
@@ -182,7 +182,7 @@ module _ {t : List ℕ} {lo hi depth key : ℕ} {first end : List ℕ} {present 
           is,
           record {
             words = l .0;
-            block = block-by-deep uncovered coverageWord key (run t lo hi) (l .0) depth (s .node .level) (s .node .fives) (s .node .deep) .1 (l .1);
+            block = block-by-deep uncovered coverageWord key (run t lo hi) (l .0) depth (s .node .level) (s .node .fives) (s .node .at .deep) .1 (l .1);
             pushed = l .2;
           },
         )
@@ -265,7 +265,7 @@ module _ {t : List ℕ} {lo hi depth key : ℕ} {above : Bool} {o : List ℕ} {t
       → length (slots (entryAt entries hops depth key) (maximalSlot t depth key above first end pushed) 32) ≤ hi - lo
   found-most f =
       let n = f .opened .node in
-      let size : wide - depth ≡ slotSize depth + 5 = omega (arith, n .deep) in
+      let size : wide - depth ≡ slotSize depth + 5 = omega (arith, n .at .deep) in
       omega (arith, rw size at (ap length (found-slots f)), maximal-few (node-run n) above, run-length t lo hi)
 
   -- What the walk of a slot's node wrote is what it puts out at the slot.
@@ -274,7 +274,7 @@ module _ {t : List ℕ} {lo hi depth key : ℕ} {above : Bool} {o : List ℕ} {t
       → Wrote (maximalWalk (runAt t first end (31 + c)) (wide - (depth + 5)) addr gone) 0 k xs ys
       → Wrote (maximalSlot t depth key above first end pushed c) 0 k xs ys
   slot-wrote f c place is own =
-      let size : wide - (depth + 5) ≡ slotSize depth = omega (arith, f .opened .node .deep) in
+      let size : wide - (depth + 5) ≡ slotSize depth = omega (arith, f .opened .node .at .deep) in
       rw (size, is, place) at own
 
   -- So the walk may go on to the next that is busy.

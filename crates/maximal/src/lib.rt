@@ -45,10 +45,10 @@ pub fn collect_coverage(
     work: &mut [u32],
     top: usize,
 ) -> Covered
-    requires { ⌜ Node (now table) lo hi depth key ⌝ }
-    requires { ⌜ (160 * nodesBelow (nodesDeep depth) key (run (now table) lo hi) ≤ top) × (top ≤ length (now work)) ⌝ }
-    ensures { λ r. ⌜ IsCoverage (slotSize depth) key (run (now (table .entry)) lo hi) (r .coverage) ⌝ }
-    ensures { λ r. ⌜ LaidBy uncovered coverageWord (nodesDeep depth) key (run (now (table .entry)) lo hi) top (r .top) (now (work .entry)) (now (work .exit)) ⌝ }
+    requires { ⌜ Node (now table) lo hi depth (key * 2) ⌝ }
+    requires { ⌜ (160 * nodesBelow (nodesDeep depth) (key * 2) (run (now table) lo hi) ≤ top) × (top ≤ length (now work)) ⌝ }
+    ensures { λ r. ⌜ IsCoverage (slotSize depth) (key * 2) (run (now (table .entry)) lo hi) (r .coverage) ⌝ }
+    ensures { λ r. ⌜ LaidBy uncovered coverageWord (nodesDeep depth) (key * 2) (run (now (table .entry)) lo hi) top (r .top) (now (work .entry)) (now (work .exit)) ⌝ }
 {
     let mut first = [0u16; 63];
     let mut end = [0u16; 63];
@@ -121,10 +121,10 @@ pub fn aggregate_set(
     top: usize,
     out: &mut [u8],
 ) -> Walked
-    requires { ⌜ Node (now table) lo hi depth key ⌝ }
-    requires { ⌜ StoredBy uncovered coverageWord (nodesDeep depth) key (run (now table) lo hi) top (now work) ⌝ }
-    ensures { λ r. ⌜ ((ws : List ℕ) → BlockBy uncovered coverageWord (nodesDeep depth) key (run (now (table .entry)) lo hi) ws → Begins ws top (now (work .entry)) → r .top ≡ top + length ws) ⌝ }
-    ensures { λ r. ⌜ Wrote (walk (maximalOut wide (held wide (run (now (table .entry)) lo hi))) (maximalNext (held wide (run (now (table .entry)) lo hi))) (wide - depth) key above) 0 (r .count) (now (out .entry)) (now (out .exit)) ⌝ }
+    requires { ⌜ Node (now table) lo hi depth (key * 2) ⌝ }
+    requires { ⌜ StoredBy uncovered coverageWord (nodesDeep depth) (key * 2) (run (now table) lo hi) top (now work) ⌝ }
+    ensures { λ r. ⌜ ((ws : List ℕ) → BlockBy uncovered coverageWord (nodesDeep depth) (key * 2) (run (now (table .entry)) lo hi) ws → Begins ws top (now (work .entry)) → r .top ≡ top + length ws) ⌝ }
+    ensures { λ r. ⌜ Wrote (walk (maximalOut wide (held wide (run (now (table .entry)) lo hi))) (maximalNext (held wide (run (now (table .entry)) lo hi))) (wide - depth) (key * 2) above) 0 (r .count) (now (out .entry)) (now (out .exit)) ⌝ }
 {
     let mut first = [0u16; 63];
     let mut end = [0u16; 63];

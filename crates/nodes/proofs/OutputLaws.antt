@@ -9,18 +9,18 @@ use native.Mathlib.Nat.{add-zero, mul-comm, mul-assoc, div-add-mod'}
 use native.Mathlib.Numerals.{add-one}
 use lib.Dec.{eqb}
 use lib.ListN.{length, take, drop, length-append, length-take, length-drop}
-use lib.Pow.{pow-pos, pow-add}
+use lib.Pow.{pow-add, shr-shr}
 use borrow.Author.Tests.{eqb-true}
 use Rattle.theory.specs.Routes.{Route}
-use Rattle.records.specs.Wire.{recordOf, bytesOf, laid}
+use Rattle.records.specs.Wire.{recordOf, bytesOf, laid, route}
 use Rattle.records.proofs.Laid.{laid-none, laid-then, laid-lent, bytes-append}
 use Rattle.records.proofs.Written.{length-bytes}
 use Rattle.positions.specs.Runs.{sizeAt, placeAt}
 use Rattle.positions.specs.Walk.{headsOf, slotsOf, startsAt, heads, slots}
-use Rattle.positions.specs.Wide.{narrow, narrowed}
+use Rattle.positions.specs.Wide.{narrowed}
 use Rattle.positions.proofs.RunsNode.{place-nested}
 use Rattle.positions.proofs.Wide.{narrowed-append, length-narrow}
-use Rattle.nodes.specs.Node.{wide, spare, slotSize}
+use Rattle.nodes.specs.Node.{bits, wide, spare, slotSize, At}
 use Rattle.nodes.specs.Output.{wireOf, Wrote, entryAt, slotHead, slotHeads}
 
 -- ---- The bytes of routes.
@@ -77,10 +77,17 @@ wrote-tail {rs} {done} {k} o ys at here within p =
     let n : length (take (length o - at) (drop at o)) ≡ length o - at = simp (length-take, length-drop) (omega arith) in
     rw (wrote-laid p (omega arith)) (laid-lent at 0 (wireOf rs) o within ∙ rw (add-zero at, s)))
 
--- One record at the start of the output, which is counted where there is no room for it too.
-pub wrote-record : (r : Route) (o o′ : List ℕ) → (8 ≤ length o → o′ ≡ laid 0 (recordOf (narrow spare r)) o) → Wrote (r ∷ []) 0 1 o o′
+-- The table's bits of a wide address are those of its half, as the code has it.
+narrow-half : (a half : ℕ) → a / 2 ≡ half → a / 2 ^ spare ≡ half / 2 ^ (64 - bits)
+narrow-half a half e =
+    let z : 1 + (64 - bits) ≡ spare = omega arith in
+    ap (λ (k : ℕ). a / 2 ^ k) (sym z) ∙ sym (shr-shr a 1 (64 - bits)) ∙ ap (λ (k : ℕ). k / 2 ^ (64 - bits)) e
+
+-- One record at the start of the output, by the half of its wide address; it is counted where there is no room for it too.
+pub wrote-record : (half len hop : ℕ) (o o′ : List ℕ) → (8 ≤ length o → o′ ≡ laid 0 (recordOf (route (half / 2 ^ (64 - bits)) len hop)) o)
+    → (a : ℕ) → a / 2 ≡ half → Wrote (route a len hop ∷ []) 0 1 o o′
 unfolding bytesOf
-wrote-record r o o′ e = wrote-from refl (λ fits. e (omega arith))
+wrote-record half len hop o o′ e a is = wrote-from refl (λ fits. rw (narrow-half a half is) (e (omega arith)))
 
 -- All that is written, where it fits: the routes' bytes, and what stood after them.
 pub wrote-whole : {rs : List Route} {k : ℕ} {o o′ : List ℕ} → Wrote rs 0 k o o′ → k * 8 ≤ length o
@@ -118,17 +125,13 @@ module _ (entries : ℕ) (hops : List ℕ) (depth key c : ℕ) where
   slot-heads zero = refl
   slot-heads (suc l) = ap₂ _++_ (slot-heads l) (slot-head l)
 
--- A slot of a node lies in the wide addresses,
-pub slot-within : (depth key c : ℕ) → depth ≤ 30 → c < 32 → key + 2 ^ (wide - depth) ≤ 2 ^ wide
-    → placeAt (slotSize depth) key 5 c + 2 ^ (wide - (depth + 5)) ≤ 2 ^ wide
-slot-within depth key c deep lt h =
+-- A slot of a node lies in the wide addresses.
+pub slot-within : (depth key c : ℕ) → At depth key → c < 32 → placeAt (slotSize depth) key 5 c + 2 ^ (wide - (depth + 5)) ≤ 2 ^ wide
+slot-within depth key c at lt =
+    let deep = at .deep in
     let whole : 2 ^ (slotSize depth + 5) ≡ 2 ^ (wide - depth) = ap (λ (k : ℕ). 2 ^ k) (omega arith) in
     let size : 2 ^ sizeAt (slotSize depth) 5 ≡ 2 ^ (wide - (depth + 5)) = ap (λ (k : ℕ). 2 ^ k) (omega arith) in
-    omega (arith, place-nested (slotSize depth) key 5 c (omega arith) lt .upto)
-
--- so it stands at one.
-pub slot-below : (depth key c : ℕ) → depth ≤ 30 → c < 32 → key + 2 ^ (wide - depth) ≤ 2 ^ wide → placeAt (slotSize depth) key 5 c < 2 ^ wide
-slot-below depth key c deep lt h = omega (arith, slot-within depth key c deep lt h, pow-pos (wide - (depth + 5)))
+    omega (arith, at .small, place-nested (slotSize depth) key 5 c (omega arith) lt .upto)
 
 -- ---- A node written by its slots.
 

@@ -47,15 +47,16 @@ module _ {entries : ℕ} {hops : List ℕ} {depth key : ℕ} {slot : ℕ → Lis
   walked-none o = record { within = omega arith; sized = refl; wrote = rw slots-zero (wrote-none 0 o) }
 
   -- The entries that begin at the next slot, on the tail that was lent for them.
-  pub begun : {c n at e addr : ℕ} {o o′ ys : List ℕ} → Walked entries hops depth key slot c n o o′ → c < 32 → Past n at o′
-      → addr ≡ placeAt (slotSize depth) key 5 c → Wrote (slotHeads entries hops depth addr c 5) 0 e (lent at o′) ys
+  pub begun : {c n at e half : ℕ} {o o′ ys : List ℕ} → Walked entries hops depth key slot c n o o′ → c < 32 → Past n at o′
+      → half ≡ placeAt (slotSize depth) key 5 c / 2
+      → ((a : ℕ) → a / 2 ≡ half → Wrote (slotHeads entries hops depth a c 5) 0 e (lent at o′) ys)
       → length (relaid at ys o′) ≡ length o′ → Begun entries hops depth key slot c (n + e) o (relaid at ys o′)
-  begun {c} {n} {at} {e} {addr} {o} {o′} {ys} w lt past is heads same =
+  begun {c} {n} {at} {e} {half} {o} {o′} {ys} w lt past is heads same =
       record {
         within = lt;
         sized = same ∙ w .sized;
         then = λ k o″ own. slots-more entries hops depth key slot c (w .wrote) (w .sized)
-            (wrote-tail o′ ys at (past .1) (past .0) (rw is at heads)) same own;
+            (wrote-tail o′ ys at (past .1) (past .0) (heads (placeAt (slotSize depth) key 5 c) (sym is))) same own;
       }
 
   -- With the slot's own they are no more than the node's.

@@ -78,7 +78,7 @@ abbrev pub NodeBlock : (ℕ → ℕ → List Route → List ℕ → Type 0) → 
 NodeBlock own block m a t ws = (u : List ℕ) × (v : List ℕ) × (ws ≡ u ++ v) × own m a t u × SlotBlocks block m a t 32 v
 
 -- From one depth to the next: one node less, and its slots of that size.
-pub deep-step : (depth level : ℕ) → depth ≡ level * 5 → depth ≤ 30
+pub deep-step : (depth level : ℕ) → depth ≡ level * 5 → depth ≤ 60
     → (nodesDeep depth ≡ suc (nodesDeep (depth + 5))) × (5 * nodesDeep (depth + 5) ≡ slotSize depth)
 deep-step depth level e le = omega arith
 
@@ -89,7 +89,7 @@ module _ (deeper : ℕ → ℕ → List Route → List Route) (own : ℕ → ℕ
   block-by-node k = (λ b. b, λ b. b)
 
   -- The same of a node at this depth.
-  pub block-by-deep : (depth level : ℕ) → depth ≡ level * 5 → depth ≤ 30
+  pub block-by-deep : (depth level : ℕ) → depth ≡ level * 5 → depth ≤ 60
       → BlockBy deeper own (nodesDeep depth) a t ws
       ↔ NodeBlock (λ m b s. own m b t) (BlockBy deeper own (nodesDeep (depth + 5))) (slotSize depth) a (deeper (slotSize depth) a t) ws
   block-by-deep depth level e le =
@@ -97,7 +97,7 @@ module _ (deeper : ℕ → ℕ → List Route → List Route) (own : ℕ → ℕ
       rw (d .0, ← d .1) (block-by-node (nodesDeep (depth + 5)))
 
 -- The same where all slots are walked.
-pub block-deep : (own : ℕ → ℕ → List Route → List ℕ → Type 0) (a : ℕ) (t : List Route) (ws : List ℕ) (depth level : ℕ) → depth ≡ level * 5 → depth ≤ 30
+pub block-deep : (own : ℕ → ℕ → List Route → List ℕ → Type 0) (a : ℕ) (t : List Route) (ws : List ℕ) (depth level : ℕ) → depth ≡ level * 5 → depth ≤ 60
     → Block own (nodesDeep depth) a t ws ↔ NodeBlock own (Block own (nodesDeep (depth + 5))) (slotSize depth) a t ws
 block-deep own = block-by-deep everywhere own
 

@@ -10,14 +10,14 @@ use Rattle.nodecount.specs.Nodes.{levels, nodes}
 use Rattle.nodecount.proofs.NodeRuns.{nodes-runs}
 use Rattle.nodecount.proofs.NodesWide.{nodes-widen}
 use Rattle.positions.proofs.Wide.{all-widen, valid-widen}
-use Rattle.nodes.specs.Node.{wide, spare, run}
+use Rattle.nodes.specs.Node.{bits, wide, spare, run}
 use Rattle.nodes.specs.Room.{nodesBelow}
 
--- The walk goes 7 nodes deep: no record of the wire has a node deeper than at depth 30.
-pub nodes-below : (t : List ℕ) → All (Valid 32) (routes t) → nodesBelow 7 0 (run t 0 (records t)) ≡ nodes 32 (routes t)
+-- The walk goes 13 nodes deep: no table has a node deeper than at depth 60.
+pub nodes-below : (t : List ℕ) → All (Valid bits) (routes t) → nodesBelow 13 0 (run t 0 (records t)) ≡ nodes bits (routes t)
 unfolding routes
 nodes-below t valid =
     rw (sub-zero (records t))
-    (nodes-runs wide 6 (all-widen spare (valid-widen 32 spare) valid) (omega arith)
-    (all-widen spare (λ r v. (let j : levels r ≤ 6 = omega (arith, v .short) in j)) valid)
-    ∙ nodes-widen 32 spare valid)
+    (nodes-runs wide 12 (all-widen spare (valid-widen bits spare) valid) (omega arith)
+    (all-widen spare (λ r v. (let j : levels r ≤ 12 = omega (arith, v .short) in j)) valid)
+    ∙ nodes-widen bits spare valid)

@@ -40,7 +40,7 @@ unfolding nodesIn
 nodes-below-next k a t = let size : 5 * suc k - 5 ≡ 5 * k = omega arith in rw size
 
 -- The same of a node at this depth.
-pub nodes-below-deep : (depth level a : ℕ) (t : List Route) → depth ≡ level * 5 → depth ≤ 30
+pub nodes-below-deep : (depth level a : ℕ) (t : List Route) → depth ≡ level * 5 → depth ≤ 60
     → nodesBelow (nodesDeep depth) a t ≡ 1 + slotNodes wide (nodesBelow (nodesDeep (depth + 5))) (slotSize depth) a t 32
 nodes-below-deep depth level a t e le =
     let d = deep-step depth level e le in

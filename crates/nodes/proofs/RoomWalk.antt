@@ -74,7 +74,7 @@ own-first : (deeper : ℕ → ℕ → List Route → List Route) (own : ℕ → 
     × SlotsAhead (BlockBy deeper own (nodesDeep (depth + 5))) (slotSize depth) key (deeper (slotSize depth) key (run t lo hi)) 0 (top + length u)
     (top + length ws) o
 own-first deeper own {t} {lo} {hi} {depth} {key} top o n ws b i =
-    let p = block-by-deep deeper own key (run t lo hi) ws depth (n .level) (n .fives) (n .deep) .0 b in
+    let p = block-by-deep deeper own key (run t lo hi) ws depth (n .level) (n .fives) (n .at .deep) .0 b in
     let q = parts-ahead (BlockBy deeper own (nodesDeep (depth + 5))) (slotSize depth) key (deeper (slotSize depth) key (run t lo hi)) (p .0) (p .1) 0 top (p .2) i refl (p .4) in
     (p .0, p .3, q .0, q .1)
 

@@ -1,5 +1,5 @@
 -- A node as a run of a table's records, at wide addresses.
-use Prim.Native.Nat.{ℕ, _+_, _-_, _*_, _^_, _≤_, _<_}
+use Prim.Native.Nat.{ℕ, _+_, _-_, _*_, _/_, _^_, _≤_, _<_}
 use mathlib.Core.Path.{_≡_}
 use mathlib.Core.List.{List}
 use Rattle.theory.specs.Routes.{Route, All, Table, Aligned}
@@ -8,12 +8,19 @@ use Rattle.records.specs.Wire.{records, routesFrom, routeAt}
 use Rattle.positions.specs.Runs.{noHop}
 use Rattle.positions.specs.Wide.{widen, widened}
 
--- The width of a wide address, and how many bits it has more than an address of the wire.
+-- The width of an address of the table, and how many bits down the slots of its deepest node lie.
+abbrev pub bits : ℕ
+bits = 32
+
+abbrev pub reach : ℕ
+reach = bits / 5 * 5 + 5
+
+-- The width of a wide address, and how many bits it has more than one of the table. In code an address is half of the wide one.
 abbrev pub wide : ℕ
-wide = 35
+wide = 65
 
 abbrev pub spare : ℕ
-spare = 3
+spare = wide - bits
 
 -- Record i as a wide route.
 abbrev pub wideAt : List ℕ → ℕ → Route
@@ -25,18 +32,23 @@ run t lo hi = widened spare (routesFrom t lo (hi - lo))
 
 -- The size of a slot of a node at this depth: the bits below it.
 abbrev pub slotSize : ℕ → ℕ
-slotSize depth = 30 - depth
+slotSize depth = 60 - depth
 
--- The records lo..hi are those of a node at a depth of 0, 5, .. 30 and a key: in order, inside it, of lengths up to 32, by hops.
+-- A node may stand at this depth and key.
+pub record At (depth key : ℕ) : Type 0 where
+  pub deep : depth ≤ 60
+  pub aligned : Aligned (wide - depth) key
+  pub small : key + 2 ^ (wide - depth) ≤ 2 ^ wide
+
+-- The records lo..hi are those of a node at a depth of 0, 5, .. and a key: in order, inside it, of a table's lengths, by hops.
 pub record Node (t : List ℕ) (lo hi depth key : ℕ) : Type 0 where
   pub low : lo ≤ hi
   pub high : hi ≤ records t
   pub level : ℕ
   pub fives : depth ≡ level * 5
-  pub deep : depth ≤ 30
-  pub aligned : Aligned (wide - depth) key
-  pub small : key + 2 ^ (wide - depth) ≤ 2 ^ wide
+  pub at : At depth key
+  pub within-reach : depth + 5 ≤ reach
   pub table : Table wide (run t lo hi)
   pub within : All (Within wide (wide - depth) key) (run t lo hi)
-  pub short : All (λ r. r .len ≤ 32) (run t lo hi)
+  pub short : All (λ r. r .len ≤ bits) (run t lo hi)
   pub hops : All (λ r. r .hop < noHop) (run t lo hi)

@@ -54,7 +54,7 @@ Block own = BlockBy everywhere own
 
 -- How many nodes deep the node at this depth still goes, itself included.
 abbrev pub nodesDeep : ℕ → ℕ
-nodesDeep depth = 7 - depth / 5
+nodesDeep depth = 13 - depth / 5
 
 -- The nodes from the node (5 * k, a) down that the routes t have, itself included.
 abbrev pub nodesBelow : ℕ → ℕ → List Route → ℕ

@@ -6,20 +6,19 @@ use words::bits::has_bit;
 use words::bits::next_bit;
 use words::bits::with_bit;
 ghost use mathlib.Core.Path.{_≡_};
-ghost use Prim.Native.Nat.{ℕ, _+_, _-_, _*_, _%_, _^_, _≤_, _<_};
+ghost use Prim.Native.Nat.{ℕ, _+_, _-_, _*_, _/_, _%_, _^_, _≤_, _<_};
 ghost use mathlib.Core.List.{[], _∷_};
 ghost use lib.Dec.{eqb, leb};
 ghost use Rattle.records.specs.Wire.{route};
 ghost use Rattle.words.specs.Positions.{position};
-ghost use Rattle.nodes.specs.Node.{wide};
 ghost use Rattle.nodes.specs.Output.{Wrote, slotHead, slotHeads, HeadSlots};
 
-// Writes one record at the start of the output, if there is room for it.
+// Writes one record at the start of the output, if there is room for it: that of each wide address whose half is in hand.
 pub fn put(out: &mut [u8], addr: u64, len: usize, hop: u8)
-    requires { ⌜ (addr < 2 ^ wide) × (len < 256) ⌝ }
-    ensures { λ _. ⌜ Wrote (route addr len hop ∷ []) 0 1 (now (out .entry)) (now (out .exit)) ⌝ }
+    requires { ⌜ len < 256 ⌝ }
+    ensures { λ _. ⌜ ((a : ℕ) → a / 2 ≡ addr → Wrote (route a len hop ∷ []) 0 1 (now (out .entry)) (now (out .exit))) ⌝ }
 {
-    put_record(out, (addr / 8) as u32, len as u8, hop);
+    put_record(out, (addr >> 32) as u32, len as u8, hop);
 }
 
 // Writes the entry of the position of level l that begins at slot c, after `done` records, if one does and has an entry.
@@ -33,10 +32,10 @@ fn emit_level(
     done: usize,
     out: &mut [u8],
 ) -> usize
-    requires { ⌜ (c < 32) × ((l < 5) × (depth ≤ 30)) ⌝ }
-    requires { ⌜ (addr < 2 ^ wide) × (done ≤ l) ⌝ }
+    requires { ⌜ (c < 32) × ((l < 5) × (depth ≤ 60)) ⌝ }
+    requires { ⌜ done ≤ l ⌝ }
     ensures { λ r. ⌜ r ≤ done + 1 ⌝ }
-    ensures { λ r. ⌜ Wrote (slotHead entries (now (hops .entry)) depth addr c l) done r (now (out .entry)) (now (out .exit)) ⌝ }
+    ensures { λ r. ⌜ ((a : ℕ) → a / 2 ≡ addr → Wrote (slotHead entries (now (hops .entry)) depth a c l) done r (now (out .entry)) (now (out .exit))) ⌝ }
 {
     let below = 5 - l;
     let j = c >> below;
@@ -74,8 +73,8 @@ pub fn emit_slot(
     depth: usize,
     out: &mut [u8],
 ) -> usize
-    requires { ⌜ (c < 32) × ((depth ≤ 30) × (addr < 2 ^ wide)) ⌝ }
-    ensures { λ r. ⌜ Wrote (slotHeads entries (now (hops .entry)) depth addr c 5) 0 r (now (out .entry)) (now (out .exit)) ⌝ }
+    requires { ⌜ (c < 32) × (depth ≤ 60) ⌝ }
+    ensures { λ r. ⌜ ((a : ℕ) → a / 2 ≡ addr → Wrote (slotHeads entries (now (hops .entry)) depth a c 5) 0 r (now (out .entry)) (now (out .exit))) ⌝ }
 {
     if entries == 0 {
         return 0;

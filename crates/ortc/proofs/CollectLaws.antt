@@ -70,7 +70,7 @@ collecting-start {t} {lo} {hi} {depth} {key} f covering fill top slots o n room 
       ahead = leaves;
       shown = λ i le lt. absurd (omega arith);
       laid = laid-start 160 _ _ (slotSize depth) key (run t lo hi) top o
-          (rw (nodes-below-deep depth (n .level) key (run t lo hi) (n .fives) (n .deep)) at room);
+          (rw (nodes-below-deep depth (n .level) key (run t lo hi) (n .fives) (n .at .deep)) at room);
     }
 
 -- What is laid ends in the room, and there is room for the node's own words.
@@ -174,7 +174,7 @@ module _ {t : List ℕ} {lo hi depth key : ℕ} {first end : List ℕ} {present 
         }
       where
         size : wide - (depth + 5) ≡ slotSize depth
-        size = omega (arith, n .deep)
+        size = omega (arith, n .at .deep)
 
 -- After the first slot the node's own words are laid.
 pub collecting-end : {t : List ℕ} {lo hi depth key : ℕ} {f : ℕ → Answer} {covering : List ℕ} {fill top at r : ℕ} {slots xs o o₁ o₂ : List ℕ} → Node t lo hi depth key
@@ -182,8 +182,8 @@ pub collecting-end : {t : List ℕ} {lo hi depth key : ℕ} {f : ℕ → Answer}
     → ShowsNode f (slotSize depth) key xs → Pushed (packed xs) at r o₁ o₂
     → ShowsSet (getD xs 0 0) (sets f (wide - depth) key) × Laid (setWords f) (nodesDeep depth) key (run t lo hi) top r o o₂
 collecting-end {t} {lo} {hi} {depth} {key} {f} {xs = xs} n h within shows pushed =
-    let size : wide - depth ≡ slotSize depth + 5 = omega (arith, n .deep) in
+    let size : wide - depth ≡ slotSize depth + 5 = omega (arith, n .at .deep) in
     let w = laid-own 160 _ _ (slotSize depth) key (run t lo hi) (setWords f) (h .laid) within (xs, shows, refl) pushed in (
       rw size (node-set shows),
-      record { words = w .0; block = block-deep (setWords f) key (run t lo hi) (w .0) depth (n .level) (n .fives) (n .deep) .1 (w .1); pushed = w .2 },
+      record { words = w .0; block = block-deep (setWords f) key (run t lo hi) (w .0) depth (n .level) (n .fives) (n .at .deep) .1 (w .1); pushed = w .2 },
     )

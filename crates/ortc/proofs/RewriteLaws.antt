@@ -62,7 +62,7 @@ module _ (choose : List ℕ → ℕ) (f : ℕ → Answer) (m a : ℕ) (g : Answe
 -- ---- A region without routes.
 
 -- Its rewrite is one entry at most, by the hop that covers it or else fills.
-pub leaf-rewrite : (choose : List ℕ → ℕ) → Chooses choose → (t : List ℕ) (lo hi depth key covering fill hop above : ℕ) → hi ≤ lo → depth ≤ 35 → hop ≤ noHop → above ≤ noHop
+pub leaf-rewrite : (choose : List ℕ → ℕ) → Chooses choose → (t : List ℕ) (lo hi depth key covering fill hop above : ℕ) → hi ≤ lo → depth ≤ wide → hop ≤ noHop → above ≤ noHop
     → hopOf hop ≡ orElse (hopOf covering) (hopOf fill)
     → ortc choose wide (answerIn (run t lo hi) (hopOf covering) (hopOf fill)) (wide - depth) key (hopOf above) ≡ entryOver key depth hop above
 leaf-rewrite choose law t lo hi depth key covering fill hop above none deep hop-low above-low e =
@@ -96,7 +96,7 @@ slotRewrite choose t first end covering hops depth key fill c =
     (wide - (depth + 5)) (placeAt (slotSize depth) key 5 c) (hopOf (getD hops (15 + c / 2) 0))
 
 -- One without records lists nothing where no entry of its own is marked.
-leaf-none : (choose : List ℕ → ℕ) → Chooses choose → (t first end covering hops : List ℕ) (depth key fill leaves : ℕ) → LeafSlots covering hops fill leaves → depth ≤ 30 → fill ≤ noHop
+leaf-none : (choose : List ℕ → ℕ) → Chooses choose → (t first end covering hops : List ℕ) (depth key fill leaves : ℕ) → LeafSlots covering hops fill leaves → depth ≤ 60 → fill ≤ noHop
     → (c : ℕ) → c < 32 → getD end (31 + c) 0 ≤ getD first (31 + c) 0 → getD covering (15 + c / 2) 0 ≤ noHop → getD hops (15 + c / 2) 0 ≤ noHop
     → bit leaves c ≡ false → slotRewrite choose t first end covering hops depth key fill c ≡ []
 leaf-none choose law t first end covering hops depth key fill leaves marks deep fill-low c lt none covers-low hops-low clear =
@@ -154,7 +154,7 @@ module _ (choose : List ℕ → ℕ) (law : Chooses choose) {t : List ℕ} {lo h
         rewritten =
             rw size (rewrite-slots choose f (slotSize depth) key (hopOf above))
             ∙ slots-agree 5 (ownEntry choose f (slotSize depth) key (hopOf above)) (entryAt entries hops depth key)
-            (λ l j lt small. sym (entries-are choose law f depth key above entries hops (shown .0) (n .deep) above-low (shown .1) assigned bits l j (omega arith) small))
+            (λ l j lt small. sym (entries-are choose law f depth key above entries hops (shown .0) (n .at .deep) above-low (shown .1) assigned bits l j (omega arith) small))
             (λ c. ortc choose wide f (slotSize depth) (placeAt (slotSize depth) key 5 c) (assignedAt choose f (slotSize depth) key (hopOf above) 4 (c / 2)))
             (slotRewrite choose t first end covering hops depth key fill) slot 32 (omega arith);
         stored = s;
@@ -164,7 +164,7 @@ module _ (choose : List ℕ → ℕ) (law : Chooses choose) {t : List ℕ} {lo h
               let q = neither occupied marked c (p .0) in
               let none = slot-vacant g occupied taken c lt (q .0) in (
                 no-heads entries marked begins hops depth key c lt (q .1),
-                leaf-none choose law t first end covering hops depth key fill leaves own (n .deep) fill-low c lt none (covers-low c lt) (hops-low c lt) (p .1),
+                leaf-none choose law t first end covering hops depth key fill leaves own (n .at .deep) fill-low c lt none (covers-low c lt) (hops-low c lt) (p .1),
                 no-child g c lt none,
               );
         };
@@ -174,7 +174,7 @@ module _ (choose : List ℕ → ℕ) (law : Chooses choose) {t : List ℕ} {lo h
       f = answerIn (run t lo hi) (hopOf inherited) (hopOf fill)
 
       size : wide - depth ≡ slotSize depth + 5
-      size = omega (arith, n .deep)
+      size = omega (arith, n .at .deep)
 
       shown : (xs : List ℕ) × ShowsNode f (slotSize depth) key xs × Begins (packed xs) top work
       shown = sets-stored n s
@@ -192,7 +192,7 @@ module _ (choose : List ℕ → ℕ) (law : Chooses choose) {t : List ℕ} {lo h
           → ortc choose wide f (slotSize depth) (placeAt (slotSize depth) key 5 c) (assignedAt choose f (slotSize depth) key (hopOf above) 4 (c / 2))
           ≡ slotRewrite choose t first end covering hops depth key fill c
       slot c lt =
-          let e : wide - (depth + 5) ≡ slotSize depth = omega (arith, n .deep) in
+          let e : wide - (depth + 5) ≡ slotSize depth = omega (arith, n .at .deep) in
           rw (assigned 4 (c / 2) (omega arith) (omega arith) .1, e)
           (ortc-agree f (answerIn (runAt t first end (31 + c)) (hopOf (getD covering (15 + c / 2) 0)) (hopOf fill)) choose wide
           (slotSize depth) (placeAt (slotSize depth) key 5 c) (assignedAt choose f (slotSize depth) key (hopOf above) 4 (c / 2))
@@ -248,7 +248,7 @@ module _ {choose : List ℕ → ℕ} {t : List ℕ} {lo hi depth key inherited f
   -- The node's rewrite has at most one entry more than the node has records.
   pub opened-most : Chooses choose → length (slots (entryAt entries hops depth key) (slotRewrite choose t first end covering hops depth key fill) 32) ≤ (hi - lo) + 1
   opened-most law =
-      let size : wide - depth ≡ slotSize depth + 5 = omega (arith, q .node .deep) in
+      let size : wide - depth ≡ slotSize depth + 5 = omega (arith, q .node .at .deep) in
       omega (
         arith,
         rw size at (ap length (q .rewritten)),

@@ -88,7 +88,7 @@ module _ {t : List ℕ} {lo hi depth key : ℕ} {first end : List ℕ} {present 
       routes = slot-records g c small
 
       size : 5 * nodesDeep (depth + 5) ≡ slotSize depth
-      size = deep-step depth (n .level) (n .fives) (n .deep) .1
+      size = deep-step depth (n .level) (n .fives) (n .at .deep) .1
 
       whole : inside wide (5 * nodesDeep (depth + 5)) place slotRoutes ≡ slotRoutes
       whole = rw (size, routes) (inside-nested wide (nested-self (slotSize depth) place) (run t lo hi))

@@ -17,7 +17,7 @@ use words::bits::last_bit;
 use words::bits::next_bit;
 ghost use mathlib.Core.Path.{_≡_};
 ghost use mathlib.Core.List.{List};
-ghost use Prim.Native.Nat.{ℕ, _+_, _-_, _*_, _^_, _≤_, _<_};
+ghost use Prim.Native.Nat.{ℕ, _+_, _-_, _*_, _/_, _≤_, _<_};
 ghost use lib.ListN.{length};
 ghost use Rattle.theory.specs.Results.{sets, ortc};
 ghost use Rattle.theory.specs.Ranks.{lowest};
@@ -47,11 +47,11 @@ pub fn collect_sets(
     work: &mut [u32],
     top: usize,
 ) -> Collected
-    requires { ⌜ Node (now table) lo hi depth key ⌝ }
+    requires { ⌜ Node (now table) lo hi depth (key * 2) ⌝ }
     requires { ⌜ (inherited ≤ noHop) × (fill ≤ noHop) ⌝ }
-    requires { ⌜ (160 * nodesBelow (nodesDeep depth) key (run (now table) lo hi) ≤ top) × (top ≤ length (now work)) ⌝ }
-    ensures { λ r. ⌜ ShowsSet (r .set) (sets (answerIn (run (now (table .entry)) lo hi) (hopOf inherited) (hopOf fill)) (wide - depth) key) ⌝ }
-    ensures { λ r. ⌜ Laid (setWords (answerIn (run (now (table .entry)) lo hi) (hopOf inherited) (hopOf fill))) (nodesDeep depth) key (run (now (table .entry)) lo hi) top (r .top) (now (work .entry)) (now (work .exit)) ⌝ }
+    requires { ⌜ (160 * nodesBelow (nodesDeep depth) (key * 2) (run (now table) lo hi) ≤ top) × (top ≤ length (now work)) ⌝ }
+    ensures { λ r. ⌜ ShowsSet (r .set) (sets (answerIn (run (now (table .entry)) lo hi) (hopOf inherited) (hopOf fill)) (wide - depth) (key * 2)) ⌝ }
+    ensures { λ r. ⌜ Laid (setWords (answerIn (run (now (table .entry)) lo hi) (hopOf inherited) (hopOf fill))) (nodesDeep depth) (key * 2) (run (now (table .entry)) lo hi) top (r .top) (now (work .entry)) (now (work .exit)) ⌝ }
 {
     let mut first = [0u16; 63];
     let mut end = [0u16; 63];
@@ -110,11 +110,11 @@ pub fn rewrite(
     top: usize,
     out: &mut [u8],
 ) -> Walked
-    requires { ⌜ Node (now table) lo hi depth key ⌝ }
+    requires { ⌜ Node (now table) lo hi depth (key * 2) ⌝ }
     requires { ⌜ (inherited ≤ noHop) × ((fill ≤ noHop) × (above ≤ noHop)) ⌝ }
-    requires { ⌜ Stored (setWords (answerIn (run (now table) lo hi) (hopOf inherited) (hopOf fill))) (nodesDeep depth) key (run (now table) lo hi) top (now work) ⌝ }
-    ensures { λ r. ⌜ ((ws : List ℕ) → Block (setWords (answerIn (run (now (table .entry)) lo hi) (hopOf inherited) (hopOf fill))) (nodesDeep depth) key (run (now (table .entry)) lo hi) ws → Begins ws top (now (work .entry)) → r .top ≡ top + length ws) ⌝ }
-    ensures { λ r. ⌜ Wrote (ortc (lowest (now (ranks .entry))) wide (answerIn (run (now (table .entry)) lo hi) (hopOf inherited) (hopOf fill)) (wide - depth) key (hopOf above)) 0 (r .count) (now (out .entry)) (now (out .exit)) ⌝ }
+    requires { ⌜ Stored (setWords (answerIn (run (now table) lo hi) (hopOf inherited) (hopOf fill))) (nodesDeep depth) (key * 2) (run (now table) lo hi) top (now work) ⌝ }
+    ensures { λ r. ⌜ ((ws : List ℕ) → Block (setWords (answerIn (run (now (table .entry)) lo hi) (hopOf inherited) (hopOf fill))) (nodesDeep depth) (key * 2) (run (now (table .entry)) lo hi) ws → Begins ws top (now (work .entry)) → r .top ≡ top + length ws) ⌝ }
+    ensures { λ r. ⌜ Wrote (ortc (lowest (now (ranks .entry))) wide (answerIn (run (now (table .entry)) lo hi) (hopOf inherited) (hopOf fill)) (wide - depth) (key * 2) (hopOf above)) 0 (r .count) (now (out .entry)) (now (out .exit)) ⌝ }
 {
     let mut first = [0u16; 63];
     let mut end = [0u16; 63];
@@ -153,7 +153,8 @@ pub fn rewrite(
     Walked { count: n, top: at }
 }
 
-// A slot of the second walk: its node, where it has records, or else a region where all addresses have one answer.
+// A slot of the second walk: its node, where it has records, or else a region where all addresses have one answer. It stands at a wide address
+// whose half is `key`: at twice that, where it has records.
 fn rewrite_child(
     table: &[u8],
     lo: u16,
@@ -168,13 +169,13 @@ fn rewrite_child(
     top: usize,
     out: &mut [u8],
 ) -> Walked
-    requires { ⌜ (lo < hi → Node (now table) lo hi depth key) ⌝ }
-    requires { ⌜ (depth ≤ 35) × (key + 2 ^ (wide - depth) ≤ 2 ^ wide) ⌝ }
+    requires { ⌜ (lo < hi → Node (now table) lo hi depth (key * 2)) ⌝ }
+    requires { ⌜ depth ≤ wide ⌝ }
     requires { ⌜ (covering ≤ noHop) × ((fill ≤ noHop) × (above ≤ noHop)) ⌝ }
-    requires { ⌜ (lo < hi → Stored (setWords (answerIn (run (now table) lo hi) (hopOf covering) (hopOf fill))) (nodesDeep depth) key (run (now table) lo hi) top (now work)) ⌝ }
+    requires { ⌜ (lo < hi → Stored (setWords (answerIn (run (now table) lo hi) (hopOf covering) (hopOf fill))) (nodesDeep depth) (key * 2) (run (now table) lo hi) top (now work)) ⌝ }
     ensures { λ r. ⌜ (hi ≤ lo → r .top ≡ top) ⌝ }
-    ensures { λ r. ⌜ (lo < hi → (ws : List ℕ) → Block (setWords (answerIn (run (now (table .entry)) lo hi) (hopOf covering) (hopOf fill))) (nodesDeep depth) key (run (now (table .entry)) lo hi) ws → Begins ws top (now (work .entry)) → r .top ≡ top + length ws) ⌝ }
-    ensures { λ r. ⌜ Wrote (ortc (lowest (now (ranks .entry))) wide (answerIn (run (now (table .entry)) lo hi) (hopOf covering) (hopOf fill)) (wide - depth) key (hopOf above)) 0 (r .count) (now (out .entry)) (now (out .exit)) ⌝ }
+    ensures { λ r. ⌜ (lo < hi → (ws : List ℕ) → Block (setWords (answerIn (run (now (table .entry)) lo hi) (hopOf covering) (hopOf fill))) (nodesDeep depth) (key * 2) (run (now (table .entry)) lo hi) ws → Begins ws top (now (work .entry)) → r .top ≡ top + length ws) ⌝ }
+    ensures { λ r. ⌜ ((a : ℕ) → a / 2 ≡ key → (lo < hi → a ≡ key * 2) → Wrote (ortc (lowest (now (ranks .entry))) wide (answerIn (run (now (table .entry)) lo hi) (hopOf covering) (hopOf fill)) (wide - depth) a (hopOf above)) 0 (r .count) (now (out .entry)) (now (out .exit))) ⌝ }
 {
     if lo < hi {
         return rewrite(

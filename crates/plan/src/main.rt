@@ -5,10 +5,13 @@ use libc::STDOUT_FILENO;
 use records::Form;
 use steplines::plan_text;
 use steprooms::empty_room;
+ghost use mathlib.Core.Path.{_≡_};
 ghost use Prim.Native.Nat.{_≤_};
+ghost use lib.ListN.{length};
 
 // Reads the file that an argument names. More than 8,200 stands for a file that cannot be read, which standard error says.
-fn table_of(i: usize, table: &mut [u8; 8200]) -> usize
+fn table_of(i: usize, table: &mut [u8]) -> usize
+    requires { ⌜ 8200 ≡ length (now table) ⌝ }
     ensures { λ r. ⌜ r ≤ 8201 ⌝ }
 {
     let mut path = io::buffer();

@@ -1,5 +1,7 @@
 // The table on the wire: reading a record's fields, and writing a record whole.
 
+pub mod sized;
+
 use words::prefix::masked;
 ghost use mathlib.Core.Path.{_≡_};
 ghost use Prim.Native.Nat.{_+_, _*_, _<_, _≤_};

@@ -361,12 +361,12 @@ module _ (t : List ℕ) (flags : ℕ) (m : List ℕ) {number slots index : ℕ} 
   chip-in-c-refused = numbered (loadedSays (ok .answer)) given-chip refused-chip (λ n i f. load-number (f .0)) (ok .number-is) (ok .index-is)
 
 -- ---- The checker of a plan.
-table-number : {n : ℕ} → ((3 ≤ n) × (n ≤ 8)) ⊎ ((23 ≤ n) × (n ≤ 28)) → 1 ≤ n
-table-number (inl k) = omega (arith, k .0)
-table-number (inr k) = omega (arith, k .0)
+tables-number : {n : ℕ} → ((3 ≤ n) × (n ≤ 8)) ⊎ ((23 ≤ n) × (n ≤ 28)) → 1 ≤ n
+tables-number (inl k) = omega (arith, k .0)
+tables-number (inr k) = omega (arith, k .0)
 
 plan-number : {n : ℕ} → (((3 ≤ n) × (n ≤ 8)) ⊎ ((23 ≤ n) × (n ≤ 28))) ⊎ (n ≡ 13) → 1 ≤ n
-plan-number (inl k) = table-number k
+plan-number (inl k) = tables-number k
 plan-number (inr e) = omega arith
 
 module _ (t u : List ℕ) (flags : ℕ) (ss : List Step) {number yes index : ℕ} (ok : CheckPlanInC t u flags ss number yes index) where
@@ -412,7 +412,7 @@ module _ (t u : List ℕ) (flags : ℕ) (room : List Step) {number given count i
       (λ e. exactly .0 (planned-same (ok .answer) (NotPlanned n i) e), λ f. ap plannedSays (exactly .1 f))
 
   above-plan : (n i : ℕ) → First (TablesCondition (formBy flags) t u) n i → 1 ≤ n
-  above-plan n i f = table-number (tables-numbers (formBy flags) t u n i (f .0))
+  above-plan n i f = tables-number (tables-numbers (formBy flags) t u n i (f .0))
 
   -- The result is 0 exactly when no condition for a refusal holds.
   pub plan-in-c-answered : number ≡ 0 ↔ None (TablesCondition (formBy flags) t u)

@@ -5,7 +5,6 @@ use mathlib.Core.Bool.{Bool}
 use mathlib.Core.List.{List}
 use mathlib.Core.Logic.{_↔_}
 use Prim.Native.Nat.{ℕ, _/_}
-use native.Mathlib.Omega.{arith}
 use Rattle.refusals.specs.Rules.{Rule, judge}
 use Rattle.refusals.specs.Order.{First}
 use Rattle.records.specs.Wire.{records, Bytes, maskedBytes}
@@ -15,15 +14,9 @@ use Rattle.table.specs.declared.Checked.{Checked}
 use Rattle.table.specs.declared.Checked.the-variants.{Valid, Refused}
 use Rattle.table.specs.Checking.{checkedSays, checkReply}
 use Rattle.table.specs.Conditions.{TableCondition, Accepted}
+use Rattle.table.proofs.SizedChecking.{checked-same}
 use Rattle.table.proofs.Alone.{table-unique, table-gives, table-refuses}
 use Rattle.table.proofs.Masking.{table-carried, masked-length, masked-rules}
-
--- Answers that say the same are the same.
-checked-same : (a b : Checked) → checkedSays a ≡ checkedSays b → a ≡ b
-checked-same (Valid m) (Valid n) e = cc
-checked-same (Valid m) (Refused n i) e = let z : _≡_ {A = ℕ} 0 1 = cc in absurd (omega arith)
-checked-same (Refused n i) (Valid m) e = let z : _≡_ {A = ℕ} 0 1 = cc in absurd (omega arith)
-checked-same (Refused m i) (Refused n j) e = cc
 
 module _ (form : Form) (s : Bool) (t : List ℕ) where
   -- No second answer satisfies the statement.

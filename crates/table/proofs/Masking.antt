@@ -1,48 +1,29 @@
 -- The two choices on host bits. What is not refused by 6 under the strict choice is judged the same by default; and the masked bytes of an accepted
 -- table are a strictly accepted table of the same routes, which every call judges, under either choice, as it judges the table by default.
--- Assumes nothing.
-use mathlib.Core.Path.{_≡_, refl, sym, ap, ap₂, _∙_}
-use mathlib.Core.Bool.{Bool, true}
-use mathlib.Core.List.{List, _∷_, _++_}
-use Prim.Native.Nat.{ℕ, zero, suc, _+_, _%_, _≤_, _<_}
-use native.Mathlib.Omega.{arith}
-use lib.Dec.{leb, eqb}
+-- The theorems of SizedMasking at 8 bytes. Assumes nothing.
+use mathlib.Core.Path.{_≡_, sym, ap, _∙_, subst}
+use mathlib.Core.Bool.{Bool}
+use mathlib.Core.List.{List}
+use Prim.Native.Nat.{ℕ}
 use lib.ListN.{length}
-use Rattle.theory.specs.Routes.{Route}
-use Rattle.theory.proofs.Lists.{all-map}
-use Rattle.refusals.specs.Rules.{Rule, rule, Reply, refuses, judge}
-use Rattle.refusals.proofs.Shown.{passes}
-use Rattle.refusals.proofs.Waived.{waived, waived-append, waived-answer}
-use Rattle.records.specs.Wire.{byteAt, routeAt, routesFrom, records, routes, Bytes, bytesOf, maskedBytes}
+use Rattle.refusals.specs.Rules.{Rule, Reply, refuses, judge}
+use Rattle.refusals.proofs.Waived.{waived, waived-answer}
+use Rattle.records.specs.Wire.{routes, Bytes, maskedBytes}
+use Rattle.records.specs.Sized.{maskedIn}
 use Rattle.records.specs.declared.Form.{Form}
 use Rattle.records.specs.Forms.{byDefault, strictly}
-use Rattle.records.proofs.HostBits.{route-hop, route-valid}
-use Rattle.records.proofs.Reading.{length-routes}
-use Rattle.records.proofs.Written.{length-bytes, routes-bytes, bytes-small, route-head, route-shift}
-use Rattle.table.specs.TableRules.{hostKept, tailKept, before, inOrder, recordRules, rulesFrom, tableRules}
-use Rattle.table.specs.Conditions.{HostKept, Accepted, Lawful}
-use Rattle.table.proofs.Accepted.{not-refused}
-use Rattle.table.proofs.Tables.{accepted-table, accepted-written, hops-below}
-use Rattle.table.proofs.Tested.{host-shown}
+use Rattle.records.proofs.SizedWire.{routes-at-8, masked-at-8}
+use Rattle.table.specs.TableRules.{tableRules}
+use Rattle.table.specs.Conditions.{Accepted}
+use Rattle.table.specs.SizedRules.{tableRulesIn}
+use Rattle.table.specs.SizedConditions.{AcceptedIn}
+use Rattle.table.proofs.SizedMasking as sized
+use Rattle.table.proofs.AtSize8.{eight, rules-at-8, accepted-at-8}
 
 -- ---- The strict choice and the default.
-module _ (s : Bool) (t : List ℕ) where
-  -- The default is the strict choice with number 6 waived.
-  record-waived : (i : ℕ) → waived 6 (recordRules strictly s t i) ≡ recordRules byDefault s t i
-  unfolding recordRules
-  record-waived i = refl
-
-  scan-waived : (i k : ℕ) → waived 6 (rulesFrom strictly s t i k) ≡ rulesFrom byDefault s t i k
-  unfolding rulesFrom
-  scan-waived i zero = refl
-  scan-waived i (suc k) =
-      waived-append 6 (recordRules strictly s t i) (rulesFrom strictly s t (suc i) k)
-      ∙ ap₂ _++_ (record-waived i) (scan-waived (suc i) k)
-
-  pub strict-waived : waived 6 (tableRules strictly s t) ≡ tableRules byDefault s t
-  unfolding tableRules
-  strict-waived =
-      ap (λ (l : List Rule). rule 3 0 (eqb (length t % 8) 0) ∷ rule 4 0 (leb (records t) 1024) ∷ l) (scan-waived 0 (records t))
+-- The default is the strict choice with number 6 waived.
+pub strict-waived : (s : Bool) (t : List ℕ) → waived 6 (tableRules strictly s t) ≡ tableRules byDefault s t
+strict-waived s t = ap (waived 6) (sym (rules-at-8 strictly s t)) ∙ sized.in-strict-waived 8 s t ∙ rules-at-8 byDefault s t
 
 -- So any call that judges a table and nothing else: where it is not refused by 6 under the strict choice, its answer is the default's.
 pub table-carried : {R A : Type 0} (says : R → Reply A) → ((b c : R) → says b ≡ says c → b ≡ c) → (s : Bool) (t : List ℕ) (a : A) (r q : R)
@@ -51,94 +32,43 @@ pub table-carried : {R A : Type 0} (says : R → Reply A) → ((b c : R) → say
 table-carried says same s t a r q one other =
     waived-answer says same 6 (tableRules strictly s t) a r q one (other ∙ ap (λ (l : List Rule). judge l a) (sym (strict-waived s t)))
 
--- What is accepted under one choice is accepted under the other, if host bits are no bar;
-accepted-kept : (form other : Form) (s : Bool) (t : List ℕ) → ((i : ℕ) → i < records t → HostKept other t i) → Accepted form s t → Accepted other s t
-accepted-kept form other s t host a =
-    record {
-      whole = a .whole;
-      few = a .few;
-      each =
-          λ i h.
-          let k = a .each i h in
-          record {
-            length-kept = k .length-kept;
-            host-kept = host i h;
-            tail-kept = k .tail-kept;
-            order-kept = k .order-kept;
-          };
-    }
-
--- so what is accepted at all is accepted by default,
+-- What is accepted at all is accepted by default,
 pub accepted-default : (form : Form) (s : Bool) (t : List ℕ) → Accepted form s t → Accepted byDefault s t
-accepted-default form s t = accepted-kept form byDefault s t (λ i h e. let z : _≡_ {A = ℕ} 0 1 = cc in absurd (omega arith))
+accepted-default form s t a = accepted-at-8 byDefault s t .0 (sized.in-accepted-default 8 (form .strict) s t (accepted-at-8 form s t .1 a))
 
 -- and what is strictly accepted is accepted by any form.
 pub accepted-any : (form : Form) (s : Bool) (t : List ℕ) → Accepted strictly s t → Accepted form s t
-accepted-any form s t a = accepted-kept strictly form s t (λ i h e. a .each i h .host-kept refl) a
+accepted-any form s t a = accepted-at-8 form s t .0 (sized.in-accepted-any 8 (form .strict) s t (accepted-at-8 strictly s t .1 a))
 
 -- ---- The masked bytes of a table that is accepted, as a set or as a map, under either choice.
 module _ (form : Form) (s : Bool) (t : List ℕ) (bytes : Bytes t) (ok : Accepted form s t) where
-  lawful : Lawful s (routes t)
-  lawful = accepted-table (records t) (records t) form s t bytes (not-refused form s t (records t) ok) .0
+  kept : AcceptedIn 8 (form .strict) s t
+  kept = accepted-at-8 form s t .1 ok
 
   -- They have the table's routes, in as many bytes.
   pub masked-routes : routes (maskedBytes t) ≡ routes t
-  masked-routes = routes-bytes (routes t) (lawful .table .valid)
+  masked-routes =
+      ap routes (sym (masked-at-8 t))
+      ∙ sym (routes-at-8 (maskedIn 8 t))
+      ∙ sized.in-masked-routes 8 eight (form .strict) s t bytes kept
+      ∙ routes-at-8 t
 
   pub masked-length : length (maskedBytes t) ≡ length t
-  masked-length = omega (arith, length-bytes (routes t), length-routes t, ok .whole)
+  masked-length = ap length (sym (masked-at-8 t)) ∙ sized.in-masked-length 8 eight (form .strict) s t bytes kept
 
   pub masked-small : Bytes (maskedBytes t)
-  masked-small = bytes-small (routes t) (lawful .table .valid) (all-map (λ r h. omega (arith, h)) (hops-below s (lawful .hops)))
+  masked-small = subst Bytes (masked-at-8 t) (sized.in-masked-small 8 eight (form .strict) s t bytes kept)
 
   -- They are an accepted table under either choice.
   pub masked-accepted : (other : Form) → Accepted other s (maskedBytes t)
-  masked-accepted other = accepted-written other s (routes t) lawful
-
-  -- ---- Record by record.
-  written-at : (i k j : ℕ) → i + k ≤ records t → j < k → routeAt (bytesOf (routesFrom t i k)) j ≡ routeAt t (i + j)
-  unfolding routesFrom bytesOf
-  written-at i zero j h l = absurd (omega arith)
-  written-at i (suc k) zero h l =
-      route-head (routeAt t i) (bytesOf (routesFrom t (suc i) k)) (route-valid t bytes i (ok .each i (omega arith) .length-kept))
-      ∙ ap (routeAt t) (omega arith)
-  written-at i (suc k) (suc j) h l =
-      route-shift (routeAt t i) (bytesOf (routesFrom t (suc i) k)) j
-      ∙ written-at (suc i) k j (omega arith) (omega arith)
-      ∙ ap (routeAt t) (omega arith)
-
-  masked-at : (i : ℕ) → i < records t → routeAt (maskedBytes t) i ≡ routeAt t i
-  unfolding routes
-  masked-at i h = written-at 0 (records t) i (omega arith) (omega arith) ∙ ap (routeAt t) (omega arith)
-
-  masked-inside : (i : ℕ) → i < records t → i < records (maskedBytes t)
-  masked-inside i h = omega (arith, masked-length)
-
-  masked-tail : (other : Bool) (i : ℕ) → i < records t → tailKept other (maskedBytes t) i ≡ tailKept other t i
-  masked-tail other i h =
-      let p = masked-accepted form .each i (masked-inside i h) .tail-kept in
-      let q = ok .each i h .tail-kept in
-      let hop : byteAt (maskedBytes t) i 5 ≡ byteAt t i 5 =
-      sym (route-hop (maskedBytes t) i) ∙ ap (λ (r : Route). r .hop) (masked-at i h) ∙ route-hop t i in
-      rw (hop, p .1, p .2, q .1, q .2)
-
-  masked-order : (i : ℕ) → i < records t → inOrder (maskedBytes t) i ≡ inOrder t i
-  masked-order zero h = refl
-  masked-order (suc i) h = ap₂ before (masked-at i (omega arith)) (masked-at (suc i) h)
-
-  record-masked : (other : Form) (kind : Bool) (i : ℕ) → i < records t → recordRules other kind (maskedBytes t) i ≡ recordRules byDefault kind t i
-  unfolding recordRules
-  record-masked other kind i h =
-      let clear : hostKept other (maskedBytes t) i ≡ true =
-      passes (host-shown other (maskedBytes t) i) (masked-accepted other .each i (masked-inside i h) .host-kept) in
-      rw (masked-at i h, clear, masked-tail kind i h, masked-order i h)
-
-  scan-masked : (other : Form) (kind : Bool) (i k : ℕ) → i + k ≤ records t → rulesFrom other kind (maskedBytes t) i k ≡ rulesFrom byDefault kind t i k
-  unfolding rulesFrom
-  scan-masked other kind i zero h = refl
-  scan-masked other kind i (suc k) h = ap₂ _++_ (record-masked other kind i (omega arith)) (scan-masked other kind (suc i) k (omega arith))
+  masked-accepted other =
+      accepted-at-8 other s (maskedBytes t) .0
+      (subst (AcceptedIn 8 (other .strict) s) (masked-at-8 t) (sized.in-masked-accepted 8 eight (form .strict) s t bytes kept (other .strict)))
 
   -- Under either choice they are judged, as a set or as a map, as the table is by default.
   pub masked-rules : (other : Form) (kind : Bool) → tableRules other kind (maskedBytes t) ≡ tableRules byDefault kind t
-  unfolding tableRules
-  masked-rules other kind = rw masked-length (ap (λ (l : List Rule). rule 3 0 (eqb (length t % 8) 0) ∷ rule 4 0 (leb (records t) 1024) ∷ l) (scan-masked other kind 0 (records t) (omega arith)))
+  masked-rules other kind =
+      sym (rules-at-8 other kind (maskedBytes t))
+      ∙ ap (tableRulesIn 8 (other .strict) kind) (sym (masked-at-8 t))
+      ∙ sized.in-masked-rules 8 eight (form .strict) s t bytes kept (other .strict) kind
+      ∙ rules-at-8 byDefault kind t

@@ -4,7 +4,8 @@ mod rules;
 
 use records::Form;
 ghost use mathlib.Core.Path.{_≡_};
-ghost use Rattle.table.specs.Checking.{checkedSays, checkReply};
+ghost use Rattle.records.specs.Sized.{IsSize};
+ghost use Rattle.table.specs.Checking.{checkedSays, checkReply, checkReplyIn};
 
 // What a check answers: the number of records, or the refusal, with the record's index for numbers 5 to 8 (else 0).
 pub enum Checked {
@@ -12,18 +13,27 @@ pub enum Checked {
     Refused { number: u8, index: usize },
 }
 
-// Checks a table, of a set or of a map, read by the form: the number of its records, or the refusal (3 to 8).
+// Checks a table of records of 8 bytes, of a set or of a map, read by the form: the number of its records, or the refusal (3 to 8).
 pub fn check_table(table: &[u8], form: Form, is_set: bool) -> Checked
     ensures { λ r. ⌜ checkedSays r ≡ checkReply form «is_set» (now (table .entry)) ⌝ }
 {
-    let size = table.len();
-    if size % 8 != 0 {
+    let strict = form.strict;
+    check_sized(table, 8, strict, is_set)
+}
+
+// The same for records of this size, 8 bytes or 16, where under `strict` a record with host bits is refused.
+pub fn check_sized(table: &[u8], size: usize, strict: bool, is_set: bool) -> Checked
+    requires { ⌜ IsSize size ⌝ }
+    ensures { λ r. ⌜ checkedSays r ≡ checkReplyIn size «strict» «is_set» (now (table .entry)) ⌝ }
+{
+    let len = table.len();
+    if len % size != 0 {
         return Checked::Refused {
             number: 3,
             index: 0,
         };
     }
-    let n = size / 8;
+    let n = len / size;
     if 1024 < n {
         return Checked::Refused {
             number: 4,
@@ -32,7 +42,7 @@ pub fn check_table(table: &[u8], form: Form, is_set: bool) -> Checked
     }
     let mut i = 0;
     while i < n {
-        let f = rules::fault(table, form, i, is_set);
+        let f = rules::fault(table, size, strict, i, is_set);
         if f != 0 {
             return Checked::Refused {
                 number: f,

@@ -1,17 +1,18 @@
-// The rules 5 to 8 for one record of a table.
+// The rules 5 to 8 for one record of a table, over the size of a record.
 
-use records::Form;
-use records::addr_at;
-use records::len_at;
-use records::raw_addr_at;
-use words::prefix::host_bits_clear;
+use records::sized::hop_of;
+use records::sized::key_at;
+use records::sized::length_at;
+use records::sized::raw_key_at;
+use words::key::key_comes_before;
+use words::key::key_host_bits_clear;
 ghost use mathlib.Core.Path.{_≡_};
-ghost use mathlib.Core.Bool.{_||_, _&&_};
-ghost use Prim.Native.Nat.{_≤_, _<_};
-ghost use lib.Dec.{ltb, eqb};
+ghost use Prim.Native.Nat.{_-_, _≤_, _<_};
+ghost use lib.ListN.{length};
 ghost use Rattle.refusals.specs.Rules.{broken};
-ghost use Rattle.records.specs.Wire.{records, routeAt};
-ghost use Rattle.table.specs.TableRules.{topHop, hostKept, tailKept, inOrder, recordRules};
+ghost use Rattle.records.specs.Sized.{IsSize, clear, recordsIn};
+ghost use Rattle.table.specs.TableRules.{topHop};
+ghost use Rattle.table.specs.SizedRules.{hostKeptIn, tailKeptIn, inOrderIn, recordRulesIn};
 
 // The largest hop.
 pub fn top_hop(is_set: bool) -> u8
@@ -21,76 +22,75 @@ pub fn top_hop(is_set: bool) -> u8
 }
 
 // No host bits are set, where the choice is strict.
-pub fn host_kept(table: &[u8], form: Form, i: usize) -> bool
-    requires { ⌜ (i < records (now table)) × (routeAt (now table) i .len ≤ 32) ⌝ }
-    ensures { λ r. ⌜ r ≡ hostKept form (now (table .entry)) i ⌝ }
+pub fn host_kept(table: &[u8], size: usize, strict: bool, i: usize) -> bool
+    requires { ⌜ IsSize size × (i < recordsIn size (now table)) ⌝ }
+    ensures { λ r. ⌜ r ≡ hostKeptIn size «strict» (now (table .entry)) i ⌝ }
 {
-    if form.strict {
-        host_bits_clear(raw_addr_at(table, i), len_at(table, i))
+    if strict {
+        key_host_bits_clear(raw_key_at(table, size, i), length_at(table, size, i))
     } else {
         true
     }
 }
 
-// Byte 5 is a hop, bytes 6 and 7 are zero.
-pub fn tail_kept(table: &[u8], i: usize, is_set: bool) -> bool
-    requires { ⌜ i < records (now table) ⌝ }
-    ensures { λ r. ⌜ r ≡ tailKept «is_set» (now (table .entry)) i ⌝ }
+// Are the bytes from `k` up to `end` zero?
+pub fn clear_between(table: &[u8], k: usize, end: usize) -> bool
+    requires { ⌜ (k ≤ end) × (end ≤ length (now table)) ⌝ }
+    ensures { λ r. ⌜ r ≡ clear (now (table .entry)) k (end - k) ⌝ }
 {
-    let k = 8 * i;
-    if top_hop(is_set) < table[k + 5] {
+    let mut at = k;
+    while at < end {
+        if table[at] != 0 {
+            return false;
+        }
+        at += 1;
+    }
+    true
+}
+
+// The byte after the length is a hop, and those behind it are zero.
+pub fn tail_kept(table: &[u8], size: usize, i: usize, is_set: bool) -> bool
+    requires { ⌜ IsSize size × (i < recordsIn size (now table)) ⌝ }
+    ensures { λ r. ⌜ r ≡ tailKeptIn size «is_set» (now (table .entry)) i ⌝ }
+{
+    if top_hop(is_set) < hop_of(table, size, i) {
         return false;
     }
-    if table[k + 6] == 0 {
-        table[k + 7] == 0
-    } else {
-        false
-    }
-}
-
-// Address a and length l stand strictly before address b and length m.
-pub fn comes_before(a: u32, l: u8, b: u32, m: u8) -> bool
-    ensures { λ r. ⌜ r ≡ (ltb a b || (eqb a b && ltb l m)) ⌝ }
-{
-    if a < b {
-        true
-    } else {
-        if a == b { l < m } else { false }
-    }
+    clear_between(table, size * i + (size / 2 + 2), size * i + size)
 }
 
 // Record i stands strictly after the one before it, if there is one: host bits don't count.
-pub fn in_order(table: &[u8], i: usize) -> bool
-    requires { ⌜ i < records (now table) ⌝ }
-    ensures { λ r. ⌜ r ≡ inOrder (now (table .entry)) i ⌝ }
+pub fn in_order(table: &[u8], size: usize, i: usize) -> bool
+    requires { ⌜ IsSize size × (i < recordsIn size (now table)) ⌝ }
+    ensures { λ r. ⌜ r ≡ inOrderIn size (now (table .entry)) i ⌝ }
 {
     if i == 0 {
         return true;
     }
     let last = i - 1;
-    comes_before(
-        addr_at(table, last),
-        len_at(table, last),
-        addr_at(table, i),
-        len_at(table, i),
+    key_comes_before(
+        key_at(table, size, last),
+        length_at(table, size, last),
+        key_at(table, size, i),
+        length_at(table, size, i),
     )
 }
 
 // The lowest number among 5 to 8 that record i is refused by, or 0.
-pub fn fault(table: &[u8], form: Form, i: usize, is_set: bool) -> u8
-    requires { ⌜ i < records (now table) ⌝ }
-    ensures { λ r. ⌜ r ≡ broken (recordRules form «is_set» (now (table .entry)) i) ⌝ }
+pub fn fault(table: &[u8], size: usize, strict: bool, i: usize, is_set: bool) -> u8
+    requires { ⌜ IsSize size × (i < recordsIn size (now table)) ⌝ }
+    ensures { λ r. ⌜ r ≡ broken (recordRulesIn size «strict» «is_set» (now (table .entry)) i) ⌝ }
 {
-    if 32 < len_at(table, i) {
+    if 4 * size < (length_at(table, size, i) as usize) {
         return 5;
     }
-    if !host_kept(table, form, i) {
+    if !host_kept(table, size, strict, i) {
         return 6;
     }
-    if !tail_kept(table, i, is_set) {
+    if !tail_kept(table, size, i, is_set) {
         return 7;
     }
-    if !in_order(table, i) {
+    if !in_order(table, size, i) {
         return 8;
     }
     0

@@ -29,7 +29,7 @@ masked w a n h l =
     ap (λ (v : ℕ). bitAnd a (2 ^ v - 2 ^ (w - n))) e ∙ and-high a n (w - n) ∙ ap (λ (x : ℕ). x * 2 ^ (w - n)) (shr-mod n (w - n) g)
 
 -- Two tests are the same where each follows from the other.
-same-test : (a b c d : ℕ) → (a ≡ b → c ≡ d) → (c ≡ d → a ≡ b) → eqb a b ≡ eqb c d
+pub same-test : (a b c d : ℕ) → (a ≡ b → c ≡ d) → (c ≡ d → a ≡ b) → eqb a b ≡ eqb c d
 same-test a b c d f g = go (eqb a b) refl
   where
     go : (t : Bool) → eqb a b ≡ t → t ≡ eqb c d

@@ -45,14 +45,14 @@ cast-covers-in-aggregate c =
     let few = checked-few _ true _ _ valid (λ k. omega (arith, c .before .before .before .before .before .before .before .shared-slice-known .given k)) in
     search needs
 
-wide-query-requires : tie.Need-wide-query-requires
-wide-query-requires c κs = search needs
+half-query-requires : tie.Need-half-query-requires
+half-query-requires c κs = search needs
 
 covers-in-aggregate-requires : tie.Need-covers-in-aggregate-requires
 covers-in-aggregate-requires c κs =
     let args = c .before .before .before .before .before .before .before .before .before .args in
     let valid = sym (c .before .before .before .before .before .before .before .check-table .ensures) ∙ ap checkedSays (c .before .before .before .before .before .records .given .1) in
-    let query = c .wide-query .ensures in (
+    let query = c .half-query .ensures in (
       rw (checked-count _ true _ _ valid) (checked-node _ true _ _ valid (λ k. omega (arith, c .before .before .before .before .before .before .before .before .shared-slice-known .given k))),
       (
         (omega arith, c .before .before .before .if1 .left),
@@ -78,12 +78,12 @@ replied form t address len words k query valid bytes short room start walked =
 returns-4 : tie.Need-returns-4
 returns-4 c =
     replied _ _ _ _ _ _ _ (sym (c .before .before .before .before .before .before .before .before .before .check-table .ensures) ∙ ap checkedSays (c .before .before .before .before .before .before .before .records .given .1)) (λ k. omega (arith, c .before .before .before .before .before .before .before .before .before .before .shared-slice-known .given k)) (c .before .before .before .before .before .if1 .left)
-    (omega (arith, c .before .before .before .before .count-nodes .ensures)) (c .before .before .wide-query .ensures) (sym (c .if3 .taken) ∙ c .before .covers-in-aggregate .ensures)
+    (omega (arith, c .before .before .before .before .count-nodes .ensures)) (c .before .before .half-query .ensures) (sym (c .if3 .taken) ∙ c .before .covers-in-aggregate .ensures)
 
 returns-5 : tie.Need-returns-5
 returns-5 c =
     replied _ _ _ _ _ _ _ (sym (c .before .before .before .before .before .before .before .before .before .check-table .ensures) ∙ ap checkedSays (c .before .before .before .before .before .before .before .records .given .1)) (λ k. omega (arith, c .before .before .before .before .before .before .before .before .before .before .shared-slice-known .given k)) (c .before .before .before .before .before .if1 .left)
-    (omega (arith, c .before .before .before .before .count-nodes .ensures)) (c .before .before .wide-query .ensures) (sym (c .if3 .left) ∙ c .before .covers-in-aggregate .ensures)
+    (omega (arith, c .before .before .before .before .count-nodes .ensures)) (c .before .before .half-query .ensures) (sym (c .if3 .left) ∙ c .before .covers-in-aggregate .ensures)
 
 pub covers-in-spec : {M : Type 1} → statement M
 covers-in-spec =
@@ -96,7 +96,7 @@ covers-in-spec =
     count-nodes-requires
     returns-2
     cast-covers-in-aggregate
-    wide-query-requires
+    half-query-requires
     covers-in-aggregate-requires
     returns-3
     returns-4

@@ -7,7 +7,7 @@ use Rattle.assign.proofs.emit.Statement.{statement}
 use Rattle.assign.proofs.emit.Tie as tie
 
 returns : tie.Need-returns
-returns c = rw (eq-eqb (c .before .before .args .hop) (c .before .before .args .above) (c .if1 .taken)) (wrote-none 0 _)
+returns c at half = rw (eq-eqb (c .before .before .args .hop) (c .before .before .args .above) (c .if1 .taken)) (wrote-none 0 _)
 
 put-requires : tie.Need-put-requires
 put-requires c κs = search needs
@@ -16,12 +16,12 @@ same-length : tie.Need-same-length
 same-length c = search needs
 
 returns-2 : tie.Need-returns-2
-returns-2 c =
+returns-2 c at half =
     let a = c .before .before .before .before .before .before .before .args in
-    rw (ne-eqb (a .hop) (a .above) (c .before .before .before .before .before .if1 .left), lt-ltb (a .hop) noHop (c .before .before .before .before .if2 .taken)) (c .before .before .put .ensures)
+    rw (ne-eqb (a .hop) (a .above) (c .before .before .before .before .before .if1 .left), lt-ltb (a .hop) noHop (c .before .before .before .before .if2 .taken)) (c .before .before .put .ensures at half)
 
 returns-3 : tie.Need-returns-3
-returns-3 c =
+returns-3 c at half =
     let a = c .before .before .before .args in
     rw (ne-eqb (a .hop) (a .above) (c .before .if1 .left), le-ltb (a .hop) noHop (c .if2 .left)) (wrote-none 0 _)
 

@@ -1,14 +1,15 @@
 -- `consistent::aggregate_consistent_map` meets its contract: one cycle of calls, by falling bits below the node. The loop's invariant: the
 -- node is found, the word has the slots to visit, and the node's slots before c are written. Assumes nothing.
-use Prim.Native.Nat.{ℕ, _+_, _-_, _<_}
-use mathlib.Core.Path.{refl}
-use lib.ListN.{getD-replicate}
+use Prim.Native.Nat.{ℕ, _+_, _-_, _*_, _<_}
+use mathlib.Core.Path.{_≡_, refl}
+use lib.ListN.{getD, getD-replicate}
 use native.Mathlib.Omega.{arith}
 use borrow.Author.Needs.{needs}
 use borrow.Fn.Kinds.{In}
 use borrow.Fn.PlainCycle.{Measures, is, falls, and}
-use Rattle.nodes.specs.Node.{run}
-use Rattle.nodes.proofs.OutputLaws.{slot-below, wrote-count}
+use Rattle.positions.specs.Runs.{placeAt}
+use Rattle.nodes.specs.Node.{reach, run, slotSize}
+use Rattle.nodes.proofs.OutputLaws.{wrote-count}
 use Rattle.nodes.proofs.OutputWalk.{relaid, Walked, Begun, walked-none, begun, begun-few, walked-alone, walked-child, walked-all}
 use Rattle.gather.proofs.GatherLaws.{absent, ends-in, child-node}
 use Rattle.gather.proofs.BusySlots.{Busy, busy-slots, walked-next}
@@ -28,7 +29,7 @@ use Rattle.consistent.proofs.+aggregate_consistent_map.{statement}
 use Rattle.consistent.proofs.+aggregate_consistent_map.Tie.{close}
 
 abbrev μ-depth : Measures 2 kinds.ps ℕ
-μ-depth κs a = 35 - a .1 .1 .1 .0
+μ-depth κs a = reach - a .1 .1 .1 .0
 
 abbrev at : ℕ → In 2 kinds.ps
 at t = and 2 kinds.ps (is 2 kinds.ps μ-depth t) reads.Pre
@@ -60,8 +61,8 @@ claims t = (
 
 abbrev Inv-loop : lts.InvT-loop
 Inv-loop table lo hi depth key inherited out₀ first end hops entries busy n₀ c₀ out n c =
-    Found table lo hi depth key inherited first end hops entries × (Busy entries hops depth key (mapSlot table first end hops depth key) (run table lo hi) busy
-    × Walked entries hops depth key (mapSlot table first end hops depth key) c n out₀ out)
+    Found table lo hi depth (key * 2) inherited first end hops entries × (Busy entries hops depth (key * 2) (mapSlot table first end hops depth (key * 2)) (run table lo hi) busy
+    × Walked entries hops depth (key * 2) (mapSlot table first end hops depth (key * 2)) c n out₀ out)
 
 abbrev μ-loop : lts.MeasureT-loop
 μ-loop table lo hi depth key inherited out₀ first end hops entries busy n₀ c₀ out n c = 32 - c
@@ -117,7 +118,7 @@ emit-slot-requires : (t : ℕ) → lts.Need-emit-slot-requires (claims t) (at t)
 emit-slot-requires t c κs =
     let n = c .before .before .before .before .before .loop .inv .0 .node in
     let lt = c .before .before .before .before .loop-test .taken in
-    (lt, (n .deep, rw (c .before .before .before .slot-key .ensures) (slot-below _ _ _ (n .deep) lt (n .small))))
+    (lt, n .at .deep)
 
 -- The entries that begin at a slot are written once they come back.
 entered : (t : ℕ) (c : lts.After-slice-known2 (claims t) (at t) reads.Post Inv-loop μ-loop)
@@ -126,12 +127,12 @@ entered : (t : ℕ) (c : lts.After-slice-known2 (claims t) (at t) reads.Post Inv
     let hops = c .before .before .before .before .before .before .before .before .before .before .before .before .before .before .before .before .covering-hops .result in
     let lp = c .before .before .before .before .before .before .before .before .loop in
     let heads = c .before .before .emit-slot in
-    Begun (c .before .before .before .before .before .before .before .before .before .before .before .before .entries-of .result) hops (a .depth) (a .key) (mapSlot (a .table .now) (run .0) (run .1 .0) hops (a .depth) (a .key)) (lp .c)
+    Begun (c .before .before .before .before .before .before .before .before .before .before .before .before .entries-of .result) hops (a .depth) (a .key * 2) (mapSlot (a .table .now) (run .0) (run .1 .0) hops (a .depth) (a .key * 2)) (lp .c)
     (lp .n + heads .result) (a .out .now) (relaid (c .before .before .before .before .before .past .result) (heads .last .1 .1 .1 .1 .1 .0) (lp .out))
 entered t c =
     let heads = c .before .before .emit-slot in
     let lt = c .before .before .before .before .before .before .before .loop-test .taken in
-    let key = c .before .before .before .before .before .before .slot-key .ensures in
+    let key = c .before .before .before .before .before .before .slot-key .ensures .0 in
     begun (c .before .before .before .before .before .before .before .before .loop .inv .1 .1) lt (c .before .before .before .before .before .past .ensures) key (heads .ensures) (c .before .out .given .1)
 
 add-n : (t : ℕ) → lts.Need-add-n (claims t) (at t) reads.Post Inv-loop μ-loop
@@ -174,7 +175,7 @@ past-requires-2 : (t : ℕ) → lts.Need-past-requires-2 (claims t) (at t) reads
 past-requires-2 t c κs = search needs
 
 add-aggregate-consistent-map : (t : ℕ) → lts.Need-add-aggregate-consistent-map (claims t) (at t) reads.Post Inv-loop μ-loop
-add-aggregate-consistent-map t c = let deep = c .before .before .before .before .before .before .before .before .before .before .before .loop .inv .0 .node .deep in omega arith
+add-aggregate-consistent-map t c = let deep = c .before .before .before .before .before .before .before .before .before .before .before .loop .inv .0 .node .at .deep in omega arith
 
 sub-aggregate-consistent-map : (t : ℕ) → lts.Need-sub-aggregate-consistent-map (claims t) (at t) reads.Post Inv-loop μ-loop
 sub-aggregate-consistent-map t c = search needs
@@ -185,6 +186,17 @@ part-aggregate-consistent-map-start t c = search needs
 part-aggregate-consistent-map-end : (t : ℕ) → lts.Need-part-aggregate-consistent-map-end (claims t) (at t) reads.Post Inv-loop μ-loop
 part-aggregate-consistent-map-end t c = search needs
 
+-- A slot with records stands where its half says.
+place : (t : ℕ) (c : lts.After-slot-key (claims t) (at t) reads.Post Inv-loop μ-loop)
+    → let a = c .before .before .before .before .before .before .before .before .before .before .before .before .before .before .before .before .before .before .args in
+    let run = c .before .before .before .before .before .before .before .before .before .before .before .before .before .gather-run .last .1 .1 .1 .1 .1 in
+    let lp = c .before .before .loop in
+    getD (run .0) (31 + lp .c) 0 < getD (run .1 .0) (31 + lp .c) 0 → c .slot-key .result * 2 ≡ placeAt (slotSize (a .depth)) (a .key * 2) 5 (lp .c)
+place t c has =
+    let lp = c .before .before .loop in
+    let child = child-node (lp .inv .0 .node) (lp .inv .0 .gathered) (lp .c) (c .before .loop-test .taken) has in
+    c .slot-key .ensures .1 (omega (arith, child .at .deep))
+
 aggregate-consistent-map-requires : (t : ℕ) → lts.Need-aggregate-consistent-map-requires (claims t) (at t) reads.Post Inv-loop μ-loop
 aggregate-consistent-map-requires t c κs =
     let lp = c .before .before .before .before .before .before .before .before .before .before .before .before .loop in
@@ -192,13 +204,13 @@ aggregate-consistent-map-requires t c κs =
     let lt = c .before .before .before .before .before .before .before .before .before .before .before .loop-test .taken in
     let child = child-node (f .node) (f .gathered) (lp .c) lt (c .before .before .if1 .taken) in
     let bits = c .before .before .before .before .before .before .before .before .before .before .before .before .before .before .before .before .before .before .before .before .before .before .before .before .before .before .before .before .pre .0 in
-    (omega (arith, f .node .deep, bits), (rw (c .before .before .before .before .before .before .before .before .before .before .slot-key .ensures) child, slot-le f (lp .c) lt))
+    (omega (arith, child .within-reach, bits), (rw (place t (c .before .before .before .before .before .before .before .before .before .before) (c .before .before .if1 .taken)) child, slot-le f (lp .c) lt))
 
 add-n-2 : (t : ℕ) → lts.Need-add-n-2 (claims t) (at t) reads.Post Inv-loop μ-loop
 add-n-2 t c =
     let lp = c .before .before .before .before .before .before .before .before .before .before .before .before .before .before .before .loop in
     let f = lp .inv .0 in
-    let key = c .before .before .before .before .before .before .before .before .before .before .before .before .before .slot-key .ensures in
+    let key = place t (c .before .before .before .before .before .before .before .before .before .before .before .before .before) (c .before .before .before .before .before .if1 .taken) in
     let own = wrote-count (rw (map-child f (lp .c) _ key) at (c .before .before .aggregate-consistent-map .ensures)) in
     let few = begun-few (entered t (c .before .before .before .before .before .before .before)) in
     let most = map-most f in
@@ -214,7 +226,7 @@ loop-again t c =
     let lp = c .before .before .before .before .before .before .before .before .before .before .before .before .before .before .before .loop in
     let f = lp .inv .0 in
     let call = c .before .before .aggregate-consistent-map in
-    let key = c .before .before .before .before .before .before .before .before .before .before .before .before .before .slot-key .ensures in
+    let key = place t (c .before .before .before .before .before .before .before .before .before .before .before .before .before) (c .before .before .before .before .before .if1 .taken) in
     let own = rw (map-child f (lp .c) _ key) at (call .ensures) in
     let slot = walked-child (entered t (c .before .before .before .before .before .before .before)) (c .before .before .before .before .past2 .ensures) own
     (c .before .out2 .given .1) in

@@ -1,5 +1,5 @@
--- `gather::first_past` meets its contract. The loop's invariant: the records from i up to `at` stand before `past`. Assumes nothing.
-use Prim.Native.Nat.{ℕ, suc, _+_, _-_, _≤_, _<_}
+-- `gather::first_past` meets its contract. The loop's invariant: the records from i up to `at` stand at `last` or before it. Assumes nothing.
+use Prim.Native.Nat.{ℕ, suc, _+_, _-_, _*_, _≤_, _<_}
 use mathlib.Core.Path.{_≡_}
 use mathlib.Core.Logic.{_⊎_, inl, inr}
 use native.Mathlib.Nat.{eq-or-lt-of-le}
@@ -10,22 +10,19 @@ use Rattle.gather.proofs.first_past.Statement.{statement}
 use Rattle.gather.proofs.first_past.Tie as tie
 
 abbrev Inv-loop : tie.InvT-loop
-Inv-loop table i hi past limit at₀ at = (i ≤ at) × (at ≤ hi) × ((k : ℕ) → i ≤ k → k < at → wideAt table k .addr < past)
+Inv-loop table i hi last limit at₀ at = (i ≤ at) × (at ≤ hi) × ((k : ℕ) → i ≤ k → k < at → wideAt table k .addr ≤ last * 2)
 
 abbrev μ-loop : tie.MeasureT-loop
-μ-loop table i hi past limit at₀ at = hi - at
+μ-loop table i hi last limit at₀ at = hi - at
 
-add-limit : tie.Need-add-limit Inv-loop μ-loop
-add-limit c = record { fits = omega arith }
+cast-limit : tie.Need-cast-limit Inv-loop μ-loop
+cast-limit c = search needs
 
 loop-holds : tie.Need-loop-holds Inv-loop μ-loop
 loop-holds c = (omega arith, omega arith, λ k l h. absurd (omega arith))
 
 addr-at-requires : tie.Need-addr-at-requires Inv-loop μ-loop
 addr-at-requires c κs = omega arith
-
-cast-if1 : tie.Need-cast-if1 Inv-loop μ-loop
-cast-if1 c = search needs
 
 returns : tie.Need-returns Inv-loop μ-loop
 returns c =
@@ -42,10 +39,10 @@ loop-again : tie.Need-loop-again Inv-loop μ-loop
 loop-again c =
     let l = c .before .before .before .loop in
     let a = c .before .before .before .before .before .args in
-    let here : wideAt (a .table .now) (l .at) .addr < a .past = omega (arith, c .before .addr-at .ensures) in (
+    let here : wideAt (a .table .now) (l .at) .addr ≤ a .last * 2 = omega (arith, c .before .addr-at .ensures) in (
       omega arith,
       omega arith,
-      λ k low h. more (λ (n : ℕ). wideAt (a .table .now) n .addr < a .past) (l .at) k here (l .inv .2 k low) (eq-or-lt-of-le h),
+      λ k low h. more (λ (n : ℕ). wideAt (a .table .now) n .addr ≤ a .last * 2) (l .at) k here (l .inv .2 k low) (eq-or-lt-of-le h),
     )
   where
     more : (P : ℕ → Type 0) (n k : ℕ) → P n → (k < n → P k) → (suc k ≡ n + 1) ⊎ (suc k < n + 1) → P k
@@ -61,10 +58,9 @@ first-past-spec =
     (tie.spec
     Inv-loop
     μ-loop
-    add-limit
+    cast-limit
     loop-holds
     addr-at-requires
-    cast-if1
     returns
     add-at
     loop-less

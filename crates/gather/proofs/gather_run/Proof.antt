@@ -1,23 +1,24 @@
 -- `gather::gather_run` meets its contract. The loop's invariant: the records from lo up to i are gathered, and the word says which slots have
 -- one of them. Assumes nothing.
-use Prim.Native.Nat.{ℕ, _-_, _^_, _≤_, _<_}
+use Prim.Native.Nat.{ℕ, _-_, _*_, _≤_, _<_}
 use mathlib.Core.Path.{_≡_, sym}
 use native.Mathlib.Omega.{arith}
 use lib.Pow.{pow-pos}
 use borrow.Author.Needs.{needs}
+use Rattle.theory.specs.Results.{In}
 use Rattle.theory.specs.Routes.{Route}
 use Rattle.theory.specs.Shapes.{Within}
 use Rattle.nodes.specs.Node.{wide, wideAt}
 use Rattle.gather.specs.Gathered.{Gathered}
 use Rattle.gather.proofs.GatherPlaces.{heapOf, heap-is}
 use Rattle.gather.proofs.GatherSlots.{Slots, place-run, slots-start, slots-next, slots-done}
-use Rattle.gather.proofs.GatherSteps.{Passed, passed-start, passed-next, passed-done, node-within, node-heap}
+use Rattle.gather.proofs.GatherSteps.{Passed, passed-start, passed-next, passed-done, node-within}
 use Rattle.gather.proofs.gather_run.Statement.{statement}
 use Rattle.gather.proofs.gather_run.Tie as tie
 
 abbrev Inv-loop : tie.InvT-loop
 Inv-loop table lo hi depth key first₀ end₀ present₀ occupied₀ upto i₀ first end present occupied i =
-    (lo ≤ i) × (i ≤ hi) × Passed table lo i depth key first end present × Slots first end occupied
+    (lo ≤ i) × (i ≤ hi) × Passed table lo i depth (key * 2) first end present × Slots first end occupied
 
 abbrev μ-loop : tie.MeasureT-loop
 μ-loop table lo hi depth key first₀ end₀ present₀ occupied₀ upto i₀ first end present occupied i = hi - i
@@ -28,7 +29,7 @@ loop-holds c =
     let p = c .before .pre in (
       omega arith,
       p .0 .low,
-      passed-start (a .table .now) (a .lo) (a .depth) (a .key) (a .first .now) (a .end .now) (p .1 .0 .0) (p .1 .0 .1) (p .1 .1),
+      passed-start (a .table .now) (a .lo) (a .depth) (a .key * 2) (a .first .now) (a .end .now) (p .1 .0 .0) (p .1 .0 .1) (p .1 .1),
       slots-start (a .first .now) (a .end .now) (p .1 .1),
     )
 
@@ -40,23 +41,16 @@ level-of-requires c κs =
     let a = c .before .before .before .before .args in
     let l = c .before .before .loop in
     let n = c .before .before .before .before .pre .0 in
-    let w : Within wide (wide - a .depth) (a .key) (wideAt (a .table .now) (l .i)) = node-within n (l .i) (l .inv .0) (c .before .loop-test .taken) in
-    (n .deep, let d = n .deep in omega (arith, w .deep, c .size-at .ensures))
+    let w : Within wide (wide - a .depth) (a .key * 2) (wideAt (a .table .now) (l .i)) = node-within n (l .i) (l .inv .0) (c .before .loop-test .taken) in
+    (n .at .deep, let d = n .at .deep in omega (arith, w .deep, c .size-at .ensures))
 
-wide-at-requires : tie.Need-wide-at-requires Inv-loop μ-loop
-wide-at-requires c κs = omega (arith, c .before .before .before .before .before .pre .0 .high)
+half-at-requires : tie.Need-half-at-requires Inv-loop μ-loop
+half-at-requires c κs = omega (arith, c .before .before .before .before .before .pre .0 .high)
 
 heap-index-requires : tie.Need-heap-index-requires Inv-loop μ-loop
 heap-index-requires c κs =
-    let a = c .before .before .before .before .before .before .args in
-    let l = c .before .before .before .before .loop in
     let n = c .before .before .before .before .before .before .pre .0 in
-    let w : Within wide (wide - a .depth) (a .key) (wideAt (a .table .now) (l .i)) = node-within n (l .i) (l .inv .0) (c .before .before .before .loop-test .taken) in
-    let e : c .wide-at .result ≡ wideAt (a .table .now) (l .i) .addr = c .wide-at .ensures .0 in
-    let p : 0 < 2 ^ (wide - wideAt (a .table .now) (l .i) .len) = pow-pos (wide - wideAt (a .table .now) (l .i) .len) in
-    let low = w .low in
-    let high = w .high in
-    ((n .deep, c .before .level-of .ensures .1), (omega (arith, e, low), omega (arith, e, high, p)))
+    (n .at .deep, c .before .level-of .ensures .1)
 
 -- The record that a turn takes in.
 abbrev taken : tie.After-heap-index Inv-loop μ-loop → Route
@@ -64,24 +58,26 @@ taken c = wideAt (c .before .before .before .before .before .before .before .arg
 
 -- The place that the code finds is the record's.
 is-heap : (c : tie.After-heap-index Inv-loop μ-loop)
-    → c .heap-index .result ≡ heapOf (c .before .before .before .before .before .before .before .args .depth) (c .before .before .before .before .before .before .before .args .key) (taken c)
+    → c .heap-index .result ≡ heapOf (c .before .before .before .before .before .before .before .args .depth) (c .before .before .before .before .before .before .before .args .key * 2) (taken c)
 is-heap c =
     let a = c .before .before .before .before .before .before .before .args in
+    let l = c .before .before .before .before .before .loop in
+    let n = c .before .before .before .before .before .before .before .pre .0 in
     let size = c .before .before .before .size-at in
     let level = c .before .before .level-of in
-    let addr = c .before .wide-at in
-    heap-is (a .depth) (a .key) (taken c) (size .result) (level .result) (addr .result) (c .heap-index .result)
-    (size .ensures .0) (level .ensures .0) (addr .ensures .0) (c .heap-index .ensures .0)
+    let addr = c .before .half-at in
+    let w : Within wide (wide - a .depth) (a .key * 2) (taken c) = node-within n (l .i) (l .inv .0) (c .before .before .before .before .loop-test .taken) in
+    let lies : In (wide - a .depth) (a .key * 2) (addr .result * 2) = omega (arith, addr .ensures, w .low, w .high, pow-pos (wide - taken c .len)) in
+    heap-is (a .depth) (a .key * 2) (taken c) (size .result) (level .result) (addr .result * 2) (c .heap-index .result)
+    (size .ensures .0) (level .ensures .0) (addr .ensures) (c .heap-index .ensures .0 (a .key * 2) (n .at) lies)
 
 is-small : (c : tie.After-heap-index Inv-loop μ-loop) → c .heap-index .result < 63
-is-small c =
-    let l = c .before .before .before .before .before .loop in
-    rw (is-heap c) (node-heap (c .before .before .before .before .before .before .before .pre .0) (l .i) (l .inv .0) (c .before .before .before .before .loop-test .taken))
+is-small c = c .heap-index .ensures .1
 
 place-end-requires : tie.Need-place-end-requires Inv-loop μ-loop
 place-end-requires c κs =
     let n = c .before .before .before .before .before .before .before .pre .0 in
-    ((c .before .before .before .before .loop-test .taken, n .high), (is-small c, (n .deep, n .small)))
+    ((c .before .before .before .before .loop-test .taken, n .high), (is-small c, n .at))
 
 mul-first-of : tie.Need-mul-first-of Inv-loop μ-loop
 mul-first-of c = omega (arith, is-small (c .before))
@@ -124,7 +120,7 @@ with-slot-requires c κs = is-small (c .before .before .before .before .before)
 
 -- The records up to the place's end are all of that place.
 is-run : (c : tie.After-place-end Inv-loop μ-loop) (k : ℕ) → c .before .before .before .before .before .before .loop .i ≤ k → k < c .place-end .result
-    → heapOf (c .before .before .before .before .before .before .before .before .args .depth) (c .before .before .before .before .before .before .before .before .args .key)
+    → heapOf (c .before .before .before .before .before .before .before .before .args .depth) (c .before .before .before .before .before .before .before .before .args .key * 2)
     (wideAt (c .before .before .before .before .before .before .before .before .args .table .now) k)
     ≡ c .before .heap-index .result
 is-run c k low h =
@@ -160,7 +156,7 @@ returns c =
     let l = c .before .loop in
     let a = c .before .before .before .args in
     let e : l .i ≡ a .hi = omega (arith, l .inv .1, c .loop-test .left) in
-    let g : Gathered (a .table .now) (a .lo) (a .hi) (a .depth) (a .key) (l .first) (l .end) (l .present) = passed-done (c .before .before .before .pre .0) (rw e at (l .inv .2)) in
+    let g : Gathered (a .table .now) (a .lo) (a .hi) (a .depth) (a .key * 2) (l .first) (l .end) (l .present) = passed-done (c .before .before .before .pre .0) (rw e at (l .inv .2)) in
     (g, slots-done g (l .occupied) (l .inv .3))
 
 pub gather-run-spec : {M : Type 1} → statement M
@@ -172,7 +168,7 @@ gather-run-spec =
     loop-holds
     size-at-requires
     level-of-requires
-    wide-at-requires
+    half-at-requires
     heap-index-requires
     place-end-requires
     mul-first-of

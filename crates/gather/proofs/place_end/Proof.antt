@@ -1,13 +1,12 @@
 -- `gather::place_end` meets its contract. Assumes nothing.
-use Prim.Native.Nat.{ℕ, _+_, _-_, _*_, _%_, _^_, _≤_, _<_}
+use Prim.Native.Nat.{ℕ, _+_, _-_, _*_, _/_, _^_, _≤_, _<_}
 use mathlib.Core.Path.{_≡_}
+use mathlib.Core.List.{List}
 use native.Mathlib.Omega.{arith}
-use lib.Pow.{pow-mono}
+use lib.Pow.{pow-pos}
 use borrow.Author.Needs.{needs}
-use Rattle.words.proofs.BitLaws.{one-shl}
 use Rattle.positions.specs.Runs.{placeAt}
-use Rattle.nodes.specs.Node.{wide, slotSize}
-use Rattle.nodes.proofs.OutputLaws.{slot-below}
+use Rattle.nodes.specs.Node.{slotSize, wideAt}
 use Rattle.gather.proofs.place_end.Statement.{statement}
 use Rattle.gather.proofs.place_end.Tie as tie
 
@@ -17,45 +16,35 @@ add-result c = search needs
 add-first-past : tie.Need-add-first-past
 add-first-past c = search needs
 
-slot-key-requires : tie.Need-slot-key-requires
-slot-key-requires c κs = search needs
-
-sub-first-past : tie.Need-sub-first-past
-sub-first-past c = search needs
-
-shl-first-past : tie.Need-shl-first-past
-shl-first-past c = search needs
-
--- The end of a slot is small.
-end-small : (depth key c : ℕ) → depth ≤ 30 → c < 32 → key + 2 ^ (wide - depth) ≤ 2 ^ wide
-    → placeAt (slotSize depth) key 5 c + 1 * 2 ^ slotSize depth % 2 ^ 64 ≤ 2 ^ 36
-end-small depth key c deep lt small =
-    let low : slotSize depth ≤ 30 = omega arith in
-    omega (arith, slot-below depth key c deep lt small, one-shl (slotSize depth) (omega arith), pow-mono low)
-
-add-first-past-2 : tie.Need-add-first-past-2
-add-first-past-2 c =
-    let a = c .before .before .before .args in
-    omega (arith, c .slot-key .ensures, end-small (a .depth) (a .key) (a .b - 31) (omega arith) (omega arith) (omega arith))
+slot-last-requires : tie.Need-slot-last-requires
+slot-last-requires c κs = (omega arith, c .before .before .pre .1 .1)
 
 first-past-requires : tie.Need-first-past-requires
-first-past-requires c κs =
-    let a = c .before .before .before .args in (
-      (omega arith, omega arith),
-      omega (arith, c .slot-key .ensures, end-small (a .depth) (a .key) (a .b - 31) (omega arith) (omega arith) (omega arith)),
-    )
+first-past-requires c κs = search needs
 
 returns : tie.Need-returns
 returns c = search needs
+
+-- A record's wide address is even: it lies before the end of a slot exactly when it is not after the slot's last address.
+module _ (t : List ℕ) (k end last : ℕ) (some : 0 < end) (is : last ≡ (end - 1) / 2) where
+  before : wideAt t k .addr ≤ last * 2 → wideAt t k .addr < end
+  before le = omega arith
+
+  after : last * 2 < wideAt t k .addr → end ≤ wideAt t k .addr
+  after lt = omega arith
 
 returns-2 : tie.Need-returns-2
 returns-2 c =
     let a = c .before .before .before .before .args in
     let e = c .first-past .ensures in
-    let slot = c .before .slot-key .ensures in
-    let one : 1 * 2 ^ slotSize (a .depth) % 2 ^ 64 ≡ 2 ^ slotSize (a .depth) = one-shl (slotSize (a .depth)) (omega arith) in (
+    let end = placeAt (slotSize (a .depth)) (a .key * 2) 5 (a .b - 31) + 2 ^ slotSize (a .depth) in
+    let some : 0 < end = omega (arith, pow-pos (slotSize (a .depth))) in
+    let last = c .before .slot-last .ensures in (
       (omega arith, omega arith),
-      (λ k l h. (omega arith, omega (arith, e .1 .0 k (omega arith) h, slot, one)), λ h s. omega (arith, e .1 .1 h, slot, one)),
+      (
+        λ k l h. (omega arith, before (a .table .now) k end (c .before .slot-last .result) some last (e .1 .0 k (omega arith) h)),
+        λ h s. after (a .table .now) (c .first-past .result) end (c .before .slot-last .result) some last (e .1 .1 h),
+      ),
     )
 
 pub place-end-spec : {M : Type 1} → statement M
@@ -64,10 +53,7 @@ place-end-spec =
     (tie.spec
     add-result
     add-first-past
-    slot-key-requires
-    sub-first-past
-    shl-first-past
-    add-first-past-2
+    slot-last-requires
     first-past-requires
     returns
     returns-2)

@@ -1,37 +1,29 @@
 -- `gather::slot_key` meets its contract. Assumes nothing.
-use Prim.Native.Nat.{ℕ, _+_, _-_, _*_, _%_, _^_, _≤_, _<_}
-use mathlib.Core.Path.{_≡_, ap}
-use native.Mathlib.Nat.{mod-eq-of-lt}
+use Prim.Native.Nat.{_*_}
+use mathlib.Core.Path.{_∙_, ap}
 use native.Mathlib.Omega.{arith}
+use lib.Pow.{pow-pos}
+use Rattle.nodes.specs.Node.{slotSize}
 use borrow.Author.Needs.{needs}
-use Rattle.positions.proofs.RunsNode.{size-slot}
-use Rattle.nodes.specs.Node.{wide, slotSize}
-use Rattle.nodes.proofs.OutputLaws.{slot-below}
+use Rattle.gather.proofs.Halves.{slot-half, slot-twice, slot-inside}
 use Rattle.gather.proofs.slot_key.Statement.{statement}
 use Rattle.gather.proofs.slot_key.Tie as tie
 
--- A slot stands at a wide address, so no bit is shifted out.
-shifted : (depth key c : ℕ) → depth ≤ 30 → c < 32 → key + 2 ^ (wide - depth) ≤ 2 ^ wide
-    → (key + c * 2 ^ slotSize depth < 2 ^ wide) × (c * 2 ^ slotSize depth % 2 ^ 64 ≡ c * 2 ^ slotSize depth)
-shifted depth key c deep lt h =
-    let b : key + c * 2 ^ slotSize depth < 2 ^ wide = rw (size-slot (slotSize depth)) at (slot-below depth key c deep lt h) in
-    (b, mod-eq-of-lt (omega arith))
-
-sub-result : tie.Need-sub-result
-sub-result c = search needs
-
-shl-result : tie.Need-shl-result
-shl-result c = search needs
+shr-result : tie.Need-shr-result
+shr-result c = search needs
 
 add-result : tie.Need-add-result
 add-result c =
     let a = c .args in
-    omega (arith, shifted (a .depth) (a .key) (a .c) (c .pre .0) (c .pre .1 .0) (c .pre .1 .1))
+    let half = slot-half (a .depth) (a .key) (a .c) (c .pre .0) (c .pre .1) in
+    let within = slot-inside (a .depth) (a .key) (a .c) (c .pre .0) (c .pre .1) in
+    record { fits = omega (arith, half, within, pow-pos (slotSize (a .depth))) }
 
 returns : tie.Need-returns
 returns c =
     let a = c .args in
-    rw (size-slot (slotSize (a .depth))) (ap (λ (k : ℕ). a .key + k) (shifted (a .depth) (a .key) (a .c) (c .pre .0) (c .pre .1 .0) (c .pre .1 .1) .1))
+    let half = slot-half (a .depth) (a .key) (a .c) (c .pre .0) (c .pre .1) in
+    (half, λ lt. ap (λ (k : _). k * 2) half ∙ slot-twice (a .depth) (a .key) (a .c) (c .pre .0) (c .pre .1) lt)
 
 pub slot-key-spec : {M : Type 1} → statement M
-slot-key-spec = tie.close (tie.spec sub-result shl-result add-result returns)
+slot-key-spec = tie.close (tie.spec shr-result add-result returns)

@@ -1,13 +1,16 @@
 -- `maximal::aggregate_set`, which calls itself on the slots that are walked, meets its contract, by falling bits below the node. The loop's
 -- invariant: the node's coverage is read, and of its slots before the next the maximal prefixes are written. Assumes nothing.
-use Prim.Native.Nat.{ℕ, _+_, _-_, _<_}
+use Prim.Native.Nat.{ℕ, _+_, _-_, _*_, _<_}
 use mathlib.Core.Path.{_≡_, refl, sym, _∙_}
+use mathlib.Core.Bool.{true}
 use native.Mathlib.Omega.{arith}
 use lib.ListN.{getD, replicate, getD-replicate}
 use borrow.Author.Needs.{needs}
 use borrow.Fn.Kinds.{In}
 use borrow.Fn.PlainCycle.{Measures, is, falls, and}
-use Rattle.nodes.proofs.OutputLaws.{slot-below, wrote-count}
+use Rattle.positions.specs.Runs.{placeAt}
+use Rattle.nodes.specs.Node.{reach, slotSize}
+use Rattle.nodes.proofs.OutputLaws.{wrote-count}
 use Rattle.nodes.proofs.OutputWalk.{relaid, Begun, begun, begun-few}
 use Rattle.nodes.proofs.RoomWalk.{ahead-end}
 use Rattle.maximal.proofs.MaximalLaws.{maximalSlot}
@@ -31,7 +34,7 @@ use Rattle.maximal.proofs.+aggregate_set.{statement}
 use Rattle.maximal.proofs.+aggregate_set.Tie.{close}
 
 abbrev measure : Measures 3 kinds.ps ℕ
-measure κs a = 35 - a .1 .1 .1 .0
+measure κs a = reach - a .1 .1 .1 .0
 
 abbrev entered : ℕ → In 3 kinds.ps
 entered t = and 3 kinds.ps (is 3 kinds.ps measure t) walk.Pre
@@ -71,7 +74,7 @@ claims t = (
 
 abbrev Inv-loop : lts.InvT-loop
 Inv-loop table lo hi depth key above work top out₀ first end hops walked coverage entries pushed busy at₀ n₀ next₀ out at n next =
-    Walking table lo hi depth key above work top first end hops walked entries pushed busy out₀ next at n out
+    Walking table lo hi depth (key * 2) above work top first end hops walked entries pushed busy out₀ next at n out
 
 abbrev μ-loop : lts.MeasureT-loop
 μ-loop table lo hi depth key above work top out₀ first end hops walked coverage entries pushed busy at₀ n₀ next₀ out at n next = 32 - next
@@ -147,7 +150,7 @@ loop-holds t c =
 slot-key-requires : (t : ℕ) → lts.Need-slot-key-requires (claims t) (entered t) walk.Post Inv-loop μ-loop
 slot-key-requires t c κs =
     let n = c .before .loop .inv .found .opened .node in
-    (n .deep, (c .loop-test .taken, n .small))
+    (c .loop-test .taken, n .at)
 
 past-requires : (t : ℕ) → lts.Need-past-requires (claims t) (entered t) walk.Post Inv-loop μ-loop
 past-requires t c κs = search needs
@@ -165,17 +168,17 @@ emit-slot-requires : (t : ℕ) → lts.Need-emit-slot-requires (claims t) (enter
 emit-slot-requires t c κs =
     let n = c .before .before .before .before .before .loop .inv .found .opened .node in
     let lt = c .before .before .before .before .loop-test .taken in
-    (lt, (n .deep, rw (c .before .before .before .slot-key .ensures) (slot-below _ _ _ (n .deep) lt (n .small))))
+    (lt, n .at .deep)
 
 -- The entries that begin at a slot are written once they come back.
 started : (t : ℕ) (c : lts.After-slice-known2 (claims t) (entered t) walk.Post Inv-loop μ-loop)
     → let a = c .before .before .before .before .before .before .before .before .before .before .before .before .before .before .before .before .before .before .before .before .before .before .args in
     let l = c .before .before .before .before .before .before .before .before .loop in
-    Begun (c .before .before .before .before .before .before .before .before .before .before .before .before .entries-of .result) (replicate 31 0) (a .depth) (a .key)
-    (maximalSlot (a .table .now) (a .depth) (a .key) (a .above) (c .before .before .before .before .before .before .before .before .before .before .before .before .before .before .before .before .gather-run .last .1 .1 .1 .1 .1 .0) (c .before .before .before .before .before .before .before .before .before .before .before .before .before .before .before .before .gather-run .last .1 .1 .1 .1 .1 .1 .0) (c .before .before .before .before .before .before .before .before .before .before .before .push-l4 .result))
+    Begun (c .before .before .before .before .before .before .before .before .before .before .before .before .entries-of .result) (replicate 31 0) (a .depth) (a .key * 2)
+    (maximalSlot (a .table .now) (a .depth) (a .key * 2) (a .above) (c .before .before .before .before .before .before .before .before .before .before .before .before .before .before .before .before .gather-run .last .1 .1 .1 .1 .1 .0) (c .before .before .before .before .before .before .before .before .before .before .before .before .before .before .before .before .gather-run .last .1 .1 .1 .1 .1 .1 .0) (c .before .before .before .before .before .before .before .before .before .before .before .push-l4 .result))
     (l .next) (l .n + c .before .before .emit-slot .result) (a .out .now) (relaid (c .before .before .before .before .before .past .result) (c .before .before .emit-slot .last .1 .1 .1 .1 .1 .0) (l .out))
 started t c =
-    begun (c .before .before .before .before .before .before .before .before .loop .inv .done) (c .before .before .before .before .before .before .before .loop-test .taken) (c .before .before .before .before .before .past .ensures) (c .before .before .before .before .before .before .slot-key .ensures)
+    begun (c .before .before .before .before .before .before .before .before .loop .inv .done) (c .before .before .before .before .before .before .before .loop-test .taken) (c .before .before .before .before .before .past .ensures) (c .before .before .before .before .before .before .slot-key .ensures .0)
     (c .before .before .emit-slot .ensures) (c .before .out .given .1)
 
 add-n : (t : ℕ) → lts.Need-add-n (claims t) (entered t) walk.Post Inv-loop μ-loop
@@ -219,7 +222,7 @@ array-read-aggregate-set-2 t c = search needs
 
 add-aggregate-set-3 : (t : ℕ) → lts.Need-add-aggregate-set-3 (claims t) (entered t) walk.Post Inv-loop μ-loop
 add-aggregate-set-3 t c =
-    let deep = c .before .before .before .before .before .before .before .before .before .before .before .before .loop .inv .found .opened .node .deep in
+    let deep = c .before .before .before .before .before .before .before .before .before .before .before .before .loop .inv .found .opened .node .at .deep in
     search needs
 
 is-absorbed-requires : (t : ℕ) → lts.Need-is-absorbed-requires (claims t) (entered t) walk.Post Inv-loop μ-loop
@@ -234,6 +237,15 @@ part-aggregate-set-start t c = search needs
 part-aggregate-set-end : (t : ℕ) → lts.Need-part-aggregate-set-end (claims t) (entered t) walk.Post Inv-loop μ-loop
 part-aggregate-set-end t c = search needs
 
+-- A slot that is walked stands where its half says.
+place : (t : ℕ) (c : lts.After-has-bit (claims t) (entered t) walk.Post Inv-loop μ-loop) → c .has-bit .result ≡ true
+    → let a = c .before .before .before .before .before .before .before .before .before .before .before .before .before .before .before .before .before .before .before .before .before .before .before .before .args in
+    c .before .before .before .before .before .before .before .before .slot-key .result * 2 ≡ placeAt (slotSize (a .depth)) (a .key * 2) 5 (c .before .before .before .before .before .before .before .before .before .before .loop .next)
+place t c e =
+    let s = c .before .before .before .before .before .before .before .before .before .before .loop .inv .found .opened in
+    let child = slot-node s _ (c .before .before .before .before .before .before .before .before .before .loop-test .taken) (sym (c .has-bit .ensures) ∙ e) in
+    c .before .before .before .before .before .before .before .before .slot-key .ensures .1 (omega (arith, child .at .deep))
+
 aggregate-set-requires : (t : ℕ) → lts.Need-aggregate-set-requires (claims t) (entered t) walk.Post Inv-loop μ-loop
 aggregate-set-requires t c κs =
     let w = c .before .before .before .before .before .before .before .before .before .before .before .before .before .before .loop .inv in
@@ -241,12 +253,13 @@ aggregate-set-requires t c κs =
     let lt = c .before .before .before .before .before .before .before .before .before .before .before .before .before .loop-test .taken in
     let e = sym (c .before .before .before .before .has-bit .ensures) ∙ c .before .before .before .if1 .taken in
     let bits = c .before .before .before .before .before .before .before .before .before .before .before .before .before .before .before .before .before .before .before .before .before .before .before .before .before .before .before .before .pre .0 in
-    (omega (arith, bits, s .node .deep), rw (c .before .before .before .before .before .before .before .before .before .before .before .before .slot-key .ensures) (slot-node s _ lt e, child-stored s (w .ahead) lt e (w .found .stored)))
+    let child = slot-node s _ lt e in
+    (omega (arith, bits, child .within-reach), rw (place t (c .before .before .before .before) (c .before .before .before .if1 .taken)) (child, child-stored s (w .ahead) lt e (w .found .stored)))
 
 add-n-2 : (t : ℕ) → lts.Need-add-n-2 (claims t) (entered t) walk.Post Inv-loop μ-loop
 add-n-2 t c =
     let l = c .before .before .before .before .before .before .before .before .before .before .before .before .before .before .before .before .before .before .loop in
-    let own = wrote-count (slot-wrote (l .inv .found) (l .next) (c .before .before .before .before .before .before .before .before .before .before .before .before .before .before .before .before .slot-key .ensures) (c .before .before .before .before .before .is-absorbed .ensures) (c .before .before .before .aggregate-set .ensures .1)) in
+    let own = wrote-count (slot-wrote (l .inv .found) (l .next) (place t (c .before .before .before .before .before .before .before .before) (c .before .before .before .before .before .before .before .if1 .taken)) (c .before .before .before .before .before .is-absorbed .ensures) (c .before .before .before .aggregate-set .ensures .1)) in
     let few = begun-few (started t (c .before .before .before .before .before .before .before .before .before .before)) in
     let most = found-most (l .inv .found) in
     omega (arith, c .before .before .before .before .before .before .before .before .before .before .before .before .before .before .before .before .before .before .before .before .before .before .before .before .before .before .before .before .before .before .before .before .good)
@@ -258,7 +271,7 @@ loop-again : (t : ℕ) → lts.Need-loop-again (claims t) (entered t) walk.Post 
 loop-again t c =
     let e = sym (c .before .before .before .before .before .before .before .before .has-bit .ensures) ∙ c .before .before .before .before .before .before .before .if1 .taken in
     let call = c .before .before .before .aggregate-set in
-    walk-child (c .before .before .before .before .before .before .before .before .before .before .before .before .before .before .before .before .before .before .loop .inv) (c .before .before .before .before .before .before .before .before .before .next-bit2 .ensures) (started t (c .before .before .before .before .before .before .before .before .before .before)) e (c .before .before .before .before .before .before .before .before .before .before .before .before .before .before .before .before .slot-key .ensures)
+    walk-child (c .before .before .before .before .before .before .before .before .before .before .before .before .before .before .before .before .before .before .loop .inv) (c .before .before .before .before .before .before .before .before .before .next-bit2 .ensures) (started t (c .before .before .before .before .before .before .before .before .before .before)) e (place t (c .before .before .before .before .before .before .before .before) (c .before .before .before .before .before .before .before .if1 .taken))
     (c .before .before .before .before .before .is-absorbed .ensures) (call .ensures .0) (c .before .before .before .before .before .before .past2 .ensures) (call .ensures .1) (c .before .before .out2 .given .1)
 
 loop-less-2 : (t : ℕ) → lts.Need-loop-less-2 (claims t) (entered t) walk.Post Inv-loop μ-loop

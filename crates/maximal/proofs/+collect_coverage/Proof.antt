@@ -1,6 +1,6 @@
 -- `maximal::collect_coverage`, which calls itself on the slots that are walked, meets its contract, by falling bits below the node. The loop's
 -- invariant: of the slots from k on the coverage is laid, and the word has the covered ones. Assumes nothing.
-use Prim.Native.Nat.{ℕ, _-_, _<_}
+use Prim.Native.Nat.{ℕ, _-_, _*_, _<_}
 use mathlib.Core.Path.{_≡_, refl}
 use mathlib.Core.Bool.{true}
 use native.Mathlib.Omega.{arith}
@@ -9,6 +9,7 @@ use borrow.Author.Needs.{needs}
 use borrow.Fn.Kinds.{In}
 use borrow.Fn.PlainCycle.{Measures, is, falls, and}
 use Rattle.words.specs.Bits.{bit}
+use Rattle.nodes.specs.Node.{reach}
 use Rattle.maximal.proofs.MaximalRoom.{slot-node, Collecting, collect-start, collect-length, collect-within, collect-least, collect-room, collect-child, collect-end}
 use Rattle.maximal.proofs.collect_coverage.Reads as walk
 use Rattle.maximal.proofs.collect_coverage.Kinds as kinds
@@ -25,7 +26,7 @@ use Rattle.maximal.proofs.+collect_coverage.{statement}
 use Rattle.maximal.proofs.+collect_coverage.Tie.{close}
 
 abbrev measure : Measures 2 kinds.ps ℕ
-measure κs a = 35 - a .1 .1 .1 .0
+measure κs a = reach - a .1 .1 .1 .0
 
 abbrev entered : ℕ → In 2 kinds.ps
 entered t = and 2 kinds.ps (is 2 kinds.ps measure t) walk.Pre
@@ -57,7 +58,7 @@ claims t = (
 
 abbrev Inv-loop : lts.InvT-loop
 Inv-loop table lo hi depth key work₀ top first end g under walked covered₀ at₀ k₀ work covered at k =
-    Collecting table lo hi depth key first end (g .present) under walked top work₀ k at covered work
+    Collecting table lo hi depth (key * 2) first end (g .present) under walked top work₀ k at covered work
     × (0 < k → bit walked (k - 1) ≡ true)
 
 abbrev μ-loop : lts.MeasureT-loop
@@ -127,7 +128,8 @@ collect-coverage-requires t c κs =
     let pos = c .before .before .loop-test .taken in
     let e = l .inv .1 pos in
     let bits = c .before .before .before .before .before .before .before .before .before .before .before .before .pre .0 in
-    (omega (arith, w .opened .node .deep), rw (c .before .slot-key .ensures) (slot-node (w .opened) (l .k - 1) (omega arith) e, (collect-room w pos e, collect-within w)))
+    let child = slot-node (w .opened) (l .k - 1) (omega arith) e in
+    (omega (arith, child .within-reach), rw (c .before .slot-key .ensures .1 (omega (arith, child .at .deep))) (child, (collect-room w pos e, collect-within w)))
 
 cast-with-slot : (t : ℕ) → lts.Need-cast-with-slot (claims t) (entered t) walk.Post Inv-loop μ-loop
 cast-with-slot t c = search needs
@@ -148,7 +150,8 @@ loop-again : (t : ℕ) → lts.Need-loop-again (claims t) (entered t) walk.Post 
 loop-again t c =
     let l = c .before .before .before .before .before .before .before .before .before .loop in
     let pos = c .before .before .before .before .before .before .before .before .loop-test .taken in
-    let child = rw (c .before .before .before .before .before .before .before .slot-key .ensures) at (c .before .before .before .before .before .collect-coverage .ensures) in
+    let node = slot-node (l .inv .0 .opened) (l .k - 1) (omega arith) (l .inv .1 pos) in
+    let child = rw (c .before .before .before .before .before .before .before .slot-key .ensures .1 (omega (arith, node .at .deep))) at (c .before .before .before .before .before .collect-coverage .ensures) in
     let last = c .last-bit2 .ensures in
     (collect-child (l .inv .0) pos (l .inv .1 pos) _ _ (child .0) (child .1) (c .before .before .has-bit .ensures) (c .before .with-slot .ensures) last, last .isSet)
 

@@ -1,12 +1,13 @@
 -- `cover::query::bit_covered`, which calls itself on the slots that it asks, meets its contract, by falling bits below the node. The loop's
 -- invariant: of the slots before the next the word has those that were asked and are covered. Assumes nothing.
-use Prim.Native.Nat.{ℕ, _-_, _<_}
+use Prim.Native.Nat.{ℕ, _-_, _*_, _<_}
 use mathlib.Core.Path.{refl, sym, _∙_}
 use native.Mathlib.Omega.{arith}
 use lib.ListN.{getD-replicate}
 use borrow.Author.Needs.{needs}
 use borrow.Fn.Kinds.{In}
 use borrow.Fn.PlainCycle.{Measures, is, falls, and}
+use Rattle.nodes.specs.Node.{reach}
 use Rattle.cover.proofs.CoverLaws.{member-covers, Answered, ask-start, ask-node, ask-child, ask-end}
 use Rattle.cover.proofs.query.bit_covered.Reads as walk
 use Rattle.cover.proofs.query.bit_covered.Kinds as kinds
@@ -24,7 +25,7 @@ use Rattle.cover.proofs.query.+bit_covered.{statement}
 use Rattle.cover.proofs.query.+bit_covered.Tie.{close}
 
 abbrev measure : Measures 1 kinds.ps ℕ
-measure κs a = 35 - a .1 .1 .1 .0
+measure κs a = reach - a .1 .1 .1 .0
 
 abbrev entered : ℕ → In 1 kinds.ps
 entered t = and 1 kinds.ps (is 1 kinds.ps measure t) walk.Pre
@@ -58,7 +59,7 @@ claims t = (
 
 abbrev Inv-loop : lts.InvT-loop
 Inv-loop table lo hi depth key b first end g under walked covered₀ next₀ covered next =
-    Answered table lo hi depth key b first end (g .present) under walked covered next
+    Answered table lo hi depth (key * 2) b first end (g .present) under walked covered next
 
 abbrev μ-loop : lts.MeasureT-loop
 μ-loop table lo hi depth key b first end g under walked covered₀ next₀ covered next = 32 - next
@@ -131,7 +132,7 @@ add-bit-covered-3 t c = search needs
 bit-covered-requires : (t : ℕ) → lts.Need-bit-covered-requires (claims t) (entered t) walk.Post Inv-loop μ-loop
 bit-covered-requires t c κs =
     let child = ask-node (c .before .before .loop .inv) (c .before .loop-test .taken) in
-    (omega (arith, c .before .before .before .before .before .before .before .before .before .before .before .before .before .before .pre .0, child .deep), (rw (c .slot-key .ensures) child, omega arith))
+    (omega (arith, c .before .before .before .before .before .before .before .before .before .before .before .before .before .before .pre .0, child .within-reach), (rw (c .slot-key .ensures .1 (omega (arith, child .at .deep))) child, omega arith))
 
 cast-with-slot : (t : ℕ) → lts.Need-cast-with-slot (claims t) (entered t) walk.Post Inv-loop μ-loop
 cast-with-slot t c = search needs
@@ -150,7 +151,8 @@ loop-less t c = search needs
 
 loop-again : (t : ℕ) → lts.Need-loop-again (claims t) (entered t) walk.Post Inv-loop μ-loop
 loop-again t c =
-    let found = rw (c .before .before .before .slot-key .ensures) at (c .before .before .bit-covered .ensures 0 0 (omega arith) (omega arith) refl) in
+    let child = ask-node (c .before .before .before .before .before .loop .inv) (c .before .before .before .before .loop-test .taken) in
+    let found = rw (c .before .before .before .slot-key .ensures .1 (omega (arith, child .at .deep))) at (c .before .before .bit-covered .ensures 0 0 (omega arith) (omega arith) refl) in
     ask-child (c .before .before .before .before .before .loop .inv) (c .before .before .before .before .loop-test .taken) (c .before .before .bit-covered .result) (c .before .with-slot .result) (c .next-bit2 .result) found (c .before .with-slot .ensures) (c .next-bit2 .ensures)
 
 fold-coverage-requires : (t : ℕ) → lts.Need-fold-coverage-requires (claims t) (entered t) walk.Post Inv-loop μ-loop

@@ -1,5 +1,5 @@
 -- `cover::query::covers_in_aggregate`, which calls itself on a slot, meets its contract. Assumes nothing.
-use Prim.Native.Nat.{ℕ, _-_, _<_}
+use Prim.Native.Nat.{ℕ, _-_, _*_, _<_}
 use mathlib.Core.Path.{refl, sym, ap, _∙_}
 use mathlib.Core.Bool.{true, false}
 use mathlib.Core.List.{List}
@@ -7,7 +7,7 @@ use native.Mathlib.Omega.{arith}
 use lib.ListN.{getD-replicate}
 use Rattle.theory.specs.Results.{throughout}
 use Rattle.theory.specs.Routes.{Route, held}
-use Rattle.nodes.specs.Node.{wide}
+use Rattle.nodes.specs.Node.{reach, wide}
 use Rattle.gather.proofs.GatherRuns.{run-none}
 use Rattle.cover.proofs.CoverLaws.{none-covered, Sought, place-lt, record-covers, position-answer, place-slot, slot-node, slot-lies, slot-answer}
 use borrow.Fn.Kinds.{In}
@@ -25,7 +25,7 @@ use Rattle.cover.proofs.query.+covers_in_aggregate.{statement}
 use Rattle.cover.proofs.query.+covers_in_aggregate.Tie.{close}
 
 abbrev μ-covers-in-aggregate : Measures 1 covers-in-aggregate-kinds.ps ℕ
-μ-covers-in-aggregate κs a = 35 - a .1 .1 .1 .0
+μ-covers-in-aggregate κs a = reach - a .1 .1 .1 .0
 
 abbrev covers-in-aggregate-at : ℕ → In 1 covers-in-aggregate-kinds.ps
 covers-in-aggregate-at t =
@@ -55,17 +55,17 @@ covers-in-aggregate-gather-run-requires t c κs =
 covers-in-aggregate-level-of-requires : (t : ℕ) → covers-in-aggregate-lts.Need-level-of-requires (covers-in-aggregate-claims t) (covers-in-aggregate-at t) covers-in-aggregate.Post
 covers-in-aggregate-level-of-requires t c κs =
     let pre = c .before .before .before .before .pre .1 in
-    (pre .0 .deep, pre .1 .0 .0)
+    (pre .0 .at .deep, pre .1 .0 .0)
 
 covers-in-aggregate-heap-index-requires : (t : ℕ) → covers-in-aggregate-lts.Need-heap-index-requires (covers-in-aggregate-claims t) (covers-in-aggregate-at t) covers-in-aggregate.Post
 covers-in-aggregate-heap-index-requires t c κs =
     let pre = c .before .before .before .before .before .pre .1 in
-    ((pre .0 .deep, c .level-of .ensures .1), pre .1 .1 .1)
+    (pre .0 .at .deep, c .level-of .ensures .1)
 
 -- What is known once the prefix's place is found.
 sought : (t : ℕ) (c : covers-in-aggregate-lts.After-heap-index (covers-in-aggregate-claims t) (covers-in-aggregate-at t) covers-in-aggregate.Post)
     → Sought (c .before .before .before .before .before .before .args .table .now) (c .before .before .before .before .before .before .args .lo) (c .before .before .before .before .before .before .args .hi) (c .before .before .before .before .before .before .args .depth)
-    (c .before .before .before .before .before .before .args .key) (c .before .before .before .before .before .before .args .query) (c .before .before .before .before .before .before .args .len)
+    (c .before .before .before .before .before .before .args .key * 2) (c .before .before .before .before .before .before .args .query * 2) (c .before .before .before .before .before .before .args .len)
     (c .before .before .gather-run .last .1 .1 .1 .1 .1 .0) (c .before .before .gather-run .last .1 .1 .1 .1 .1 .1 .0) (c .before .before .gather-run .result .present)
     (c .before .level-of .result) (c .heap-index .result)
 sought t c =
@@ -77,8 +77,7 @@ sought t c =
       aligned = pre .1 .1 .0;
       lies = pre .1 .1 .1;
       leveled = c .before .level-of .ensures;
-      placed = c .heap-index .ensures .0;
-      few = c .heap-index .ensures .1;
+      placed = c .heap-index .ensures .0 _ (pre .0 .at) (pre .1 .1 .1);
     }
 
 covers-in-aggregate-record-over-requires : (t : ℕ) → covers-in-aggregate-lts.Need-record-over-requires (covers-in-aggregate-claims t) (covers-in-aggregate-at t) covers-in-aggregate.Post
@@ -120,12 +119,12 @@ covers-in-aggregate-array-read-to : (t : ℕ) → covers-in-aggregate-lts.Need-a
 covers-in-aggregate-array-read-to t c = omega (arith, place-lt (sought t (c .before .before .before .before .before)))
 
 covers-in-aggregate-add-covers-in-aggregate : (t : ℕ) → covers-in-aggregate-lts.Need-add-covers-in-aggregate (covers-in-aggregate-claims t) (covers-in-aggregate-at t) covers-in-aggregate.Post
-covers-in-aggregate-add-covers-in-aggregate t c = omega (arith, c .before .before .before .before .before .before .before .before .before .before .before .before .pre .1 .0 .deep)
+covers-in-aggregate-add-covers-in-aggregate t c = omega (arith, c .before .before .before .before .before .before .before .before .before .before .before .before .pre .1 .0 .at .deep)
 
 covers-in-aggregate-slot-key-requires : (t : ℕ) → covers-in-aggregate-lts.Need-slot-key-requires (covers-in-aggregate-claims t) (covers-in-aggregate-at t) covers-in-aggregate.Post
 covers-in-aggregate-slot-key-requires t c κs =
     let s = sought t (c .before .before .before .before .before .before) in
-    (s .node .deep, (omega (arith, place-slot s (c .before .before .before .before .before .if1 .left) .2), s .node .small))
+    (omega (arith, place-slot s (c .before .before .before .before .before .if1 .left) .2), s .node .at)
 
 covers-in-aggregate-covers-in-aggregate-requires : (t : ℕ) → covers-in-aggregate-lts.Need-covers-in-aggregate-requires (covers-in-aggregate-claims t) (covers-in-aggregate-at t) covers-in-aggregate.Post
 covers-in-aggregate-covers-in-aggregate-requires t c κs =
@@ -133,7 +132,8 @@ covers-in-aggregate-covers-in-aggregate-requires t c κs =
     let slot = c .before .before .before .before .before .before .if1 .left in
     let child = slot-node s slot (c .before .if4 .taken) in
     let lies = slot-lies s slot in
-    (omega (arith, c .before .before .before .before .before .before .before .before .before .before .before .before .before .pre .0, child .deep), (rw (c .slot-key .ensures) child, ((lies .0, s .lens .1), (s .aligned, rw (c .slot-key .ensures) (lies .1)))))
+    let key = c .slot-key .ensures .1 (omega (arith, child .at .deep)) in
+    (omega (arith, c .before .before .before .before .before .before .before .before .before .before .before .before .before .pre .0, child .within-reach), (rw key child, ((lies .0, s .lens .1), (s .aligned, rw key (lies .1)))))
 
 covers-in-aggregate-returns-4 : (t : ℕ) → covers-in-aggregate-lts.Need-returns-4 (covers-in-aggregate-claims t) (covers-in-aggregate-at t) covers-in-aggregate.Post
 covers-in-aggregate-returns-4 t c =
@@ -143,8 +143,8 @@ covers-in-aggregate-returns-4 t c =
 covers-in-aggregate-returns-5 : (t : ℕ) → covers-in-aggregate-lts.Need-returns-5 (covers-in-aggregate-claims t) (covers-in-aggregate-at t) covers-in-aggregate.Post
 covers-in-aggregate-returns-5 t c =
     let a = c .before .before .before .before .before .before .before .before .before .before .before .before .args in
-    sym (none-covered wide (wide - a .len) (a .query))
-    ∙ ap (λ (u : List Route). throughout (held wide u) (wide - a .len) (a .query)) (sym (run-none (a .table .now) _ _ (c .if4 .left)))
+    sym (none-covered wide (wide - a .len) (a .query * 2))
+    ∙ ap (λ (u : List Route). throughout (held wide u) (wide - a .len) (a .query * 2)) (sym (run-none (a .table .now) _ _ (c .if4 .left)))
     ∙ slot-answer (sought t (c .before .before .before .before .before .before)) false (c .before .before .before .before .before .if1 .left) (λ l j le lt e. sym (c .before .if3 .left) ∙ c .before .before .record-over2 .ensures l j le lt e)
 
 pub +covers-in-aggregate-spec : {M : Type 1} → statement M

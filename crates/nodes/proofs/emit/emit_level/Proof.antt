@@ -23,7 +23,9 @@ rem-if1 : tie.Need-rem-if1
 rem-if1 c = rw (shifted-one (5 - c .before .args .l) (omega arith)) (pow-pos (5 - c .before .args .l))
 
 returns : tie.Need-returns
-returns c = (omega arith, rw (head-apart _ _ _ _ _ _ (c .before .before .pre .0 .1 .0) (c .if1 .taken)) (wrote-none _ _))
+returns c =
+    let start = c .before .before in
+    (omega arith, λ a half. rw (head-apart (start .args .entries) (start .args .hops .now) (start .args .depth) a (start .args .c) (start .args .l) (start .pre .0 .1 .0) (c .if1 .taken)) (wrote-none _ _))
 
 shl-b : tie.Need-shl-b
 shl-b c = search needs
@@ -53,7 +55,7 @@ returns-2 : tie.Need-returns-2
 returns-2 c =
     let start = c .before .before .before .before in
     let clear = sym (c .before .has-bit .ensures) ∙ not-true (c .before .has-bit .result) (c .if2 .taken) in
-    (omega arith, rw (head-absent _ _ _ _ _ _ (start .pre .0 .1 .0) (c .before .before .if1 .left) clear) (wrote-none _ _))
+    (omega arith, λ a half. rw (head-absent (start .args .entries) (start .args .hops .now) (start .args .depth) a (start .args .c) (start .args .l) (start .pre .0 .1 .0) (c .before .before .if1 .left) clear) (wrote-none _ _))
 
 past-requires : tie.Need-past-requires
 past-requires c κs = search needs
@@ -90,7 +92,7 @@ returns-3 c =
     let past = c .before .before .before .before .before .past in
     let has = c .before .before .before .before .before .before .before .has-bit in
     let there = sym (has .ensures) ∙ not-false (has .result) (c .before .before .before .before .before .before .if2 .left) in
-    (omega arith, rw (head-entry _ _ _ _ _ _ (start .pre .0 .1 .0) (c .before .before .before .before .before .before .before .before .if1 .left) there) (wrote-tail _ _ _ (past .ensures .1) (past .ensures .0) (c .before .before .put .ensures)))
+    (omega arith, λ a half. rw (head-entry (start .args .entries) (start .args .hops .now) (start .args .depth) a (start .args .c) (start .args .l) (start .pre .0 .1 .0) (c .before .before .before .before .before .before .before .before .if1 .left) there) (wrote-tail _ _ _ (past .ensures .1) (past .ensures .0) (c .before .before .put .ensures a half)))
 
 pub emit-level-spec : {M : Type 1} → statement M
 emit-level-spec =

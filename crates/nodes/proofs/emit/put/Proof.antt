@@ -17,7 +17,7 @@ same-length : tie.Need-same-length
 same-length c = search needs
 
 returns : tie.Need-returns
-returns c = wrote-record _ _ _ (c .before .before .put-record .ensures)
+returns c = wrote-record _ _ _ _ _ (c .before .before .put-record .ensures)
 
 pub put-spec : {M : Type 1} → statement M
 put-spec =

@@ -1,6 +1,6 @@
 -- `ortc::walks::collect_sets` meets its contract: it calls itself only on a node five bits deeper. The loop's invariant: the slots from k on are
 -- collected, those before have their leaves, and slot k - 1 has a record. Assumes nothing.
-use Prim.Native.Nat.{ℕ, _+_, _-_, _/_, _≤_, _<_}
+use Prim.Native.Nat.{ℕ, _+_, _-_, _*_, _/_, _≤_, _<_}
 use mathlib.Core.Path.{_≡_, refl, _∙_}
 use mathlib.Core.Bool.{true}
 use native.Mathlib.Omega.{arith}
@@ -10,7 +10,7 @@ use borrow.Fn.Kinds.{In}
 use borrow.Fn.PlainCycle.{Measures, is, falls, and}
 use Rattle.words.specs.Bits.{bit}
 use Rattle.positions.specs.Runs.{hopOf}
-use Rattle.nodes.specs.Node.{run}
+use Rattle.nodes.specs.Node.{reach, run}
 use Rattle.nodes.proofs.RoomLaws.{pushed-length}
 use Rattle.gather.proofs.GatherLaws.{absent, slot-occupied, ends-in, covering-le, child-node}
 use Rattle.assign.specs.Answers.{answerIn}
@@ -30,7 +30,7 @@ use Rattle.ortc.proofs.walks.+collect_sets.Tie.{close}
 
 -- The bits below the node.
 abbrev μ : Measures 2 kinds.ps ℕ
-μ κs a = 35 - a .1 .1 .1 .0
+μ κs a = reach - a .1 .1 .1 .0
 
 -- What holds on entry at the measure t, and of a call below it.
 abbrev at-measure : ℕ → In 2 kinds.ps
@@ -70,7 +70,7 @@ abbrev Inv-loop : lts.InvT-loop
 Inv-loop table lo hi depth key inherited fill work₀ top first end covering slots₀ occupied at₀ k₀ work slots at k =
     (k ≤ 32)
     × ((0 < k → bit occupied (k - 1) ≡ true)
-    × Collecting (answerIn (run table lo hi) (hopOf inherited) (hopOf fill)) covering fill depth key (run table lo hi) k top at slots work₀ work)
+    × Collecting (answerIn (run table lo hi) (hopOf inherited) (hopOf fill)) covering fill depth (key * 2) (run table lo hi) k top at slots work₀ work)
 
 abbrev μ-loop : lts.MeasureT-loop
 μ-loop table lo hi depth key inherited fill work₀ top first end covering slots₀ occupied at₀ k₀ work slots at k = k
@@ -140,7 +140,7 @@ add-collect-sets-3 t c = search needs
 slot-key-requires : (t : ℕ) → lts.Need-slot-key-requires (claims t) (at-measure t) collect-sets.Post Inv-loop μ-loop
 slot-key-requires t c κs =
     let n = c .before .before .before .before .before .before .before .before .before .before .before .before .before .pre .1 .0 in
-    (n .deep, (omega arith, n .small))
+    (omega arith, n .at)
 
 collect-sets-requires : (t : ℕ) → lts.Need-collect-sets-requires (claims t) (at-measure t) collect-sets.Post Inv-loop μ-loop
 collect-sets-requires t c κs =
@@ -151,15 +151,16 @@ collect-sets-requires t c κs =
     let gathered = c .before .before .before .before .before .before .before .before .before .before .gather-run .ensures in
     let g = gathered .0 in
     let covers = c .before .before .before .before .before .before .before .covering-hops .ensures in
-    let here = c .before .slot-key .ensures in
     let lp = c .before .before .before .loop in
     let j = lp .k - 1 in
     let e : lp .k ≡ j + 1 = omega arith in
     let some = slot-occupied g _ (gathered .1) j (omega arith) (lp .inv .1 .0 (omega arith)) in
+    let child = child-node n g j (omega arith) some in
+    let here = c .before .slot-key .ensures .1 (omega (arith, child .at .deep)) in
     let low = covering-le n g (start .args .inherited) 4 (j / 2) (bounds .0) (omega arith) (omega arith) in (
       omega arith,
       (
-        rw here (child-node n g j (omega arith) some),
+        rw here child,
         (
           (omega (arith, covers 4 (j / 2) (omega arith) (omega arith), low, bounds .0), bounds .1),
           (
@@ -193,12 +194,12 @@ loop-again t c =
     let gathered = c .before .before .before .before .before .before .before .before .before .before .before .before .before .before .gather-run .ensures in
     let g = gathered .0 in
     let covers = c .before .before .before .before .before .before .before .before .before .before .before .covering-hops .ensures in
-    let here = c .before .before .before .before .before .slot-key .ensures in
     let child = c .before .before .before .collect-sets .ensures in
     let lp = c .before .before .before .before .before .before .before .loop in
     let j = lp .k - 1 in
     let e : lp .k ≡ j + 1 = omega arith in
     let some = slot-occupied g _ (gathered .1) j (omega arith) (lp .inv .1 .0 (omega arith)) in
+    let here = c .before .before .before .before .before .slot-key .ensures .1 (omega (arith, child-node n g j (omega arith) some .at .deep)) in
     let last = c .last-bit2 .ensures in (
       omega (arith, last .high),
       (

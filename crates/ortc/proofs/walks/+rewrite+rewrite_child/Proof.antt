@@ -1,18 +1,18 @@
 -- `ortc::walks::rewrite` and `rewrite_child` meet their contracts: one cycle of calls, by falling bits below the node. The loop's invariant: the node
 -- is opened, and its slots before c are walked. Assumes nothing.
 use Prim.Native.Nat.{ℕ, _+_, _-_, _*_, _≤_, _<_}
-use mathlib.Core.Path.{refl}
-use lib.ListN.{getD-replicate}
-use lib.Pow.{pow-pos}
+use mathlib.Core.Path.{_≡_, refl, sym}
+use lib.ListN.{getD, getD-replicate}
 use native.Mathlib.Omega.{arith}
 use borrow.Author.Needs.{needs}
 use borrow.Fn.Kinds.{In}
 use borrow.Fn.PlainCycle.{Measures, is, falls, and}
 use Rattle.theory.specs.Ranks.{lowest}
 use Rattle.theory.proofs.Ranks.{lowest-chooses}
-use Rattle.nodes.specs.Node.{wide}
+use Rattle.positions.specs.Runs.{placeAt}
+use Rattle.nodes.specs.Node.{reach, slotSize}
 use Rattle.gather.proofs.GatherLaws.{ends-in, absent, child-node}
-use Rattle.nodes.proofs.OutputLaws.{slot-below, slot-within, wrote-count}
+use Rattle.nodes.proofs.OutputLaws.{wrote-count}
 use Rattle.nodes.proofs.OutputWalk.{relaid, Begun, begun, begun-few, walked-child}
 use Rattle.ortc.proofs.RewriteLaws.{sets-stored, slotRewrite, Opened, opened-most, Walking, opened, walking-start, walking-on, child-stored, ahead-child, walking-end, leaf-rewrite}
 use Rattle.ortc.proofs.walks.rewrite.Reads as rewrite
@@ -37,10 +37,10 @@ use Rattle.ortc.proofs.walks.+rewrite+rewrite_child.Tie.{close}
 
 -- Twice the bits below, and one more for a slot, so that the number falls from a node to its slots and from a slot to its node.
 abbrev μ-rewrite : Measures 4 rewrite-kinds.ps ℕ
-μ-rewrite κs a = 2 * (35 - a .1 .1 .1 .0)
+μ-rewrite κs a = 2 * (reach - a .1 .1 .1 .0)
 
 abbrev μ-child : Measures 4 child-kinds.ps ℕ
-μ-child κs a = 2 * (35 - a .1 .1 .1 .0) + 1
+μ-child κs a = 2 * (reach - a .1 .1 .1 .0) + 1
 
 abbrev rewrite-at : ℕ → In 4 rewrite-kinds.ps
 rewrite-at t = and 4 rewrite-kinds.ps (is 4 rewrite-kinds.ps μ-rewrite t) rewrite.Pre
@@ -83,8 +83,8 @@ child-claims t = (rewrite-below t, rewrite.Post, leaf-value-reads.Asked, leaf-va
 
 abbrev Inv-loop : rewrite-lts.InvT-loop
 Inv-loop table lo hi depth key inherited fill above ranks work top out₀ first end covering hops entries busy at₀ n₀ c₀ out at n c =
-    Opened (lowest ranks) table lo hi depth key inherited fill above work top first end covering hops entries busy
-    × Walking (lowest ranks) table lo hi depth key inherited fill above work top first end covering hops entries c at n out₀ out
+    Opened (lowest ranks) table lo hi depth (key * 2) inherited fill above work top first end covering hops entries busy
+    × Walking (lowest ranks) table lo hi depth (key * 2) inherited fill above work top first end covering hops entries c at n out₀ out
 
 abbrev μ-loop : rewrite-lts.MeasureT-loop
 μ-loop table lo hi depth key inherited fill above ranks work top out₀ first end covering hops entries busy at₀ n₀ c₀ out at n c = 32 - c
@@ -129,7 +129,7 @@ rewrite-loop-holds t c =
 rewrite-slot-key-requires : (t : ℕ) → rewrite-lts.Need-slot-key-requires (rewrite-claims t) (rewrite-at t) rewrite.Post Inv-loop μ-loop
 rewrite-slot-key-requires t c κs =
     let n = c .before .loop .inv .0 .node in
-    (n .deep, (c .loop-test .taken, n .small))
+    (c .loop-test .taken, n .at)
 
 rewrite-past-requires : (t : ℕ) → rewrite-lts.Need-past-requires (rewrite-claims t) (rewrite-at t) rewrite.Post Inv-loop μ-loop
 rewrite-past-requires t c κs = search needs
@@ -147,7 +147,7 @@ rewrite-emit-slot-requires : (t : ℕ) → rewrite-lts.Need-emit-slot-requires (
 rewrite-emit-slot-requires t c κs =
     let n = c .before .before .before .before .before .loop .inv .0 .node in
     let lt = c .before .before .before .before .loop-test .taken in
-    (lt, (n .deep, rw (c .before .before .before .slot-key .ensures) (slot-below _ _ _ (n .deep) lt (n .small))))
+    (lt, n .at .deep)
 
 -- The entries that begin at a slot are written once they come back.
 started : (t : ℕ) (c : rewrite-lts.After-slice-known2 (rewrite-claims t) (rewrite-at t) rewrite.Post Inv-loop μ-loop)
@@ -156,10 +156,10 @@ started : (t : ℕ) (c : rewrite-lts.After-slice-known2 (rewrite-claims t) (rewr
     let covering = c .before .before .before .before .before .before .before .before .before .before .before .before .before .before .before .before .before .covering-hops .result in
     let node = c .before .before .before .before .before .before .before .before .before .before .before .before .before .before .before .before .assign-nodes .result in
     let l = c .before .before .before .before .before .before .before .before .loop in
-    Begun (node .entries) (node .hops) (a .depth) (a .key) (slotRewrite (lowest (a .ranks .now)) (a .table .now) (found .0) (found .1 .0) covering (node .hops) (a .depth) (a .key) (a .fill)) (l .c)
+    Begun (node .entries) (node .hops) (a .depth) (a .key * 2) (slotRewrite (lowest (a .ranks .now)) (a .table .now) (found .0) (found .1 .0) covering (node .hops) (a .depth) (a .key * 2) (a .fill)) (l .c)
     (l .n + c .before .before .emit-slot .result) (a .out .now) (relaid (c .before .before .before .before .before .past .result) (c .before .before .emit-slot .last .1 .1 .1 .1 .1 .0) (l .out))
 started t c =
-    begun (c .before .before .before .before .before .before .before .before .loop .inv .1 .walked) (c .before .before .before .before .before .before .before .loop-test .taken) (c .before .before .before .before .before .past .ensures) (c .before .before .before .before .before .before .slot-key .ensures)
+    begun (c .before .before .before .before .before .before .before .before .loop .inv .1 .walked) (c .before .before .before .before .before .before .before .loop-test .taken) (c .before .before .before .before .before .past .ensures) (c .before .before .before .before .before .before .slot-key .ensures .0)
     (c .before .before .emit-slot .ensures) (c .before .out .given .1)
 
 rewrite-add-n : (t : ℕ) → rewrite-lts.Need-add-n (rewrite-claims t) (rewrite-at t) rewrite.Post Inv-loop μ-loop
@@ -190,7 +190,7 @@ rewrite-array-read-rewrite-child-2 : (t : ℕ) → rewrite-lts.Need-array-read-r
 rewrite-array-read-rewrite-child-2 t c = search needs
 
 rewrite-add-rewrite-child-3 : (t : ℕ) → rewrite-lts.Need-add-rewrite-child-3 (rewrite-claims t) (rewrite-at t) rewrite.Post Inv-loop μ-loop
-rewrite-add-rewrite-child-3 t c = let deep = c .before .before .before .before .before .before .before .before .before .loop .inv .0 .node .deep in search needs
+rewrite-add-rewrite-child-3 t c = let deep = c .before .before .before .before .before .before .before .before .before .loop .inv .0 .node .at .deep in search needs
 
 rewrite-add-rewrite-child-4 : (t : ℕ) → rewrite-lts.Need-add-rewrite-child-4 (rewrite-claims t) (rewrite-at t) rewrite.Post Inv-loop μ-loop
 rewrite-add-rewrite-child-4 t c = search needs
@@ -213,20 +213,31 @@ rewrite-part-rewrite-child-start t c = search needs
 rewrite-part-rewrite-child-end : (t : ℕ) → rewrite-lts.Need-part-rewrite-child-end (rewrite-claims t) (rewrite-at t) rewrite.Post Inv-loop μ-loop
 rewrite-part-rewrite-child-end t c = search needs
 
+-- A slot with records stands where its half says.
+place : (t : ℕ) (c : rewrite-lts.After-slot-key (rewrite-claims t) (rewrite-at t) rewrite.Post Inv-loop μ-loop)
+    → let a = c .before .before .before .before .before .before .before .before .before .before .before .before .before .before .before .before .before .before .before .before .before .args in
+    let found = c .before .before .before .before .before .before .before .before .before .before .before .before .before .before .gather-run .last .1 .1 .1 .1 .1 in
+    let l = c .before .before .loop in
+    getD (found .0) (31 + l .c) 0 < getD (found .1 .0) (31 + l .c) 0 → c .slot-key .result * 2 ≡ placeAt (slotSize (a .depth)) (a .key * 2) 5 (l .c)
+place t c has =
+    let l = c .before .before .loop in
+    let child = child-node (l .inv .0 .node) (l .inv .0 .gathered) (l .c) (c .before .loop-test .taken) has in
+    c .slot-key .ensures .1 (omega (arith, child .at .deep))
+
 rewrite-rewrite-child-requires : (t : ℕ) → rewrite-lts.Need-rewrite-child-requires (rewrite-claims t) (rewrite-at t) rewrite.Post Inv-loop μ-loop
 rewrite-rewrite-child-requires t c κs =
     let l = c .before .before .before .before .before .before .before .before .before .before .loop in
     let o = l .inv .0 in
     let lt = c .before .before .before .before .before .before .before .before .before .loop-test .taken in
     let start = c .before .before .before .before .before .before .before .before .before .before .before .before .before .before .before .before .before .before .before .before .before .before .before .before .before .before .before .before .before in (
-      omega (arith, start .pre .0, o .node .deep),
-      rw (c .before .before .before .before .before .before .before .before .slot-key .ensures) (
-        λ has. child-node (o .node) (o .gathered) (l .c) lt has,
+      omega (arith, start .pre .0, o .node .within-reach),
+      (
+        λ has. rw (place t (c .before .before .before .before .before .before .before .before) has) (child-node (o .node) (o .gathered) (l .c) lt has),
         (
-          (omega (arith, o .node .deep), slot-within _ _ (l .c) (o .node .deep) lt (o .node .small)),
+          omega (arith, o .node .at .deep),
           (
             (o .covers-low (l .c) lt, (start .pre .1 .1 .0 .1 .0, o .hops-low (l .c) lt)),
-            λ has. child-stored o (l .c) lt (l .inv .1 .ahead) has,
+            λ has. rw (place t (c .before .before .before .before .before .before .before .before) has) (child-stored o (l .c) lt (l .inv .1 .ahead) has),
           ),
         ),
       ),
@@ -235,7 +246,7 @@ rewrite-rewrite-child-requires t c κs =
 rewrite-add-n-2 : (t : ℕ) → rewrite-lts.Need-add-n-2 (rewrite-claims t) (rewrite-at t) rewrite.Post Inv-loop μ-loop
 rewrite-add-n-2 t c =
     let few = begun-few (started t (c .before .before .before .before .before .before)) in
-    let own = wrote-count (rw (c .before .before .before .before .before .before .before .before .before .before .before .before .slot-key .ensures) at (c .before .before .before .rewrite-child .ensures .1 .1)) in
+    let own = wrote-count (c .before .before .before .rewrite-child .ensures .1 .1 _ (sym (c .before .before .before .before .before .before .before .before .before .before .before .before .slot-key .ensures .0)) (λ has. sym (place t (c .before .before .before .before .before .before .before .before .before .before .before .before) has))) in
     let most = opened-most (c .before .before .before .before .before .before .before .before .before .before .before .before .before .before .loop .inv .0) (lowest-chooses (c .before .before .before .before .before .before .before .before .before .before .before .before .before .before .before .before .before .before .before .before .before .before .before .before .before .before .before .before .before .before .before .before .before .args .ranks .now)) in
     omega (arith, c .before .before .before .before .before .before .before .before .before .before .before .before .before .before .before .before .before .before .before .before .before .before .before .before .before .before .before .before .before .before .before .before .before .good)
 
@@ -253,13 +264,13 @@ rewrite-loop-again t c =
     let l = c .before .before .before .before .before .before .before .before .before .before .before .before .before .before .before .loop in
     let lt = c .before .before .before .before .before .before .before .before .before .before .before .before .before .before .loop-test .taken in
     let o = l .inv .0 in
-    let key = c .before .before .before .before .before .before .before .before .before .before .before .before .before .slot-key .ensures in
+    let key = c .before .before .before .before .before .before .before .before .before .before .before .before .before in
     let does = c .before .before .before .before .rewrite-child .ensures in (
       o,
       walking-on o (c .next-bit2 .ensures)
           (record {
-            walked = walked-child (started t (c .before .before .before .before .before .before .before)) (c .before .before .before .before .before .before .past2 .ensures) (rw key at (does .1 .1)) (c .before .before .before .out2 .given .1);
-            ahead = ahead-child o (l .c) lt (l .inv .1 .ahead) (does .0) (rw key at (does .1 .0));
+            walked = walked-child (started t (c .before .before .before .before .before .before .before)) (c .before .before .before .before .before .before .past2 .ensures) (does .1 .1 _ (sym (key .slot-key .ensures .0)) (λ has. sym (place t key has))) (c .before .before .before .out2 .given .1);
+            ahead = ahead-child o (l .c) lt (l .inv .1 .ahead) (does .0) (λ has. rw (place t key has) at (does .1 .0 has));
           }),
     )
 
@@ -281,15 +292,13 @@ child-same-length t c = search needs
 child-returns : (t : ℕ) → child-lts.Need-returns (child-claims t) (child-at t) child.Post
 child-returns t c =
     let r = c .before .before .rewrite .ensures in
-    (λ le. absurd (omega (arith, c .before .before .before .before .if1 .taken)), (λ has. r .0, r .1))
+    (λ le. absurd (omega (arith, c .before .before .before .before .if1 .taken)), (λ has. r .0, λ a half is. rw (is (c .before .before .before .before .if1 .taken)) (r .1)))
 
 child-leaf-value-requires : (t : ℕ) → child-lts.Need-leaf-value-requires (child-claims t) (child-at t) child.Post
 child-leaf-value-requires t c κs = search needs
 
 child-emit-requires : (t : ℕ) → child-lts.Need-emit-requires (child-claims t) (child-at t) child.Post
-child-emit-requires t c κs =
-    let pre = c .before .before .before .before .before .before .before .pre .1 .1 .0 in
-    (omega (arith, pre, pow-pos (wide - c .before .before .before .before .before .before .before .args .depth)), omega (arith, pre))
+child-emit-requires t c κs = omega (arith, c .before .before .before .before .before .before .before .pre .1 .1 .0)
 
 child-same-length-2 : (t : ℕ) → child-lts.Need-same-length-2 (child-claims t) (child-at t) child.Post
 child-same-length-2 t c = search needs
@@ -300,10 +309,7 @@ child-returns-2 t c =
     let low = c .before .before .before .before .before .before .before .before .before .before .pre .1 .1 .1 .0 in
     let v = c .before .before .before .leaf-value in
     let none : p .hi ≤ p .lo = omega arith in
-    let e =
-    leaf-rewrite (lowest (p .ranks .now)) (lowest-chooses (p .ranks .now)) (p .table .now) (p .lo) (p .hi) (p .depth) (p .key) (p .covering) (p .fill) (v .result) (p .above) none (c .before .before .before .before .before .before .before .before .before .before .pre .1 .1 .0 .0)
-    (v .ensures .1 (low .0) (low .1 .0)) (low .1 .1) (v .ensures .0) in
-    (λ le. refl, (λ has. absurd (omega arith), rw e (c .before .before .emit .ensures)))
+    (λ le. refl, (λ has. absurd (omega arith), λ a half is. rw (leaf-rewrite (lowest (p .ranks .now)) (lowest-chooses (p .ranks .now)) (p .table .now) (p .lo) (p .hi) (p .depth) a (p .covering) (p .fill) (v .result) (p .above) none (c .before .before .before .before .before .before .before .before .before .before .pre .1 .1 .0) (v .ensures .1 (low .0) (low .1 .0)) (low .1 .1) (v .ensures .0)) (c .before .before .emit .ensures a half)))
 
 pub +rewrite+rewrite-child-spec : {M : Type 1} → statement M
 +rewrite+rewrite-child-spec =

@@ -1,0 +1,2 @@
+-- Laws behind the reading of steps.
+pub mod Alike

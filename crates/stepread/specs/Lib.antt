@@ -1,0 +1,2 @@
+-- What is said of lines of steps.
+pub mod Reading

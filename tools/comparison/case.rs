@@ -58,12 +58,20 @@ const MOST_COMMANDS: u32 = 8_191;
 
 /// The most words of work room that a case asks for: 160 for each of 5,153 nodes, or of 11,297 at 64 bits.
 pub fn most_work(long: bool) -> u32 {
-    if long { 1_807_520 } else { 824_480 }
+    if long {
+        1_807_520
+    } else {
+        824_480
+    }
 }
 
 /// The most bytes of output that a list of what has no route asks for.
 pub fn most_list(long: bool) -> u32 {
-    if long { 1_048_576 } else { 262_144 }
+    if long {
+        1_048_576
+    } else {
+        262_144
+    }
 }
 
 #[derive(Clone)]
@@ -176,7 +184,11 @@ impl Case {
 
     /// The bytes of a record, and the bits of an address.
     pub fn size(&self) -> usize {
-        if self.long { 16 } else { 8 }
+        if self.long {
+            16
+        } else {
+            8
+        }
     }
 
     pub fn width(&self) -> u8 {
@@ -190,7 +202,11 @@ impl Case {
 
     /// An address as answers have it.
     pub fn shown(&self, address: u64) -> String {
-        if self.long { format!("{address:016x}") } else { dotted((address >> 32) as u32) }
+        if self.long {
+            format!("{address:016x}")
+        } else {
+            dotted((address >> 32) as u32)
+        }
     }
 
     /// The case in words, its table a record a line.

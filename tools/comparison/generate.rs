@@ -4,7 +4,8 @@
 use std::collections::BTreeMap;
 
 use crate::case::{
-    address_of, length_of, most_list, most_work, table_of, Answer, Case, Route, CHECK, CHIP, COVER, HELD, LIVE, LOOKUP, PLAIN, PLAN, REWRITE, SPECIAL, UNROUTED,
+    address_of, length_of, most_list, most_work, table_of, Answer, Case, Route, CHECK, CHIP, COVER, HELD, LIVE, LOOKUP, PLAIN, PLAN,
+    REWRITE, SPECIAL, UNROUTED,
 };
 use crate::model::{self, Fault};
 use crate::{live, plans};
@@ -459,7 +460,20 @@ fn make_room(random: &mut Random, case: &mut Case, rooms: usize) {
 }
 
 pub fn blank(call: u8, mode: u8) -> Case {
-    Case { call, strict: false, long: false, ranks: None, mode, default: 0, query_length: 0, query: 0, work: 0, room: 0, table: Vec::new(), more: Vec::new() }
+    Case {
+        call,
+        strict: false,
+        long: false,
+        ranks: None,
+        mode,
+        default: 0,
+        query_length: 0,
+        query: 0,
+        work: 0,
+        room: 0,
+        table: Vec::new(),
+        more: Vec::new(),
+    }
 }
 
 /// A call on an accepted table. What `rooms` says of a room that the call is not lent is passed over.
@@ -621,7 +635,8 @@ fn damaged(random: &mut Random, call: u8, long: bool, first: u8, second: u8, ord
         case.query = (edition as u64) << 32;
     }
     let width = width as u8;
-    case.query_length = if has(9) { random.pick(&[width + 1, width + 1, width + 2, 128, 255]) } else { random.pick(&[0, 8, width - 1, width]) };
+    case.query_length =
+        if has(9) { random.pick(&[width + 1, width + 1, width + 2, 128, 255]) } else { random.pick(&[0, 8, width - 1, width]) };
     if call == CHIP {
         make_room(random, &mut case, 0);
         case.room = if has(12) { random.pick(&[0, 8_191, 8_193, 65_535]) } else { 8_192 };
@@ -818,9 +833,11 @@ pub fn fixed() -> Vec<Made> {
     // 1,024 records, none near another, with the most nodes: fill writes 1,025 records. Exactly the rooms for that, then one byte less,
     // then one word less.
     let routes: Vec<Route> = (0..1024u64).map(|part| (part << 54, 32, 1 + (part % 63) as u8)).collect();
-    for (rooms, work, room) in
-        [("exact", most_work(false), 8_200), ("one byte short", most_work(false), 8_199), ("one word short", most_work(false) - 1, 8_200)]
-    {
+    for (rooms, work, room) in [
+        ("exact", most_work(false), 8_200),
+        ("one byte short", most_work(false), 8_199),
+        ("one word short", most_work(false) - 1, 8_200),
+    ] {
         let mut case = blank(REWRITE, 5);
         (case.work, case.room, case.table) = (work, room, table_of(&routes, false));
         list.push(Made { case, shape: "1,024: most nodes", rooms, damage: None });
@@ -868,7 +885,17 @@ pub fn fixed() -> Vec<Made> {
     // Ranks: each order of three hops, the first and the last alone moved, lists that are none; a list in every mode and in every other call.
     let side_by_side = table_of(&prefixes("10.0.0.0/10>0 10.64.0.0/10>1 10.128.0.0/9>2 11.0.0.0/9>62 11.128.0.0/9>63"), false);
     let turned = |by: u8| (0..64).map(|hop| (hop + by) % 64).collect::<Vec<u8>>();
-    let lists = [Vec::new(), turned(0), turned(1), turned(2), turned(62), turned(63), (0..64).rev().collect(), vec![0; 64], turned(0)[..63].to_vec()];
+    let lists = [
+        Vec::new(),
+        turned(0),
+        turned(1),
+        turned(2),
+        turned(62),
+        turned(63),
+        (0..64).rev().collect(),
+        vec![0; 64],
+        turned(0)[..63].to_vec(),
+    ];
     for ranks in lists.into_iter().chain([[&turned(0)[..], &[64]].concat(), [&turned(0)[..63], &[64]].concat(), vec![0; 255]]) {
         for mode in [1, 2, 3, 4, 5] {
             let mut made = edge(REWRITE, mode, 62, 0, if mode <= 2 { &set } else { &side_by_side });

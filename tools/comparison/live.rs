@@ -101,7 +101,7 @@ fn bad_prefix(strict: bool, length: u8, address: u32, fault: Fault) -> Option<u8
     ((strict || fault == Fault::LiveHostBitsRefused) && address & !mask(length) != 0).then_some(6)
 }
 
-/// The model's answer to one command, which changes the room. `held` is the most nodes so far.
+/// The model's answer to one command, which changes the room. `most` is the most nodes so far, which a planted fault alone reads.
 fn told(room: &mut [u32], command: &Command, most: &mut usize, fault: Fault) -> Said {
     let (what, strict, hop, length, address) = parts(command);
     match what {
@@ -213,11 +213,23 @@ pub fn by_crate(case: &Case) -> Answer {
             }
             (LOOK, Some(map)) => Said::Match(map.lookup(key)),
             (PUT | TAKE, Some(_)) if bad_prefix(strict, length, address, Fault::None).is_some() => by_model,
-            (TAKE, Some(map)) => if map.remove(key, length) { Said::Done } else { Said::Absent },
+            (TAKE, Some(map)) => {
+                if map.remove(key, length) {
+                    Said::Done
+                } else {
+                    Said::Absent
+                }
+            }
             (PUT, Some(_)) if hop > 63 => by_model,
             (PUT, Some(map)) => {
                 let before = map.insert(key, length, hop as u8);
-                let number = if map.len() > 1024 { 17 } else if map.nodes() > fit { 10 } else { 0 };
+                let number = if map.len() > 1024 {
+                    17
+                } else if map.nodes() > fit {
+                    10
+                } else {
+                    0
+                };
                 if number == 0 {
                     Said::Done
                 } else {
@@ -280,10 +292,21 @@ pub fn seeded(random: &mut Random) -> Made {
         };
         let strict = if random.chance(25) { STRICT } else { 0 };
         let tail = if random.chance(30) { random.short() & !mask(length) } else { 0 };
-        let hop = if random.chance(3) { random.pick(&[64, 65, 255, 256, 65_535]) } else if random.chance(20) { random.below(64) as u16 } else { hop as u16 };
+        let hop = if random.chance(3) {
+            random.pick(&[64, 65, 255, 256, 65_535])
+        } else if random.chance(20) {
+            random.below(64) as u16
+        } else {
+            hop as u16
+        };
         let bad_length = if random.chance(3) { Some(random.pick(&[33, 34, 64, 128, 255])) } else { None };
         commands.push(match what {
-            FLIP => command(FLIP + strict, 0, random.below(256) as u8, random.pick(&[0, 1, 1, 2, 2, 3, 3, 4, 4, 5, 6, 7, 9, words.saturating_sub(1), words])),
+            FLIP => command(
+                FLIP + strict,
+                0,
+                random.below(256) as u8,
+                random.pick(&[0, 1, 1, 2, 2, 3, 3, 4, 4, 5, 6, 7, 9, words.saturating_sub(1), words]),
+            ),
             LOOK if random.chance(30) => command(LOOK + strict, hop, length, random.short()),
             _ => command(what + strict, hop, bad_length.unwrap_or(length), address | tail),
         });

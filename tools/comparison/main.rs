@@ -17,7 +17,10 @@ use std::process::{exit, Command, Stdio};
 use std::sync::{Mutex, OnceLock};
 use std::thread;
 
-use case::{address_of, hop_of, length_of, lengthened, Answer, Case, Route, Short, CHECK, CHIP, COVER, HELD, LIVE, LOOKUP, PLAIN, PLAN, REWRITE, SPECIAL, UNROUTED};
+use case::{
+    address_of, hop_of, length_of, lengthened, Answer, Case, Route, Short, CHECK, CHIP, COVER, HELD, LIVE, LOOKUP, PLAIN, PLAN,
+    REWRITE, SPECIAL, UNROUTED,
+};
 use generate::Made;
 use model::Fault;
 
@@ -167,7 +170,9 @@ fn expected(case: &Case) -> Answer {
         _ => {
             let answer = model::answer(case, Fault::None);
             match &answer {
-                Answer::Unrouted(list) => assert!(listed_by_crate(case.long, &routes, list), "the crate finds another list of what has no route"),
+                Answer::Unrouted(list) => {
+                    assert!(listed_by_crate(case.long, &routes, list), "the crate finds another list of what has no route")
+                }
                 Answer::Slots(slots) => {
                     assert!(matched_by_crate(&routes, slots), "the crate finds another answer than the first slot's")
                 }
@@ -239,7 +244,9 @@ impl Counts {
             LOOKUP => "lookup".to_string(),
             HELD => "addresses held".to_string(),
             CHIP => "chip image".to_string(),
-            SPECIAL => format!("special use, RFC {}", if [5735, 6890].contains(&made.case.edition()) { made.case.edition() } else { 0 }),
+            SPECIAL => {
+                format!("special use, RFC {}", if [5735, 6890].contains(&made.case.edition()) { made.case.edition() } else { 0 })
+            }
             CHECK => "check of a plan".to_string(),
             PLAN => "plan".to_string(),
             LIVE => "live map".to_string(),
@@ -527,9 +534,7 @@ fn check_ends(command: &str) {
         tries.push((good[..cut].to_vec(), String::new()));
         tries.push(([&good[..], &good[..cut]].concat(), text.clone()));
     }
-    for bytes in
-        [&[(0, LIVE + 1)][..], &[(0, 128 + LIVE + 1)], &[(8, 1)], &[(0, UNROUTED), (8, 0), (9, 4), (10, 0), (11, 1)]]
-    {
+    for bytes in [&[(0, LIVE + 1)][..], &[(0, 128 + LIVE + 1)], &[(8, 1)], &[(0, UNROUTED), (8, 0), (9, 4), (10, 0), (11, 1)]] {
         let mut odd = good.clone();
         bytes.iter().for_each(|&(at, byte)| odd[at] = byte);
         tries.push(([&good[..], &odd].concat(), text.clone()));

@@ -4,7 +4,9 @@
 //! A call of the model can be given a fault, a planted mistake: `tools/compare --self-test` shows with them that the comparison
 //! finds mistakes. `Fault::None` is the model itself.
 
-use crate::case::{self, hop_of, length_of, Answer, Case, Route, CHECK, CHIP, COVER, HELD, LIVE, LOOKUP, PLAIN, PLAN, REWRITE, SPECIAL, UNROUTED};
+use crate::case::{
+    self, hop_of, length_of, Answer, Case, Route, CHECK, CHIP, COVER, HELD, LIVE, LOOKUP, PLAIN, PLAN, REWRITE, SPECIAL, UNROUTED,
+};
 use crate::{live, plans};
 
 #[derive(Clone, Copy, PartialEq, Eq, Debug)]
@@ -210,7 +212,9 @@ fn lawful(ranks: &[u8], fault: Fault) -> bool {
     sorted.sort();
     match fault {
         Fault::RankTwiceTaken => ranks.is_empty() || ranks.len() == 64 && sorted[63] < 64,
-        Fault::FewRanksTaken => ranks.len() <= 64 && sorted.iter().all(|&rank| rank < 64) && sorted.windows(2).all(|two| two[0] < two[1]),
+        Fault::FewRanksTaken => {
+            ranks.len() <= 64 && sorted.iter().all(|&rank| rank < 64) && sorted.windows(2).all(|two| two[0] < two[1])
+        }
         _ => ranks.is_empty() || sorted.into_iter().eq(0..64),
     }
 }
@@ -485,7 +489,8 @@ fn covers(case: &Case, routes: &[Route], fault: Fault) -> bool {
         return true;
     }
     let within: Vec<Route> = routes.iter().copied().filter(|route| route.0 & mask(length) == first).collect();
-    fault != Fault::CoverWithoutMerge && Position { width: case.width() as u32, address: first, length, routes: &within, hop: None }.covered()
+    fault != Fault::CoverWithoutMerge
+        && Position { width: case.width() as u32, address: first, length, routes: &within, hop: None }.covered()
 }
 
 fn lookup(routes: &[Route], address: u64, fault: Fault) -> Option<(u8, u8)> {
@@ -598,7 +603,8 @@ pub fn ranges(edition: u32, fault: Fault) -> Option<Vec<Route>> {
         6890 => &RFC_6890,
         _ => return None,
     };
-    let range = |&(address, length): &(&str, u8)| ((u32::from(address.parse::<std::net::Ipv4Addr>().unwrap()) as u64) << 32, length, 0);
+    let range =
+        |&(address, length): &(&str, u8)| ((u32::from(address.parse::<std::net::Ipv4Addr>().unwrap()) as u64) << 32, length, 0);
     Some(list.iter().map(range).collect())
 }
 

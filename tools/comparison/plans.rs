@@ -45,7 +45,8 @@ fn points(prefixes: impl Iterator<Item = (u32, u8)>) -> Vec<u32> {
 
 /// The step of eight bytes: masked, and a take's hop not read; none where it deserves number 13.
 pub fn step_of(bytes: &StepBytes, strict: bool, fault: Fault) -> Option<Step> {
-    let (address, length, hop, put) = (u32::from_be_bytes([bytes[0], bytes[1], bytes[2], bytes[3]]), bytes[4], bytes[5], bytes[6] != 0);
+    let (address, length, hop, put) =
+        (u32::from_be_bytes([bytes[0], bytes[1], bytes[2], bytes[3]]), bytes[4], bytes[5], bytes[6] != 0);
     if length > 32 || (strict && address & !mask(length) != 0) {
         return None;
     }
@@ -134,7 +135,11 @@ pub fn proposed(old: &[Route], new: &[Route], fault: Fault) -> Vec<Step> {
     takes.sort_by_key(|route| if fault == Fault::TakesByFallingLength { 32 - route.1 } else { route.1 });
     let puts = puts.into_iter().map(Step::Put);
     let takes = takes.into_iter().map(|route| Step::Take(route.0, route.1));
-    if fault == Fault::TakesFirst { takes.chain(puts).collect() } else { puts.chain(takes).collect() }
+    if fault == Fault::TakesFirst {
+        takes.chain(puts).collect()
+    } else {
+        puts.chain(takes).collect()
+    }
 }
 
 /// How many prefixes the two tables have together.
@@ -291,7 +296,7 @@ fn written(random: &mut Random, steps: &[Step], strict: bool) -> Vec<u8> {
     bytes
 }
 
-/// The installed table, the new one, whether strict, and the steps that lead from one to the other.
+/// The installed table, the new one, and the steps that lead from one to the other.
 fn tables(random: &mut Random, shape: usize) -> (Vec<Route>, Vec<Route>, Vec<Step>) {
     let hops = random.pick(&[1, 2, 2, 3, 8, 64]);
     let routes = |random: &mut Random| shortened(&generate::routes_of(random, false, shape, hops));
@@ -352,7 +357,8 @@ pub fn crowded(random: &mut Random, call: u8) -> Made {
     let old: Vec<Route> = (0..1024u32).map(|part| (part << 20, 12, random.below(64) as u8)).collect();
     let new: Vec<Route> = old[few..].iter().copied().chain((0..few as u32).map(|part| (1 << 31 | part << 20, 12, 7))).collect();
     let taken = |route: &Route| Step::Take(route.0, route.1);
-    let mut steps: Vec<Step> = old[..few].iter().zip(&new[1024 - few..]).flat_map(|(old, new)| [taken(old), Step::Put(*new)]).collect();
+    let mut steps: Vec<Step> =
+        old[..few].iter().zip(&new[1024 - few..]).flat_map(|(old, new)| [taken(old), Step::Put(*new)]).collect();
     if random.chance(50) {
         steps = proposed(&old, &new, Fault::None);
     }
@@ -434,12 +440,7 @@ pub fn damaged(random: &mut Random, call: u8, first: u8, second: u8) -> Made {
     }
     case.work = (case.more.len() as u32) << 16 | case.work & 0xFFFF;
     case.more.extend(steps);
-    Made {
-        case,
-        shape: "damaged",
-        rooms: "as the damage asks",
-        damage: Some(Damage { first, second, expect: (first, places[0]) }),
-    }
+    Made { case, shape: "damaged", rooms: "as the damage asks", damage: Some(Damage { first, second, expect: (first, places[0]) }) }
 }
 
 /// Any case of either call.
@@ -455,7 +456,11 @@ pub fn seeded(random: &mut Random, call: u8) -> Made {
     if random.chance(3) {
         return crowded(random, call);
     }
-    let shape = if random.below(300) == 0 { random.within(generate::LARGE, generate::SHAPES.len() - 1) } else { random.below(generate::LARGE) };
+    let shape = if random.below(300) == 0 {
+        random.within(generate::LARGE, generate::SHAPES.len() - 1)
+    } else {
+        random.below(generate::LARGE)
+    };
     whole(random, call, shape)
 }
 

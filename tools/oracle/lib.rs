@@ -210,12 +210,19 @@ fn rewrite_records_of<R: Width>(mode: u8, default: u8, records: &[u8], output: &
         // SAFETY: the root is always a live node.
         rewrite_in::<R, ()>(records, |_| (), |_| 0, output, stage, |table| unsafe { table.aggregate_set(Loc::root(), 0) }.1)
     } else {
-        rewrite_in::<R, u8>(records, |hop| hop, |hop| *hop, output, stage, |table| match mode {
-            // SAFETY: the root is always a live node.
-            3 => unsafe { table.aggregate_consistent_map(Loc::root(), 0, None) }.1,
-            4 => table.aggregate_map::<R, fn() -> u8>(Aggregation::Drop),
-            _ => table.aggregate_map::<R, _>(Aggregation::Fill(|| default)),
-        })
+        rewrite_in::<R, u8>(
+            records,
+            |hop| hop,
+            |hop| *hop,
+            output,
+            stage,
+            |table| match mode {
+                // SAFETY: the root is always a live node.
+                3 => unsafe { table.aggregate_consistent_map(Loc::root(), 0, None) }.1,
+                4 => table.aggregate_map::<R, fn() -> u8>(Aggregation::Drop),
+                _ => table.aggregate_map::<R, _>(Aggregation::Fill(|| default)),
+            },
+        )
     }
 }
 

@@ -1,3 +1,4 @@
+-- `step_at` meets its contract: eight bytes are a step. Assumes nothing.
 use borrow.Author.Needs.{needs}
 use Rattle.steprooms.proofs.Filled.{step-made}
 use Rattle.steprooms.proofs.step_at.Statement.{statement}

@@ -17,12 +17,13 @@ use Rattle.table.specs.Checking.{checkReply}
 use Rattle.table.specs.Conditions.{Lawful}
 use Rattle.nodecount.specs.Nodes.{nodes}
 use Rattle.refusals.specs.Rules.{Rule, rule, gives, refuses, judge}
-use Rattle.records.specs.Wire.{records, routes, Bytes}
+use Rattle.records.specs.Wire.{records, routes}
+use Rattle.records.specs.Sized.{Bytes}
 use Rattle.records.specs.declared.Form.{Form}
 use Rattle.table.specs.TableRules.{tableRules}
 use Rattle.refusals.proofs.Judged.{kept-next, broken-here, all-next, some-here}
 use Rattle.records.proofs.Reading.{length-routes}
-use Rattle.table.proofs.Tables.{hops-below, set-hops}
+use Rattle.table.proofs.SizedTables.{hops-below, set-hops}
 use Rattle.positions.specs.Wide.{widened}
 use Rattle.positions.proofs.Wide.{aligned-widen, held-widen, throughout-widen, all-widen}
 use Rattle.nodes.specs.Node.{wide, spare, Node}

@@ -10,7 +10,8 @@ use lib.ListN.{length, take}
 use Rattle.theory.specs.Routes.{held, answer, filled, Alike}
 use Rattle.refusals.specs.Rules.{Rule}
 use Rattle.refusals.specs.Order.{None}
-use Rattle.records.specs.Wire.{routes, Bytes}
+use Rattle.records.specs.Wire.{routes}
+use Rattle.records.specs.Sized.{Bytes}
 use Rattle.records.specs.declared.Form.{Form}
 use Rattle.table.specs.Conditions.{Accepted}
 use Rattle.nodecount.specs.Nodes.{nodes}

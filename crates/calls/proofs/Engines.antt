@@ -19,13 +19,14 @@ use Rattle.theory.proofs.Modes.{result-keeps, result-table, result-hops, result
 use Rattle.refusals.specs.Rules.{Rule, Reply, gives, refuses, judge}
 use Rattle.refusals.specs.Order.{First, None}
 use Rattle.refusals.proofs.Judged.{Broken, InOrder, gives-any, gives-exactly, refuses-exactly}
-use Rattle.records.specs.Wire.{records, routes, bytesOf, Bytes}
+use Rattle.records.specs.Wire.{records, routes, bytesOf}
+use Rattle.records.specs.Sized.{Bytes}
 use Rattle.records.specs.declared.Form.{Form}
 use Rattle.records.proofs.Written.{length-bytes, records-bytes, routes-bytes, bytes-small}
-use Rattle.table.specs.TableRules.{topHop}
+use Rattle.table.specs.SizedRules.{topHop}
 use Rattle.table.specs.Conditions.{Accepted, Lawful}
-use Rattle.table.proofs.Accepted.{not-refused}
-use Rattle.table.proofs.Tables.{accepted-table, accepted-written}
+use Rattle.table.proofs.AtEight.{not-refused}
+use Rattle.table.proofs.AtEight.{accepted-table, accepted-written}
 use Rattle.calls.specs.declared.Rewritten.{Rewritten}
 use Rattle.calls.specs.declared.Rewritten.the-variants.{Records, Refused}
 use Rattle.calls.specs.Conditions.{Answerable, Guarded}

@@ -7,13 +7,14 @@ use lib.ListN.{length}
 use Rattle.theory.specs.Ranks.{lowest, Ranking}
 use Rattle.theory.proofs.Ranks.{lowest-chooses}
 use Rattle.theory.proofs.Lengths.{most-of, result-length}
-use Rattle.records.specs.Wire.{Bytes, records, routes}
+use Rattle.records.specs.Wire.{records, routes}
+use Rattle.records.specs.Sized.{Bytes}
 use Rattle.records.specs.declared.Form.{Form}
 use Rattle.table.specs.Conditions.{Accepted}
-use Rattle.table.proofs.Accepted.{not-refused}
+use Rattle.table.proofs.AtEight.{not-refused}
 use Rattle.nodecount.specs.Nodes.{nodes}
 use Rattle.nodecount.proofs.NodeCount.{nodes-most}
-use Rattle.table.proofs.Tables.{accepted-table}
+use Rattle.table.proofs.AtEight.{accepted-table}
 use Rattle.calls.specs.Conditions.{Answerable}
 use Rattle.calls.specs.Rewriting.{InUse, modeOf, resultOf, takesSet}
 

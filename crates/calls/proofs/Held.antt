@@ -13,11 +13,12 @@ use Rattle.theory.proofs.Ranks.{lowest-chooses}
 use Rattle.theory.proofs.Lengths.{mostOf, result-length}
 use Rattle.theory.proofs.Reach.{keeps-reach}
 use Rattle.refusals.specs.Rules.{Rule}
-use Rattle.records.specs.Wire.{routes, Bytes}
+use Rattle.records.specs.Wire.{routes}
+use Rattle.records.specs.Sized.{Bytes}
 use Rattle.records.specs.declared.Form.{Form}
 use Rattle.records.proofs.Reading.{length-routes}
 use Rattle.table.specs.Conditions.{Accepted}
-use Rattle.table.proofs.Accepted.{accepted-map}
+use Rattle.table.proofs.AtEight.{accepted-map}
 use Rattle.lookup.specs.Calls.{heldSays, heldReply}
 use Rattle.lookup.specs.declared.answers.AddressesHeld.{AddressesHeld}
 use Rattle.lookup.specs.declared.answers.AddressesHeld.the-variants.{Count}

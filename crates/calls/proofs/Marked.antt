@@ -21,15 +21,15 @@ use Rattle.records.specs.declared.Form.{Form}
 use Rattle.records.specs.Forms.{strictly}
 use Rattle.table.specs.TableRules.{recordRules, rulesFrom, tableRules}
 use Rattle.nodecount.specs.Nodes.{nodes, brought, fresh}
-use Rattle.table.proofs.Accepted.{accepted}
+use Rattle.table.proofs.AtEight.{accepted}
 use Rattle.records.proofs.Written.{records-bytes}
 use Rattle.calls.specs.declared.Rewritten.{Rewritten}
 use Rattle.calls.specs.declared.Rewritten.the-variants.{Records}
 use Rattle.calls.specs.Conditions.{RewriteCondition}
 use Rattle.refusals.specs.Order.{None}
 use Rattle.calls.specs.Rewriting.{InUse, modeOf, resultOf, takesSet, Rewrites}
-use Rattle.table.proofs.Accepted.{accepted-exactly}
-use Rattle.table.proofs.Masking.{accepted-any}
+use Rattle.table.proofs.AtEight.{accepted-exactly}
+use Rattle.table.proofs.AtEight.{accepted-any}
 use Rattle.calls.proofs.Refusals.{answerable-exactly, empty-table, empty-nodes}
 use Rattle.calls.proofs.Results.{rewrite-result}
 

@@ -10,12 +10,13 @@ use Rattle.theory.specs.Results.{result}
 use Rattle.theory.specs.Ranks.{lowest, isRanking}
 use Rattle.refusals.specs.Rules.{Rule, rule, judge}
 use Rattle.refusals.proofs.Waived.{waived, waived-append, waived-judge, waived-answer}
-use Rattle.records.specs.Wire.{records, routes, Bytes, maskedBytes}
+use Rattle.records.specs.Wire.{records, routes, maskedBytes}
+use Rattle.records.specs.Sized.{Bytes}
 use Rattle.records.specs.declared.Form.{Form}
 use Rattle.records.specs.Forms.{byDefault, strictly}
 use Rattle.table.specs.TableRules.{tableRules}
 use Rattle.table.specs.Conditions.{Accepted}
-use Rattle.table.proofs.Masking.{strict-waived, masked-routes, masked-length, masked-rules}
+use Rattle.table.proofs.AtEight.{strict-waived, masked-routes, masked-length, masked-rules}
 use Rattle.nodecount.specs.Nodes.{nodes}
 use Rattle.calls.specs.declared.Rewritten.{Rewritten}
 use Rattle.calls.specs.declared.Rewritten.the-variants.{Refused}

@@ -14,7 +14,8 @@ use Rattle.theory.specs.Results.{result, smallest}
 use Rattle.theory.specs.Routes.{All, answer, filled}
 use Rattle.theory.proofs.Ranks.{lowest-chooses, numbered-unranked, result-same, unranked-result, drop-first, fill-first, result-count, ranking-tested}
 use Rattle.refusals.specs.Rules.{Rule}
-use Rattle.records.specs.Wire.{routes, Bytes}
+use Rattle.records.specs.Wire.{routes}
+use Rattle.records.specs.Sized.{Bytes}
 use Rattle.records.specs.declared.Form.{Form}
 use Rattle.calls.specs.declared.Rewritten.the-variants.{Records}
 use Rattle.calls.specs.Conditions.{Guarded}

@@ -19,8 +19,8 @@ use Rattle.refusals.proofs.Answered.{refused-exactly}
 use Rattle.records.specs.Wire.{routes, routesFrom}
 use Rattle.records.specs.declared.Form.{Form}
 use Rattle.table.specs.Conditions.{TableCondition, not-whole, too-many, of-record}
-use Rattle.table.proofs.Accepted.{accepted-exactly}
-use Rattle.table.proofs.Tested.{table-numbers}
+use Rattle.table.proofs.AtEight.{accepted-exactly}
+use Rattle.table.proofs.AtEight.{table-numbers}
 use Rattle.nodecount.specs.Nodes.{nodes, brought}
 use Rattle.calls.specs.declared.Rewritten.{Rewritten}
 use Rattle.calls.specs.declared.Rewritten.the-variants.{Records, Refused}

@@ -14,7 +14,8 @@ use Rattle.theory.specs.Demands.{Keeps}
 use Rattle.theory.proofs.Maximal.{throughout-each}
 use Rattle.refusals.specs.Rules.{Rule}
 use Rattle.refusals.specs.Order.{None}
-use Rattle.records.specs.Wire.{records, routes, bytesOf, Bytes}
+use Rattle.records.specs.Wire.{records, routes, bytesOf}
+use Rattle.records.specs.Sized.{Bytes}
 use Rattle.records.specs.declared.Form.{Form}
 use Rattle.table.specs.Conditions.{Lawful}
 use Rattle.calls.specs.declared.Rewritten.{Rewritten}

@@ -13,12 +13,13 @@ use Rattle.theory.specs.Retired.{consistentSet}
 use Rattle.theory.specs.Routes.{Route}
 use Rattle.theory.proofs.Retired.{retired-same, retired-table, retired-each, retired-length}
 use Rattle.refusals.specs.Rules.{Rule}
-use Rattle.records.specs.Wire.{records, routes, bytesOf, Bytes}
+use Rattle.records.specs.Wire.{records, routes, bytesOf}
+use Rattle.records.specs.Sized.{Bytes}
 use Rattle.records.specs.declared.Form.{Form}
 use Rattle.records.proofs.Written.{records-bytes, routes-bytes}
 use Rattle.table.specs.Conditions.{Accepted, Lawful}
-use Rattle.table.proofs.Accepted.{not-refused}
-use Rattle.table.proofs.Tables.{accepted-table, accepted-written}
+use Rattle.table.proofs.AtEight.{not-refused}
+use Rattle.table.proofs.AtEight.{accepted-table, accepted-written}
 use Rattle.nodecount.specs.Nodes.{nodes}
 use Rattle.calls.specs.declared.Rewritten.{Rewritten}
 use Rattle.calls.specs.declared.Rewritten.the-variants.{Records}

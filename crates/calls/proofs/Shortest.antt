@@ -22,13 +22,15 @@ use Rattle.theory.proofs.OnlyShortest.{set-prefixes, set-only}
 use Rattle.theory.proofs.Routed.{unhopped-bare}
 use Rattle.theory.proofs.Shortest.{result-shortest}
 use Rattle.refusals.specs.Rules.{Rule}
-use Rattle.records.specs.Wire.{records, routes, bytesOf, Bytes}
+use Rattle.records.specs.Wire.{records, routes, bytesOf}
+use Rattle.records.specs.Sized.{Bytes}
 use Rattle.records.specs.declared.Form.{Form}
 use Rattle.records.specs.Forms.{strictly}
 use Rattle.records.proofs.Reading.{length-routes}
 use Rattle.table.specs.Conditions.{Accepted, Lawful}
-use Rattle.table.proofs.Accepted.{not-refused}
-use Rattle.table.proofs.Tables.{accepted-table, bytes-routes, set-hops}
+use Rattle.table.proofs.AtEight.{not-refused}
+use Rattle.table.proofs.AtEight.{accepted-table, bytes-routes}
+use Rattle.table.proofs.SizedTables.{set-hops}
 use Rattle.calls.specs.declared.Rewritten.{Rewritten}
 use Rattle.calls.specs.declared.Rewritten.the-variants.{Records, Refused}
 use Rattle.calls.specs.Conditions.{Guarded}

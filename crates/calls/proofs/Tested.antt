@@ -19,7 +19,7 @@ use Rattle.records.specs.Wire.{routes}
 use Rattle.records.specs.declared.Form.{Form}
 use Rattle.table.specs.Conditions.{TableCondition}
 use Rattle.table.specs.TableRules.{tableRules}
-use Rattle.table.proofs.Tested.{table-tests, table-ranked}
+use Rattle.table.proofs.AtEight.{table-tests, table-ranked}
 use Rattle.nodecount.specs.Nodes.{nodes}
 use Rattle.calls.specs.Conditions.{RewriteCondition, no-mode, retired, large-default, bad-ranks, of-table, short-work, short-output, CoverCondition, of-set, long-query, short-room}
 use Rattle.calls.specs.Covering.{coverRules}

@@ -18,8 +18,8 @@ use Rattle.refusals.specs.Rules.{refuses}
 use Rattle.records.specs.Wire.{records, routeAt, routes}
 use Rattle.records.specs.declared.Form.{Form}
 use Rattle.table.specs.Checking.{checkReply}
-use Rattle.table.proofs.Accepted.{refused-exactly}
-use Rattle.table.proofs.Tested.{table-numbers}
+use Rattle.table.proofs.AtEight.{refused-exactly}
+use Rattle.table.proofs.AtEight.{table-numbers}
 use Rattle.runs.proofs.Halves.{whole-run, record-within}
 use Rattle.rungs.specs.Rungs.{topFrom}
 use Rattle.checking.specs.declared.Stage.{Stage}

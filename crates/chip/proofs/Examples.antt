@@ -7,7 +7,8 @@ use native.Mathlib.Omega.{arith}
 use Rattle.theory.specs.Falling.{falling}
 use Rattle.theory.specs.Routes.{Route, matches, miss, nil}
 use Rattle.theory.proofs.Lists.{all-map}
-use Rattle.records.specs.Wire.{rawAt, routeAt, routesFrom, routes, route}
+use Rattle.records.specs.Wire.{rawAt, routeAt, routesFrom, routes}
+use Rattle.records.specs.Sized.{route}
 use Rattle.chip.specs.Chip.{firstMatch}
 use Rattle.chip.specs.Images.{imageOf, slotsOf, arranged}
 use Rattle.chip.specs.Loading.{loadOrder}

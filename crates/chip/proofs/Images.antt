@@ -10,7 +10,7 @@ use Rattle.theory.specs.Routes.{Route, Valid, All, nil, cons}
 use Rattle.theory.proofs.Lists.{all-member}
 use Rattle.theory.proofs.Parts.{part-append, part-whole, part-none}
 use Rattle.records.specs.Wire.{routesFrom, routes, bytesOf}
-use Rattle.records.proofs.HostBits.{route-length}
+use Rattle.records.proofs.Reading.{route-length}
 use Rattle.records.proofs.Laid.{take-laid}
 use Rattle.records.proofs.Written.{length-bytes, routes-front}
 use Rattle.chip.specs.Chip.{isUsed}

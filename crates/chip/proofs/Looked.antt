@@ -5,9 +5,10 @@ use mathlib.Core.Bool.{false}
 use mathlib.Core.List.{List}
 use Rattle.theory.specs.Routes.{lookup}
 use Rattle.refusals.specs.Rules.{gives}
-use Rattle.records.specs.Wire.{routes, Bytes}
+use Rattle.records.specs.Wire.{routes}
+use Rattle.records.specs.Sized.{Bytes}
 use Rattle.records.specs.declared.Form.{Form}
-use Rattle.table.proofs.Accepted.{not-refused}
+use Rattle.table.proofs.AtEight.{not-refused}
 use Rattle.lookup.specs.Calls.{lookupSays, lookupReply}
 use Rattle.lookup.specs.declared.answers.Lookup.{Lookup}
 use Rattle.chip.specs.declared.Loaded.{Loaded}

@@ -19,7 +19,7 @@ use Rattle.records.proofs.Reading.{length-routes, routes-numbered}
 use Rattle.table.specs.Checking.{checkReply}
 use Rattle.table.specs.Conditions.{Accepted}
 use Rattle.table.specs.TableRules.{tableRules}
-use Rattle.table.proofs.Accepted.{accepted}
+use Rattle.table.proofs.AtEight.{accepted}
 use Rattle.chip.specs.declared.Loaded.the-variants.{Slots, Refused}
 use Rattle.chip.specs.Loading.{loadRules, loadOrder, imageAfter, Loads}
 use Rattle.chip.specs.Placing.{Placed, unusedFrom}

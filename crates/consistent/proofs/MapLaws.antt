@@ -11,7 +11,8 @@ use lib.ListN.{length, getD}
 use lib.Pow.{pow-pos}
 use borrow.Author.Tests.{lt-ltb, le-ltb, eq-eqb, ne-eqb}
 use Rattle.theory.specs.Routes.{Route, Answer, none, via}
-use Rattle.records.specs.Wire.{route, routeAt}
+use Rattle.records.specs.Wire.{routeAt}
+use Rattle.records.specs.Sized.{route}
 use Rattle.words.specs.Bits.{bit, NextBit}
 use Rattle.words.specs.Positions.{position}
 use Rattle.words.proofs.BitLaws.{if-lt, if-eq}

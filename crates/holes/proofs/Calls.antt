@@ -19,14 +19,15 @@ use Rattle.refusals.specs.Order.{rank, First, None}
 use Rattle.refusals.proofs.Answered.{unique, given-exactly, refused-exactly}
 use Rattle.refusals.proofs.Judged.{Broken, gives-any, refuses-any}
 use Rattle.refusals.proofs.Ranked.{broken-left, broken-right, sound-each, sound-append, singles, ranked-append, Ranked}
-use Rattle.records.specs.Wire.{records, routes, Bytes, bytesOf}
+use Rattle.records.specs.Wire.{records, routes, bytesOf}
+use Rattle.records.specs.Sized.{Bytes}
 use Rattle.records.specs.declared.Form.{Form}
 use Rattle.records.proofs.Reading.{length-routes}
 use Rattle.records.proofs.Written.{length-bytes, routes-bytes}
 use Rattle.table.specs.Conditions.{TableCondition, Accepted}
 use Rattle.table.specs.TableRules.{tableRules}
-use Rattle.table.proofs.Accepted.{accepted-exactly, not-refused}
-use Rattle.table.proofs.Tested.{table-tests, table-ranked, table-numbers}
+use Rattle.table.proofs.AtEight.{accepted-exactly, not-refused}
+use Rattle.table.proofs.AtEight.{table-tests, table-ranked, table-numbers}
 use Rattle.lookup.specs.Calls.{lookupSays, lookupReply}
 use Rattle.lookup.specs.declared.answers.Lookup.{Lookup}
 use Rattle.lookup.specs.declared.answers.Lookup.the-variants.{NoRoute}

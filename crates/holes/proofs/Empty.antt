@@ -7,10 +7,11 @@ use native.Mathlib.Omega.{arith}
 use lib.ListN.{length, take}
 use Rattle.refusals.specs.Order.{Earlier}
 use Rattle.refusals.proofs.Judged.{earlier-not}
-use Rattle.records.specs.Wire.{routesFrom, routes, route, bytesOf}
+use Rattle.records.specs.Wire.{routesFrom, routes, bytesOf}
+use Rattle.records.specs.Sized.{route}
 use Rattle.records.specs.declared.Form.{Form}
 use Rattle.table.specs.Conditions.{Accepted}
-use Rattle.table.proofs.Accepted.{accepted-exactly}
+use Rattle.table.proofs.AtEight.{accepted-exactly}
 use Rattle.calls.proofs.Refusals.{empty-table}
 use Rattle.holes.specs.declared.Listed.{Listed}
 use Rattle.holes.specs.declared.Listed.the-variants.{Records, Refused}

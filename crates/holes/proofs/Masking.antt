@@ -10,12 +10,13 @@ use Rattle.theory.specs.Routes.{Route}
 use Rattle.refusals.specs.Rules.{Rule, rule, refuses, judge}
 use Rattle.refusals.proofs.Judged.{refuses-any}
 use Rattle.refusals.proofs.Waived.{waived, waived-append, waived-judge, waived-answer}
-use Rattle.records.specs.Wire.{Bytes, maskedBytes}
+use Rattle.records.specs.Wire.{maskedBytes}
+use Rattle.records.specs.Sized.{Bytes}
 use Rattle.records.specs.declared.Form.{Form}
 use Rattle.records.specs.Forms.{byDefault, strictly}
 use Rattle.table.specs.Conditions.{Accepted}
 use Rattle.table.specs.TableRules.{tableRules}
-use Rattle.table.proofs.Masking.{strict-waived, masked-routes, masked-rules}
+use Rattle.table.proofs.AtEight.{strict-waived, masked-routes, masked-rules}
 use Rattle.calls.specs.Rewriting.{outputOf}
 use Rattle.holes.specs.declared.Listed.{Listed}
 use Rattle.holes.specs.declared.Listed.the-variants.{Refused}

@@ -6,8 +6,10 @@ use mathlib.Core.List.{List, [], _∷_, _++_}
 use native.Mathlib.Omega.{arith}
 use lib.ListN.{length, take, drop}
 use Rattle.theory.specs.Routes.{Route}
-use Rattle.records.specs.Wire.{recordOf, bytesOf, laid}
-use Rattle.records.proofs.Laid.{laid-none, length-records, records-lent}
+use Rattle.records.specs.Wire.{recordOf, bytesOf}
+use Rattle.records.specs.Sized.{laid}
+use Rattle.records.proofs.Laid.{laid-none}
+use Rattle.records.proofs.Written.{length-records, records-lent}
 use Rattle.holes.specs.Holes.{holesAt}
 use Rattle.holes.specs.Kinds.{Halves}
 use Rattle.holes.proofs.Positions.{halves-count}

@@ -10,7 +10,8 @@ use Rattle.theory.specs.Routes.{Route, Member, head}
 use Rattle.theory.specs.Shapes.{routed}
 use Rattle.theory.proofs.Preserve.{back}
 use Rattle.positions.specs.Runs.{Run}
-use Rattle.records.specs.Wire.{routeAt, route}
+use Rattle.records.specs.Wire.{routeAt}
+use Rattle.records.specs.Sized.{route}
 use Rattle.runs.specs.Runs.{run, RunAt, PastOwn, SplitAt}
 use Rattle.runs.proofs.Records.{run-none, run-first}
 use Rattle.runs.proofs.Halves.{record-within, past-low, past-longer, own-hop, own-none, left-is, right-is, left-run, right-run}

@@ -10,12 +10,13 @@ use borrow.Author.Tests.{leb-true, leb-false, le-leb, lt-leb}
 use Rattle.theory.specs.Routes.{Route}
 use Rattle.refusals.specs.Rules.{Rule, rule, gives, refuses, judge}
 use Rattle.refusals.proofs.Judged.{gives-exactly, kept-next, broken-here, all-next, some-here}
-use Rattle.records.specs.Wire.{records, Bytes, bytesOf, laid}
+use Rattle.records.specs.Wire.{records, bytesOf}
+use Rattle.records.specs.Sized.{Bytes, laid}
 use Rattle.records.specs.declared.Form.{Form}
 use Rattle.table.specs.Checking.{checkReply}
 use Rattle.table.specs.TableRules.{tableRules}
-use Rattle.table.proofs.Tables.{accepted-table}
-use Rattle.table.proofs.Tested.{table-tests}
+use Rattle.table.proofs.AtEight.{accepted-table}
+use Rattle.table.proofs.AtEight.{table-tests}
 use Rattle.calls.specs.Rewriting.{outputOf}
 use Rattle.calls.proofs.Ending.{laid-output}
 use Rattle.runs.specs.Runs.{RunAt}

@@ -17,11 +17,12 @@ use Rattle.theory.proofs.Lengths.{result-length}
 use Rattle.theory.proofs.Routed.{held-answer}
 use Rattle.refusals.specs.Rules.{Rule, rule, Reply, judge}
 use Rattle.refusals.proofs.Judged.{all-next}
-use Rattle.records.specs.Wire.{records, routes, Bytes}
+use Rattle.records.specs.Wire.{records, routes}
+use Rattle.records.specs.Sized.{Bytes}
 use Rattle.records.specs.declared.Form.{Form}
 use Rattle.table.specs.Conditions.{Accepted}
 use Rattle.table.specs.TableRules.{tableRules}
-use Rattle.table.proofs.Accepted.{not-refused}
+use Rattle.table.proofs.AtEight.{not-refused}
 use Rattle.calls.specs.declared.Rewritten.the-variants.{Records}
 use Rattle.calls.specs.Conditions.{Guarded}
 use Rattle.calls.specs.Rewriting.{resultOf, modeOf, outputOf, rewriteRules, RewritesBy, Rewrites}

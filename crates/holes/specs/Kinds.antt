@@ -2,7 +2,7 @@
 use Prim.Native.Nat.{ℕ, _+_, _-_, _<_}
 use mathlib.Core.Path.{_≡_}
 use mathlib.Core.List.{List, [], _∷_, _++_}
-use Rattle.records.specs.Wire.{route}
+use Rattle.records.specs.Sized.{route}
 use Rattle.runs.specs.Runs.{RunAt}
 use Rattle.holes.specs.declared.Kind.{Kind}
 use Rattle.holes.specs.declared.Kind.the-variants.{Hole, Routed, Parted}

@@ -11,8 +11,8 @@ ghost use mathlib.Core.Bool.{_&&_};
 ghost use Prim.Native.Nat.{_≤_, _<_};
 ghost use Rattle.theory.specs.Routes.{Table};
 ghost use Rattle.nodecount.specs.Nodes.{bare, newNodes, nodes};
-ghost use Rattle.records.specs.Wire.{route};
-ghost use Rattle.table.specs.TableRules.{before};
+ghost use Rattle.records.specs.Sized.{route};
+ghost use Rattle.table.specs.SizedRules.{before};
 ghost use Rattle.liveroom.specs.Rooms.{shownFrom, sound};
 ghost use Rattle.liveroom.specs.Inner.{Holds, heldNodes, passedNodes, priorAt, withAt};
 

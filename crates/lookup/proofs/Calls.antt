@@ -16,7 +16,7 @@ use Rattle.refusals.specs.Order.{First}
 use Rattle.records.specs.Wire.{routes}
 use Rattle.records.specs.declared.Form.{Form}
 use Rattle.table.specs.Conditions.{TableCondition, Accepted}
-use Rattle.table.proofs.Alone.{table-unique, table-gives, table-refuses}
+use Rattle.table.proofs.AtEight.{table-unique, table-gives, table-refuses}
 use Rattle.lookup.specs.declared.answers.Lookup.{Lookup}
 use Rattle.lookup.specs.declared.answers.Lookup.the-variants.{Route, NoRoute, Refused as NotLooked}
 use Rattle.lookup.specs.declared.answers.AddressesHeld.{AddressesHeld}

@@ -7,11 +7,12 @@ use Prim.Native.Nat.{ℕ}
 use Rattle.theory.specs.Routes.{Route as Entry, lookup}
 use Rattle.theory.specs.Reach.{reach}
 use Rattle.refusals.specs.Rules.{Rule, judge}
-use Rattle.records.specs.Wire.{routes, Bytes, maskedBytes}
+use Rattle.records.specs.Wire.{routes, maskedBytes}
+use Rattle.records.specs.Sized.{Bytes}
 use Rattle.records.specs.declared.Form.{Form}
 use Rattle.records.specs.Forms.{byDefault, strictly}
 use Rattle.table.specs.Conditions.{Accepted}
-use Rattle.table.proofs.Masking.{table-carried, masked-routes, masked-rules}
+use Rattle.table.proofs.AtEight.{table-carried, masked-routes, masked-rules}
 use Rattle.lookup.specs.declared.answers.Lookup.{Lookup}
 use Rattle.lookup.specs.declared.answers.Lookup.the-variants.{Refused as NotLooked}
 use Rattle.lookup.specs.declared.answers.AddressesHeld.{AddressesHeld}

@@ -12,9 +12,10 @@ use lib.ListN.{length, take, drop, length-append, length-take, length-drop}
 use lib.Pow.{pow-add, shr-shr}
 use borrow.Author.Tests.{eqb-true}
 use Rattle.theory.specs.Routes.{Route}
-use Rattle.records.specs.Wire.{recordOf, bytesOf, laid, route}
-use Rattle.records.proofs.Laid.{laid-none, laid-then, laid-lent, bytes-append}
-use Rattle.records.proofs.Written.{length-bytes}
+use Rattle.records.specs.Wire.{recordOf, bytesOf}
+use Rattle.records.specs.Sized.{laid, route}
+use Rattle.records.proofs.Laid.{laid-none, laid-then, laid-lent}
+use Rattle.records.proofs.Written.{length-bytes, bytes-append}
 use Rattle.positions.specs.Runs.{sizeAt, placeAt}
 use Rattle.positions.specs.Walk.{headsOf, slotsOf, startsAt, heads, slots}
 use Rattle.positions.specs.Wide.{narrowed}

@@ -11,7 +11,7 @@ use lib.Count.{trailingZeros, under}
 use lib.ListN.{length, getD}
 use lib.Pow.{shl-exact, shr-lt, mod-pow-add}
 use borrow.Author.Tests.{eqb-true, eqb-false, eq-eqb, ne-eqb, leb-false, le-leb, lt-leb}
-use Rattle.records.specs.Wire.{route}
+use Rattle.records.specs.Sized.{route}
 use Rattle.words.specs.Bits.{bit}
 use Rattle.words.specs.Positions.{position}
 use Rattle.words.proofs.BitLaws.{bit-zero, if-le}

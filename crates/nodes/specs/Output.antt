@@ -6,7 +6,8 @@ use mathlib.Core.List.{List, [], _∷_, _++_}
 use lib.Dec.{eqb}
 use lib.ListN.{length, getD, take, drop}
 use Rattle.theory.specs.Routes.{Route}
-use Rattle.records.specs.Wire.{bytesOf, route}
+use Rattle.records.specs.Wire.{bytesOf}
+use Rattle.records.specs.Sized.{route}
 use Rattle.words.specs.Bits.{bit}
 use Rattle.words.specs.Positions.{position}
 use Rattle.positions.specs.Runs.{placeAt}

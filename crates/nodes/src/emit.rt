@@ -9,7 +9,7 @@ ghost use mathlib.Core.Path.{_≡_};
 ghost use Prim.Native.Nat.{ℕ, _+_, _-_, _*_, _/_, _%_, _^_, _≤_, _<_};
 ghost use mathlib.Core.List.{[], _∷_};
 ghost use lib.Dec.{eqb, leb};
-ghost use Rattle.records.specs.Wire.{route};
+ghost use Rattle.records.specs.Sized.{route};
 ghost use Rattle.words.specs.Positions.{position};
 ghost use Rattle.nodes.specs.Output.{Wrote, slotHead, slotHeads, HeadSlots};
 

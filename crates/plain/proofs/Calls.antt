@@ -17,8 +17,8 @@ use Rattle.refusals.specs.Order.{rank, First, None}
 use Rattle.refusals.proofs.Judged.{Broken}
 use Rattle.refusals.proofs.Ranked.{sound-each, singles, Ranked}
 use Rattle.records.specs.Wire.{records}
-use Rattle.table.proofs.Accepted.{accepted-exactly}
-use Rattle.table.proofs.Tested.{table-numbers}
+use Rattle.table.proofs.AtEight.{accepted-exactly}
+use Rattle.table.proofs.AtEight.{table-numbers}
 use Rattle.records.specs.declared.Form.{Form}
 use Rattle.calls.specs.declared.Rewritten.{Rewritten}
 use Rattle.calls.specs.declared.Rewritten.the-variants.{Records, Refused}

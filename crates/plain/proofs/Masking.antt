@@ -9,12 +9,13 @@ use lib.ListN.{length}
 use Rattle.theory.specs.Ranks.{isRanking}
 use Rattle.refusals.specs.Rules.{Rule, rule}
 use Rattle.refusals.proofs.Waived.{waived, waived-append}
-use Rattle.records.specs.Wire.{Bytes, maskedBytes}
+use Rattle.records.specs.Wire.{maskedBytes}
+use Rattle.records.specs.Sized.{Bytes}
 use Rattle.records.specs.declared.Form.{Form}
 use Rattle.records.specs.Forms.{byDefault, strictly}
 use Rattle.table.specs.TableRules.{tableRules}
 use Rattle.table.specs.Conditions.{Accepted}
-use Rattle.table.proofs.Masking.{strict-waived, masked-routes, masked-length, masked-rules}
+use Rattle.table.proofs.AtEight.{strict-waived, masked-routes, masked-length, masked-rules}
 use Rattle.calls.specs.declared.Rewritten.{Rewritten}
 use Rattle.calls.specs.declared.Rewritten.the-variants.{Refused}
 use Rattle.calls.specs.Rewriting.{resultOf, takesSet, replyBy, writtenOf, outputOf, RewritesBy}

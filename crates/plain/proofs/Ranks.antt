@@ -7,7 +7,8 @@ use lib.IntN.{ℤ}
 use lib.ListN.{take}
 use Rattle.theory.specs.Ranks.{RankedFirst}
 use Rattle.theory.specs.Routes.{All, answer, filled}
-use Rattle.records.specs.Wire.{routes, Bytes}
+use Rattle.records.specs.Wire.{routes}
+use Rattle.records.specs.Sized.{Bytes}
 use Rattle.records.specs.declared.Form.{Form}
 use Rattle.calls.specs.declared.Rewritten.the-variants.{Records}
 use Rattle.calls.proofs.Ranks.{drop-by-first, fill-by-first, by-count}

@@ -8,7 +8,8 @@ use lib.ListN.{length, take}
 use lib.Signed.{_≤ℤ_}
 use Rattle.theory.specs.Routes.{held}
 use Rattle.theory.specs.Shortest.{Shortens, NoFewer}
-use Rattle.records.specs.Wire.{records, routes, bytesOf, Bytes}
+use Rattle.records.specs.Wire.{records, routes, bytesOf}
+use Rattle.records.specs.Sized.{Bytes}
 use Rattle.records.specs.declared.Form.{Form}
 use Rattle.table.specs.Conditions.{Accepted}
 use Rattle.calls.specs.declared.Rewritten.{Rewritten}

@@ -15,7 +15,7 @@ use Rattle.theory.proofs.Agree.{sets-agree, ortc-agree}
 use Rattle.theory.proofs.Ranks.{lowest-chooses}
 use Rattle.theory.proofs.Quick.{ortc-uniform}
 use Rattle.theory.proofs.Uniform.{sets-uniform}
-use Rattle.records.specs.Wire.{route}
+use Rattle.records.specs.Sized.{route}
 use Rattle.positions.specs.Runs.{hopOf}
 use Rattle.hops.specs.Sets.{ShowsHops, ShowsSet}
 use Rattle.hops.proofs.SetLaws.{zero-shows-hole}

@@ -19,8 +19,8 @@ use Rattle.theory.proofs.Computed.{under-default}
 use Rattle.theory.proofs.Lists.{all-member}
 use Rattle.theory.proofs.Maximal.{set-is-drop-bare}
 use Rattle.records.specs.Wire.{records, routes, routeAt}
-use Rattle.table.specs.TableRules.{topHop}
-use Rattle.table.proofs.Tables.{set-hops}
+use Rattle.table.specs.SizedRules.{topHop}
+use Rattle.table.proofs.SizedTables.{set-hops}
 use Rattle.positions.specs.Runs.{noHop}
 use Rattle.runs.specs.Runs.{run, RunAt}
 use Rattle.runs.proofs.Halves.{whole-run}

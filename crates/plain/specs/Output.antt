@@ -4,7 +4,8 @@ use mathlib.Core.Path.{_≡_}
 use mathlib.Core.List.{List}
 use lib.ListN.{length}
 use Rattle.theory.specs.Routes.{Route}
-use Rattle.records.specs.Wire.{bytesOf, laid}
+use Rattle.records.specs.Wire.{bytesOf}
+use Rattle.records.specs.Sized.{laid}
 
 -- The k routes rs were put at the start of the output o, if they fit, and it is o′ then.
 pub record Put (rs : List Route) (k : ℕ) (o o′ : List ℕ) : Type 0 where

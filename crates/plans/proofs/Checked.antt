@@ -12,12 +12,13 @@ use borrow.Author.Tests.{eqb-true, eqb-false, eq-eqb, ltb-true, ltb-false}
 use Rattle.theory.specs.Routes.{Route, answer, Table}
 use Rattle.refusals.specs.Rules.{Rule, Reply, gives, refuses, judge}
 use Rattle.refusals.proofs.Judged.{gives-exactly, gives-any}
-use Rattle.records.specs.Wire.{records, routeAt, routesFrom, routes, Bytes}
+use Rattle.records.specs.Wire.{records, routeAt, routesFrom, routes}
+use Rattle.records.specs.Sized.{Bytes}
 use Rattle.records.specs.declared.Form.{Form}
 use Rattle.records.proofs.Reading.{length-routes}
 use Rattle.table.specs.Checking.{checkReply}
 use Rattle.table.specs.TableRules.{tableRules}
-use Rattle.table.proofs.Tested.{table-tests}
+use Rattle.table.proofs.AtEight.{table-tests}
 use Rattle.steps.specs.Steps.{after, Hitless}
 use Rattle.steps.proofs.Entries.{and-true}
 use Rattle.plans.specs.declared.answers.Step.{Step}

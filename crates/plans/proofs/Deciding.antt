@@ -18,12 +18,14 @@ use Rattle.theory.proofs.Parts.{all-part}
 use Rattle.words.proofs.PrefixLaws.{start-small}
 use Rattle.positions.specs.Runs.{noHop}
 use Rattle.refusals.specs.Rules.{gives}
-use Rattle.records.specs.Wire.{records, routeAt, route, routes, Bytes}
+use Rattle.records.specs.Wire.{records, routeAt, routes}
+use Rattle.records.specs.Sized.{route, Bytes}
 use Rattle.records.specs.declared.Form.{Form}
 use Rattle.records.proofs.Reading.{length-routes}
 use Rattle.table.specs.Checking.{checkReply}
 use Rattle.table.specs.Conditions.{Lawful}
-use Rattle.table.proofs.Tables.{accepted-table, hops-below}
+use Rattle.table.proofs.AtEight.{accepted-table}
+use Rattle.table.proofs.SizedTables.{hops-below}
 use Rattle.runs.proofs.Halves.{whole-run, record-within}
 use Rattle.theory.proofs.Numbered.{all-numbered}
 use Rattle.runs.proofs.Records.{run-whole, run-numbered}

@@ -16,7 +16,7 @@ use Rattle.refusals.proofs.Ranked.{at, broken-left, broken-right, sound-append,
 use Rattle.records.specs.declared.Form.{Form}
 use Rattle.table.specs.Conditions.{TableCondition, not-whole, too-many, of-record, too-long, host-bits, bad-tail, not-after}
 use Rattle.table.specs.TableRules.{tableRules}
-use Rattle.table.proofs.Tested.{table-tests, table-ranked}
+use Rattle.table.proofs.AtEight.{table-tests, table-ranked}
 use Rattle.checking.specs.Passes.{puts}
 use Rattle.checking.specs.Checking.{hostKeptOf, hopKeptOf}
 use Rattle.plans.specs.declared.answers.Step.{Step}

@@ -12,8 +12,7 @@ use Rattle.theory.specs.Results.{startOf}
 use Rattle.theory.specs.Routes.{Route, Valid, All, cons, miss, hit, longer, lookup}
 use Rattle.theory.proofs.Masked.{masked-matches, masked-valid}
 use Rattle.theory.proofs.Numbered.{counted, numbered}
-use Rattle.records.specs.Wire.{Bytes}
-use Rattle.records.specs.Sized.{IsSize, octetsIn, widthIn, byteIn, number, rawIn, routeIn, routesFromIn, recordsIn, routesIn}
+use Rattle.records.specs.Sized.{IsSize, octetsIn, widthIn, byteIn, number, rawIn, routeIn, routesFromIn, recordsIn, routesIn, Bytes}
 use Rattle.records.proofs.Numbers.{number-small}
 
 -- ---- The size.

@@ -9,8 +9,8 @@ ghost use Prim.Native.Nat.{_+_, _-_, _*_, _/_, _^_, _<_, _≤_};
 ghost use mathlib.Core.List.{[], _∷_};
 ghost use lib.ListN.{length};
 ghost use Rattle.words.specs.Keys.{keyOf};
-ghost use Rattle.records.specs.Wire.{join, route, laid};
-ghost use Rattle.records.specs.Sized.{IsSize, widthIn, number, recordsIn, rawIn, routeIn, recordIn};
+ghost use Rattle.records.specs.Wire.{join};
+ghost use Rattle.records.specs.Sized.{IsSize, widthIn, number, recordsIn, rawIn, routeIn, recordIn, route, laid};
 
 // Eight octets as a number, the first the most significant.
 fn join8(a: u8, b: u8, c: u8, d: u8, e: u8, f: u8, g: u8, h: u8) -> u64

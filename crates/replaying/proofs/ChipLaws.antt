@@ -11,7 +11,8 @@ use Rattle.theory.specs.Routes.{Route, All, Valid}
 use Rattle.theory.proofs.Lists.{all-member, member-all}
 use Rattle.refusals.specs.Rules.{judge}
 use Rattle.refusals.proofs.Judged.{gives-any, refuses-any}
-use Rattle.records.specs.Wire.{records, routes, Bytes, bytesOf}
+use Rattle.records.specs.Wire.{records, routes, bytesOf}
+use Rattle.records.specs.Sized.{Bytes}
 use Rattle.records.specs.declared.Form.{Form}
 use Rattle.records.proofs.Written.{length-bytes, routes-bytes}
 use Rattle.rooms.specs.Rooms.{allAre}

@@ -9,7 +9,8 @@ use lib.ListN.{length, drop, replicate}
 use lib.Seq.{drop-at}
 use Rattle.theory.specs.Routes.{Route}
 use Rattle.refusals.specs.Rules.{Rule, Reply, gives, refuses}
-use Rattle.records.specs.Wire.{records, bytesOf, laid}
+use Rattle.records.specs.Wire.{records, bytesOf}
+use Rattle.records.specs.Sized.{laid}
 use Rattle.records.specs.declared.Form.{Form}
 use Rattle.records.proofs.Written.{length-bytes}
 use Rattle.rooms.specs.Rooms.{allAre}

@@ -7,7 +7,8 @@ use native.Mathlib.Omega.{arith}
 use lib.Dec.{ltb}
 use lib.ListN.{length, replicate, length-replicate}
 use Rattle.refusals.specs.Rules.{gives}
-use Rattle.records.specs.Wire.{Bytes, records}
+use Rattle.records.specs.Wire.{records}
+use Rattle.records.specs.Sized.{Bytes}
 use Rattle.records.specs.Forms.{byDefault}
 use Rattle.table.specs.Conditions.{Accepted}
 use Rattle.calls.specs.Rewriting.{InUse, resultOf, takesSet, rewriteReply}

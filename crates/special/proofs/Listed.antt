@@ -16,8 +16,8 @@ use Rattle.records.proofs.Octets.{octets, all-bytes}
 use Rattle.table.specs.Checking.{checkReply}
 use Rattle.table.specs.Conditions.{Accepted}
 use Rattle.table.specs.TableRules.{recordRules, rulesFrom, tableRules}
-use Rattle.table.proofs.Accepted.{accepted}
-use Rattle.table.proofs.Tables.{accepted-table}
+use Rattle.table.proofs.AtEight.{accepted}
+use Rattle.table.proofs.AtEight.{accepted-table}
 use Rattle.special.specs.Calls.{rangesReply, specialRules, specialReply}
 use Rattle.special.specs.Editions.{rfc5735, rfc6890, isEdition, Edition, rangesOf}
 use Rattle.special.specs.Ranges.{Ranges}

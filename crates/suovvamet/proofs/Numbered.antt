@@ -11,8 +11,8 @@ use lib.ListN.{length}
 use Rattle.lookup.specs.Calls.{lookupSays, heldSays}
 use Rattle.refusals.specs.Rules.{Reply, gives, refuses, judge}
 use Rattle.table.specs.TableRules.{tableRules}
-use Rattle.table.proofs.Accepted.{accepted-exactly, not-refused, accepted, refused-exactly}
-use Rattle.table.proofs.Tested.{table-numbers}
+use Rattle.table.proofs.AtEight.{accepted-exactly, not-refused, accepted, refused-exactly}
+use Rattle.table.proofs.AtEight.{table-numbers}
 use Rattle.table.specs.Conditions.{TableCondition}
 use Rattle.calls.specs.Conditions.{RewriteCondition, no-mode, retired, large-default, bad-ranks, of-table, short-work, short-output, CoverCondition, of-set, long-query, short-room}
 use Rattle.refusals.specs.Order.{First, None}

@@ -3,7 +3,7 @@ use mathlib.Core.Path.{_≡_, refl}
 use mathlib.Core.Bool.{true, false}
 use mathlib.Core.List.{[], _∷_}
 use lib.IntN.{pos, negsuc}
-use Rattle.records.specs.Wire.{route}
+use Rattle.records.specs.Sized.{route}
 use Rattle.text.specs.Text.{places, decimal, signed, dotted, hopEnd, lineOf, changeLine, refusedLine}
 
 -- `10.128.0.0/9 2`.

@@ -9,7 +9,8 @@ use lib.ListN.{length}
 use Rattle.theory.specs.Routes.{Route}
 use Rattle.refusals.specs.Rules.{Rule, Reply, refuses, judge}
 use Rattle.refusals.proofs.Judged.{gives-any, refuses-any}
-use Rattle.records.specs.Wire.{records, Bytes}
+use Rattle.records.specs.Wire.{records}
+use Rattle.records.specs.Sized.{Bytes}
 use Rattle.records.specs.declared.Form.{Form}
 use Rattle.calls.specs.declared.Rewritten.{Rewritten}
 use Rattle.calls.specs.declared.Rewritten.the-variants.{Records, Refused}

@@ -7,7 +7,7 @@ use lib.Dec.{ltb}
 use lib.IntN.{ℤ, pos, negsuc}
 use lib.ListN.{length}
 use Rattle.io.specs.Digits.{digits}
-use Rattle.records.specs.Wire.{laid}
+use Rattle.records.specs.Sized.{laid}
 use Rattle.theory.specs.Routes.{Route}
 
 -- ---- Numbers.

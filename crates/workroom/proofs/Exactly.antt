@@ -9,12 +9,13 @@ use native.Mathlib.Omega.{arith}
 use Rattle.theory.specs.Routes.{Route}
 use Rattle.refusals.specs.Rules.{Rule, judge}
 use Rattle.refusals.specs.Order.{First}
-use Rattle.records.specs.Wire.{routes, Bytes, maskedBytes}
+use Rattle.records.specs.Wire.{routes, maskedBytes}
+use Rattle.records.specs.Sized.{Bytes}
 use Rattle.records.specs.declared.Form.{Form}
 use Rattle.records.specs.Forms.{byDefault, strictly}
 use Rattle.table.specs.Conditions.{TableCondition, Accepted}
-use Rattle.table.proofs.Alone.{table-unique, table-gives, table-refuses}
-use Rattle.table.proofs.Masking.{table-carried, masked-routes, masked-rules}
+use Rattle.table.proofs.AtEight.{table-unique, table-gives, table-refuses}
+use Rattle.table.proofs.AtEight.{table-carried, masked-routes, masked-rules}
 use Rattle.nodecount.specs.Nodes.{nodes}
 use Rattle.workroom.specs.declared.WorkWords.{WorkWords}
 use Rattle.workroom.specs.declared.WorkWords.the-variants.{Words, Refused}

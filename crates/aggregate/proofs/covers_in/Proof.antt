@@ -10,7 +10,8 @@ use Rattle.theory.specs.Routes.{held}
 use Rattle.table.specs.Checking.{checkedSays, checkReply}
 use Rattle.nodecount.specs.Nodes.{nodes}
 use Rattle.refusals.specs.Rules.{gives}
-use Rattle.records.specs.Wire.{routes, Bytes}
+use Rattle.records.specs.Wire.{routes}
+use Rattle.records.specs.Sized.{Bytes}
 use Rattle.records.specs.declared.Form.{Form}
 use Rattle.nodes.specs.Node.{wide, spare, run}
 use Rattle.calls.specs.Covering.{coverReply}

@@ -8,7 +8,7 @@ use lib.ListN.{length, length-take, length-drop}
 use borrow.Author.Needs.{needs}
 use borrow.Fn.Kinds.{In}
 use borrow.Fn.PlainCycle.{Measures, is, falls, and}
-use Rattle.records.specs.Wire.{route}
+use Rattle.records.specs.Sized.{route}
 use Rattle.holes.specs.Holes.{holesAt}
 use Rattle.holes.specs.Kinds.{Halves, KindOf}
 use Rattle.holes.proofs.Output.{hole-laid, none-laid, left-room, halves-laid}

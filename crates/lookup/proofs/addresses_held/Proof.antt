@@ -5,7 +5,7 @@ use native.Mathlib.Omega.{arith}
 use borrow.Author.Needs.{needs}
 use Rattle.table.specs.Checking.{checkedSays}
 use Rattle.refusals.specs.Rules.{gives}
-use Rattle.table.proofs.Tables.{accepted-table}
+use Rattle.table.proofs.AtEight.{accepted-table}
 use Rattle.refusals.proofs.Judged.{gives-any, refuses-any}
 use Rattle.lookup.proofs.addresses_held.Statement.{statement}
 use Rattle.lookup.proofs.addresses_held.Tie as tie

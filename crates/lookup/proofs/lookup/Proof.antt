@@ -4,7 +4,7 @@ use mathlib.Core.Path.{sym, ap, _∙_}
 use borrow.Author.Needs.{needs}
 use Rattle.table.specs.Checking.{checkedSays}
 use Rattle.refusals.specs.Rules.{gives}
-use Rattle.table.proofs.Accepted.{accepted}
+use Rattle.table.proofs.AtEight.{accepted}
 use Rattle.refusals.proofs.Judged.{gives-any, refuses-any}
 use Rattle.lookup.proofs.lookup.Statement.{statement}
 use Rattle.lookup.proofs.lookup.Tie as tie

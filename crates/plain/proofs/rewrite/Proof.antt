@@ -4,7 +4,7 @@ use native.Mathlib.Omega.{arith}
 use borrow.Author.Needs.{needs}
 use borrow.Author.Tests.{not-true, not-false}
 use Rattle.table.specs.Checking.{checkedSays}
-use Rattle.table.proofs.Tables.{hops-below}
+use Rattle.table.proofs.SizedTables.{hops-below}
 use Rattle.calls.specs.Rewriting.{takesSet}
 use Rattle.calls.proofs.Ending.{refused-by, finished-by, same-last, default-hop, checked-count, checked-lawful}
 use Rattle.plain.proofs.Replies.{not-a-mode, retired-mode, not-a-hop, not-a-ranking, not-a-table, only-output}

@@ -4,7 +4,7 @@ use mathlib.Core.Path.{sym, ap, _∙_}
 use mathlib.Core.List.{[], _∷_}
 use borrow.Author.Needs.{needs}
 use Rattle.theory.proofs.Preserve.{back}
-use Rattle.records.specs.Wire.{route}
+use Rattle.records.specs.Sized.{route}
 use Rattle.plain.proofs.Output.{put-none, put-one}
 use Rattle.plain.proofs.Walk.{entry-hole, entry-taken, entry-chosen}
 use Rattle.plain.proofs.write_entry.Statement.{statement}

@@ -7,7 +7,7 @@ use Rattle.table.specs.Checking.{checkedSays}
 use Rattle.refusals.specs.Rules.{gives}
 use Rattle.refusals.proofs.Judged.{gives-any, refuses-any}
 use Rattle.nodecount.proofs.NodeCount.{nodes-most}
-use Rattle.table.proofs.Tables.{accepted-table}
+use Rattle.table.proofs.AtEight.{accepted-table}
 use Rattle.workroom.proofs.work_words.Statement.{statement}
 use Rattle.workroom.proofs.work_words.Tie as tie
 

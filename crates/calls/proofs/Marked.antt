@@ -30,6 +30,8 @@ use Rattle.refusals.specs.Order.{None}
 use Rattle.calls.specs.Rewriting.{InUse, modeOf, resultOf, takesSet, Rewrites}
 use Rattle.table.proofs.AtEight.{accepted-exactly}
 use Rattle.table.proofs.AtEight.{accepted-any}
+use Rattle.records.specs.Sized.{bytesIn, clear, number, rawIn, routeIn, routesFromIn, routesIn}
+use Rattle.table.specs.SizedRules.{recordRulesIn, rulesFromIn, tableRulesIn}
 use Rattle.calls.proofs.Refusals.{answerable-exactly, empty-table, empty-nodes}
 use Rattle.calls.proofs.Results.{rewrite-result}
 
@@ -139,7 +141,7 @@ case-answered c change k e form o words r o′ w′ long wide ok =
         )
 
 ready : Each Ready cases changes
-unfolding cases changes route judge tableRules rulesFrom recordRules rawAt routeAt routesFrom routes bytesOf nodes brought fresh
+unfolding cases changes route judge tableRulesIn rulesFromIn recordRulesIn rawIn routeIn routesFromIn routesIn bytesIn nodes brought fresh clear number
 ready = ((tt, refl, refl, tt, tt, refl), ((tt, refl, refl, tt, tt, refl), ((tt, refl, refl, tt, tt, refl), ((tt, refl, refl, tt, tt, refl), ((tt, refl, refl, tt, tt, refl), ((tt, refl, refl, tt, tt, refl), ((tt, refl, refl, tt, tt, refl), ((tt, refl, refl, tt, tt, refl), ((tt, refl, refl, tt, tt, refl), ((tt, refl, refl, tt, tt, refl), ((tt, refl, refl, tt, tt, refl), ((tt, refl, refl, tt, tt, refl), tt))))))))))))
 
 each-answered : (cs : List Case) (ds : List ℤ) → Each Ready cs ds → Answered cs → Each CaseAnswered cs ds
@@ -154,7 +156,7 @@ marked = each-answered cases changes ready worked
 
 -- ---- The empty table in modes 1, 3 and 4, under any lawful ranks: 160 words and no output suffice.
 empty-result : (mode default : ℕ) (ranks : List ℕ) → InUse mode → mode ≤ 4 → resultOf [] mode default ranks ≡ []
-unfolding resultOf result routes routesFrom ortcOf setsOf
+unfolding resultOf result routesIn routesFromIn ortcOf setsOf
 empty-result zero d ranks used high = absurd (omega (arith, used .0))
 empty-result (suc zero) d ranks used high = set-computed (lowest ranks) (lowest-chooses ranks) 32 nil
 empty-result (suc (suc zero)) d ranks used high = absurd (used .2 refl)
@@ -166,7 +168,7 @@ empty-result (suc (suc (suc (suc (suc n))))) d ranks used high = absurd (omega a
 pub empty-answered : (form : Form) (mode default : ℕ) (ranks o : List ℕ) (words : ℕ) (r : Rewritten) (o′ w′ : List ℕ) → InUse mode → mode ≤ 4
     → (4 ≤ mode → Ranking 64 ranks) → 160 ≤ words
     → Rewrites form [] mode default ranks o words r o′ w′ → (r ≡ Records 0 (pos 0)) × (o′ ≡ o)
-unfolding resultOf bytesOf
+unfolding resultOf bytesIn
 empty-answered form mode default ranks o words r o′ w′ used high ranked enough ok =
     let f = rewrite-result form [] mode default ranks o words r o′ w′ ok none in (
       f .0 ∙ ap (λ (rs : List Route). Records (length rs) (pos (length rs) -ℤ pos 0)) (empty-result mode default ranks used high),

@@ -21,6 +21,7 @@ use Rattle.records.specs.declared.Form.{Form}
 use Rattle.table.specs.Conditions.{TableCondition, not-whole, too-many, of-record}
 use Rattle.table.proofs.AtEight.{accepted-exactly}
 use Rattle.table.proofs.AtEight.{table-numbers}
+use Rattle.records.specs.Sized.{routesFromIn, routesIn}
 use Rattle.nodecount.specs.Nodes.{nodes, brought}
 use Rattle.calls.specs.declared.Rewritten.{Rewritten}
 use Rattle.calls.specs.declared.Rewritten.the-variants.{Records, Refused}
@@ -160,7 +161,7 @@ empty-table form s n i (of-record h c) = omega arith
 
 -- It has one node, the root.
 pub empty-nodes : nodes 32 (routes []) ≡ 1
-unfolding nodes brought routes routesFrom
+unfolding nodes brought routesIn routesFromIn
 empty-nodes = refl
 
 module _ (form : Form) (mode default : ℕ) (ranks o : List ℕ) (words : ℕ) (r : Rewritten) (o′ w′ : List ℕ) (ok : Rewrites form [] mode default ranks o words r o′ w′) where

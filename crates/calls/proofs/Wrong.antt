@@ -24,6 +24,8 @@ use Rattle.records.proofs.Octets.{all-bytes}
 use Rattle.lookup.specs.Calls.{heldSays, heldReply}
 use Rattle.lookup.specs.declared.answers.AddressesHeld.the-variants.{Count}
 use Rattle.records.proofs.Written.{length-bytes}
+use Rattle.records.specs.Sized.{bytesIn, clear, number, rawIn, routeIn, routesFromIn, routesIn}
+use Rattle.table.specs.SizedRules.{recordRulesIn, rulesFromIn, tableRulesIn}
 use Rattle.lookup.proofs.Calls.{held-count-exactly}
 use Rattle.lookup.proofs.Pass.{pass-counts}
 use Rattle.calls.specs.declared.Rewritten.{Rewritten}
@@ -68,21 +70,21 @@ module _ (form : Form) (o : List ℕ) (words : ℕ) (long : 8200 ≤ length o) (
       ∙ take-at (bytesOf rs) (drop (8 * length rs) o) (8 * length rs) (length-bytes rs)
 
   case-2 : Rewrites form halves 1 0 [] o words r o′ w′ → take (8 * countOf r) o′ ≡ 10 ∷ 0 ∷ 0 ∷ 0 ∷ 8 ∷ 0 ∷ 0 ∷ 0 ∷ []
-  unfolding cases changes route bytesOf
+  unfolding cases changes route bytesIn
   case-2 ok = written (route 10 0 0 0 8 0 ∷ []) (negsuc 0) (marked .1 .0 form o words r o′ w′ long wide ok)
 
   case-5 : Rewrites form everything 1 0 [] o words r o′ w′ → take (8 * countOf r) o′ ≡ 0 ∷ 0 ∷ 0 ∷ 0 ∷ 0 ∷ 0 ∷ 0 ∷ 0 ∷ []
-  unfolding cases changes route bytesOf
+  unfolding cases changes route bytesIn
   case-5 ok = written (route 0 0 0 0 0 0 ∷ []) (negsuc 0) (marked .1 .1 .1 .0 form o words r o′ w′ long wide ok)
 
   case-11 : Rewrites form apart 4 0 [] o words r o′ w′ → take (8 * countOf r) o′ ≡ 10 ∷ 0 ∷ 0 ∷ 0 ∷ 8 ∷ 1 ∷ 0 ∷ 0 ∷ 10 ∷ 128 ∷ 0 ∷ 0 ∷ 9 ∷ 2 ∷ 0 ∷ 0 ∷ []
-  unfolding cases changes route bytesOf
+  unfolding cases changes route bytesIn
   case-11 ok =
       written (route 10 0 0 0 8 1 ∷ route 10 128 0 0 9 2 ∷ []) (pos 0) (marked .1 .1 .1 .1 .1 .1 .1 .0 form o words r o′ w′ long wide ok)
 
   -- One that refuses everything: the halves are not refused.
   pub refuser-wrong : (number index : ℕ) → r ≡ Refused number index → Rewrites form halves 1 0 [] o words r o′ w′ → ⊥
-  unfolding cases changes route bytesOf
+  unfolding cases changes route bytesIn
   refuser-wrong number index e ok =
       let f = marked .1 .0 form o words r o′ w′ long wide ok .0 in
       let z : _≡_ {A = ℕ} 0 1 = cc in
@@ -97,7 +99,7 @@ module _ (form : Form) (o : List ℕ) (words : ℕ) (long : 8200 ≤ length o) (
 
   -- One that rewrites the root's positions and copies the deeper nodes: both halves lie below the root.
   pub deep-copier-wrong : Rewrites form halves 1 0 [] o words r o′ w′ → CopiesDeep (routes halves) (routes (take (8 * countOf r) o′)) → ⊥
-  unfolding routes routesFrom rawAt routeAt route
+  unfolding routesIn routesFromIn rawIn routeIn route number
   deep-copier-wrong ok copies =
       let merged : routes (take (8 * countOf r) o′) ≡ route 10 0 0 0 8 0 ∷ [] = ap routes (case-2 ok) in
       let m : Member (route 10 0 0 0 9 0) (route 10 0 0 0 8 0 ∷ []) = rw merged at (copies (route 10 0 0 0 9 0) head (omega arith)) in
@@ -114,7 +116,7 @@ constant-wrong form o words long wide r r₁ o′ w′ o₁ w₁ a b e =
 
 -- A copier against demand 3: two tables that answer every address alike have the same bytes written, and these two differ.
 alike : Alike 32 (answer 32 (routes shadowed)) (answer 32 (routes plain))
-unfolding cases route result routes routesFrom rawAt routeAt
+unfolding cases route result routesIn routesFromIn rawIn routeIn number
 alike x lt =
     sym (answers smallest 32 smallest-chooses (answer 32 (routes shadowed)) x lt)
     ∙ ap (λ (t : List Route). answer 32 t x) (worked .1 .1 .1 .1 .1 .1 .0)
@@ -143,9 +145,9 @@ total-invented form t n other e = other (held-count-exactly form t (Count n) e n
 
 -- So for case 11's table, twice 2 ^ 23; for case 10's, whose halves lie in the first record, 2 ^ 24 too.
 pub total-apart : (form : Form) (n : ℕ) → heldSays (Count n) ≡ heldReply form apart → n ≡ 16777216
-unfolding judge tableRules rulesFrom recordRules routes routesFrom rawAt routeAt countFrom
+unfolding judge tableRulesIn rulesFromIn recordRulesIn routesIn routesFromIn rawIn routeIn countFrom clear number
 total-apart form n e = sym (held-count-exactly form apart (Count n) e n .0 refl .1) ∙ pass-counts apart (all-bytes apart refl) strictly 2 refl
 
 pub total-shadowed : (form : Form) (n : ℕ) → heldSays (Count n) ≡ heldReply form shadowed → n ≡ 16777216
-unfolding judge tableRules rulesFrom recordRules routes routesFrom rawAt routeAt countFrom
+unfolding judge tableRulesIn rulesFromIn recordRulesIn routesIn routesFromIn rawIn routeIn countFrom clear number
 total-shadowed form n e = sym (held-count-exactly form shadowed (Count n) e n .0 refl .1) ∙ pass-counts shadowed (all-bytes shadowed refl) strictly 3 refl

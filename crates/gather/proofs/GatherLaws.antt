@@ -17,6 +17,7 @@ use Rattle.theory.proofs.Order.{valid-within}
 use Rattle.theory.proofs.Parts.{all-part, table-part, part-agree}
 use Rattle.theory.specs.Shapes.{Within, routed}
 use Rattle.records.specs.Wire.{records, routeAt, routes}
+use Rattle.records.specs.Sized.{routesIn}
 use Rattle.words.specs.Bits.{bit}
 use Rattle.words.specs.Positions.{position}
 use Rattle.words.proofs.PositionLaws.{placed}
@@ -198,7 +199,7 @@ module _ {t : List ℕ} {lo hi depth key : ℕ} {first end : List ℕ} {present 
 
 -- All the records of a table are its routes, wide.
 pub root-run : (t : List ℕ) → run t 0 (records t) ≡ widened spare (routes t)
-unfolding routes
+unfolding routesIn
 root-run t = let e : records t - 0 ≡ records t = omega arith in rw e
 
 -- Those of a table, by hops of the code, are those of a node.

@@ -14,6 +14,7 @@ use Rattle.theory.specs.Routes.{Route, All, nil, cons, Before, Ascending, first
 use Rattle.theory.proofs.Lists.{all-member}
 use Rattle.theory.proofs.Parts.{part-whole, part-none, part-append}
 use Rattle.records.specs.Wire.{routesFrom}
+use Rattle.records.specs.Sized.{routesFromIn}
 use Rattle.positions.specs.Wide.{widened}
 use Rattle.nodes.specs.Node.{spare, wideAt, run}
 use Rattle.gather.specs.Gathered.{some}
@@ -25,7 +26,7 @@ abbrev span : List ℕ → ℕ → ℕ → List Route
 span t lo k = widened spare (routesFrom t lo k)
 
 member-span : (t : List ℕ) (lo k i : ℕ) → lo ≤ i → i < lo + k → Member (wideAt t i) (span t lo k)
-unfolding routesFrom
+unfolding routesFromIn
 member-span t lo zero i le lt = absurd (omega arith)
 member-span t lo (suc k) i le lt = go (eq-or-lt-of-le le) (member-span t (suc lo) k i)
   where
@@ -35,12 +36,12 @@ member-span t lo (suc k) i le lt = go (eq-or-lt-of-le le) (member-span t (suc lo
     go (inr h) ih = later (ih h (omega arith))
 
 all-span : {P : Route → Type 0} (t : List ℕ) (lo k : ℕ) → ((i : ℕ) → lo ≤ i → i < lo + k → P (wideAt t i)) → All P (span t lo k)
-unfolding routesFrom
+unfolding routesFromIn
 all-span t lo zero p = nil
 all-span t lo (suc k) p = cons (p lo (omega arith) (omega arith)) (all-span t (suc lo) k (λ i l h. p i (omega arith) (omega arith)))
 
 before-span : (t : List ℕ) (lo k i j : ℕ) → Ascending (span t lo k) → lo ≤ i → i < j → j < lo + k → Before (wideAt t i) (wideAt t j)
-unfolding routesFrom
+unfolding routesFromIn
 before-span t lo zero i j o le lt h = absurd (omega arith)
 before-span t lo (suc k) i j (first b o) le lt h = go (eq-or-lt-of-le le) (λ l. before-span t (suc lo) k i j o l lt (omega arith))
   where
@@ -49,7 +50,7 @@ before-span t lo (suc k) i j (first b o) le lt h = go (eq-or-lt-of-le le) (λ l.
     go (inr l) ih = ih l
 
 append-span : (t : List ℕ) (lo k n : ℕ) → span t lo (k + n) ≡ span t lo k ++ span t (lo + k) n
-unfolding routesFrom
+unfolding routesFromIn
 append-span t lo zero n = rw (zero-add, add-zero)
 append-span t lo (suc k) n =
     rw (suc-add k n) (ap (λ (u : List Route). wideAt t lo ∷ u) (append-span t (suc lo) k n ∙ rw (suc-add lo k, add-suc lo k)))
@@ -70,12 +71,12 @@ before-run t lo hi i j o le lt h = before-span t lo (hi - lo) i j o le lt (omega
 
 -- A run that ends where it starts, or before, has no records.
 pub run-none : (t : List ℕ) (lo hi : ℕ) → hi ≤ lo → run t lo hi ≡ []
-unfolding routesFrom
+unfolding routesFromIn
 run-none t lo hi le = let e : hi - lo ≡ 0 = omega arith in rw e
 
 -- A run that does not has its first.
 pub run-first : (t : List ℕ) (lo hi : ℕ) → lo < hi → run t lo hi ≡ wideAt t lo ∷ run t (suc lo) hi
-unfolding routesFrom
+unfolding routesFromIn
 run-first t lo hi lt = let e : hi - lo ≡ suc (hi - suc lo) = omega arith in rw e
 
 -- A run is its records up to one between, then those from there.

@@ -8,7 +8,7 @@ use lib.ListN.{length, take}
 use Rattle.refusals.specs.Order.{Earlier}
 use Rattle.refusals.proofs.Judged.{earlier-not}
 use Rattle.records.specs.Wire.{routesFrom, routes, bytesOf}
-use Rattle.records.specs.Sized.{route}
+use Rattle.records.specs.Sized.{route, routesFromIn, routesIn}
 use Rattle.records.specs.declared.Form.{Form}
 use Rattle.table.specs.Conditions.{Accepted}
 use Rattle.table.proofs.AtEight.{accepted-exactly}
@@ -22,7 +22,7 @@ use Rattle.holes.proofs.Walk.{holes-empty}
 
 -- Its holes.
 pub empty-holes : holesOf [] ≡ route 0 0 0 ∷ []
-unfolding routes routesFrom
+unfolding routesIn routesFromIn
 empty-holes = holes-empty 32 32 0
 
 empty-one : length (holesOf []) ≡ 1

@@ -7,7 +7,7 @@ use native.Mathlib.Omega.{arith}
 use lib.ListN.{length, take, drop}
 use Rattle.theory.specs.Routes.{Route}
 use Rattle.records.specs.Wire.{recordOf, bytesOf}
-use Rattle.records.specs.Sized.{laid}
+use Rattle.records.specs.Sized.{laid, bytesIn}
 use Rattle.records.proofs.Laid.{laid-none}
 use Rattle.records.proofs.Written.{length-records, records-lent}
 use Rattle.holes.specs.Holes.{holesAt}
@@ -16,12 +16,12 @@ use Rattle.holes.proofs.Positions.{halves-count}
 
 -- The one record of a hole.
 pub hole-laid : {rs : List Route} (r : Route) (o o′ : List ℕ) → rs ≡ r ∷ [] → o′ ≡ laid 0 (recordOf r) o → o′ ≡ laid 0 (bytesOf rs) o
-unfolding bytesOf
+unfolding bytesIn
 hole-laid r o o′ e f = rw e f
 
 -- No record.
 pub none-laid : {rs : List Route} (o : List ℕ) → rs ≡ [] → o ≡ laid 0 (bytesOf rs) o
-unfolding bytesOf
+unfolding bytesIn
 none-laid o e = rw e (sym (laid-none 0 o))
 
 module _ {t : List ℕ} {lo hi len addr right mid : ℕ} (h : Halves t lo hi len addr right mid) (o : List ℕ)

@@ -13,7 +13,7 @@ use lib.Pow.{pow-add, shr-shr}
 use borrow.Author.Tests.{eqb-true}
 use Rattle.theory.specs.Routes.{Route}
 use Rattle.records.specs.Wire.{recordOf, bytesOf}
-use Rattle.records.specs.Sized.{laid, route}
+use Rattle.records.specs.Sized.{laid, route, bytesIn}
 use Rattle.records.proofs.Laid.{laid-none, laid-then, laid-lent}
 use Rattle.records.proofs.Written.{length-bytes, bytes-append}
 use Rattle.positions.specs.Runs.{sizeAt, placeAt}
@@ -53,7 +53,7 @@ wrote-from {rs} {done} {k} {o} e f = record { counted = e; laid = λ fits. f fit
 
 -- Nothing is written where there is nothing to write.
 pub wrote-none : (done : ℕ) (o : List ℕ) → Wrote [] done done o o
-unfolding bytesOf
+unfolding bytesIn
 wrote-none done o = wrote-from (omega arith) (λ fits. sym (laid-none (done * 8) o))
 
 -- One part, and another after it.
@@ -87,7 +87,7 @@ narrow-half a half e =
 -- One record at the start of the output, by the half of its wide address; it is counted where there is no room for it too.
 pub wrote-record : (half len hop : ℕ) (o o′ : List ℕ) → (8 ≤ length o → o′ ≡ laid 0 (recordOf (route (half / 2 ^ (64 - bits)) len hop)) o)
     → (a : ℕ) → a / 2 ≡ half → Wrote (route a len hop ∷ []) 0 1 o o′
-unfolding bytesOf
+unfolding bytesIn
 wrote-record half len hop o o′ e a is = wrote-from refl (λ fits. rw (narrow-half a half is) (e (omega arith)))
 
 -- All that is written, where it fits: the routes' bytes, and what stood after them.

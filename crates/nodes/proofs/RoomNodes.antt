@@ -6,6 +6,7 @@ use native.Mathlib.Nat.{sub-zero}
 use native.Mathlib.Omega.{arith}
 use Rattle.theory.specs.Routes.{All, Valid}
 use Rattle.records.specs.Wire.{records, routes}
+use Rattle.records.specs.Sized.{routesIn}
 use Rattle.nodecount.specs.Nodes.{levels, nodes}
 use Rattle.nodecount.proofs.NodeRuns.{nodes-runs}
 use Rattle.nodecount.proofs.NodesWide.{nodes-widen}
@@ -15,7 +16,7 @@ use Rattle.nodes.specs.Room.{nodesBelow}
 
 -- The walk goes 13 nodes deep: no table has a node deeper than at depth 60.
 pub nodes-below : (t : List ℕ) → All (Valid bits) (routes t) → nodesBelow 13 0 (run t 0 (records t)) ≡ nodes bits (routes t)
-unfolding routes
+unfolding routesIn
 nodes-below t valid =
     rw (sub-zero (records t))
     (nodes-runs wide 12 (all-widen spare (valid-widen bits spare) valid) (omega arith)

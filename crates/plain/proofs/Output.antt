@@ -6,19 +6,19 @@ use native.Mathlib.Omega.{arith}
 use lib.ListN.{length, take, drop, length-append, length-take, length-drop}
 use Rattle.theory.specs.Routes.{Route}
 use Rattle.records.specs.Wire.{recordOf, bytesOf}
-use Rattle.records.specs.Sized.{laid}
+use Rattle.records.specs.Sized.{laid, bytesIn}
 use Rattle.records.proofs.Laid.{laid-none}
 use Rattle.records.proofs.Written.{length-records, records-lent}
 use Rattle.plain.specs.Output.{Put}
 
 -- Nothing.
 pub put-none : {rs : List Route} (o : List ℕ) → rs ≡ [] → Put rs 0 o o
-unfolding bytesOf
+unfolding bytesIn
 put-none o e = rw e (record { counted = refl; written = λ fits. sym (laid-none 0 o) })
 
 -- One record.
 pub put-one : {rs : List Route} (r : Route) (o o′ : List ℕ) → rs ≡ r ∷ [] → (8 ≤ length o → o′ ≡ laid 0 (recordOf r) o) → Put rs 1 o o′
-unfolding bytesOf
+unfolding bytesIn
 put-one r o o′ e f = rw e (record { counted = refl; written = λ fits. f (omega arith) })
 
 -- Some routes, and then others on the part of the output from `at` on, as a call is lent it.

@@ -36,7 +36,7 @@ abbrev pub lendsRanks : ℕ → Bool
 lendsRanks first = leb 64 (first % 128)
 
 abbrev pub formBy : ℕ → Form
-formBy first = record { strict = leb 128 first }
+formBy first = record { strict = leb 128 first; long = false }
 
 -- The query's address.
 abbrev pub addressOf : List ℕ → ℕ

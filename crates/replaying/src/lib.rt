@@ -52,6 +52,7 @@ pub fn form_of(first: u8) -> Form
 {
     Form {
         strict: 128 <= first,
+        long: false,
     }
 }
 

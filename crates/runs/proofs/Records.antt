@@ -10,6 +10,7 @@ use Rattle.theory.specs.Results.{part}
 use Rattle.theory.specs.Routes.{Route, Before, Ascending, first}
 use Rattle.records.specs.Wire.{records, routeAt, routesFrom, routes}
 use Rattle.records.proofs.Reading.{from-counted}
+use Rattle.records.specs.Sized.{routesIn}
 use Rattle.runs.specs.Runs.{run}
 use Rattle.theory.proofs.Numbered.{numbered, before-numbered, none-numbered, first-numbered, split-numbered, part-numbered}
 
@@ -20,7 +21,7 @@ module _ (t : List ℕ) where
 
   -- The run of all records is the table's routes.
   pub run-whole : run t 0 (records t) ≡ routes t
-  unfolding routes
+  unfolding routesIn
   run-whole = ap (routesFrom t 0) (sub-zero (records t))
 
   -- A run that ends where it starts is empty, and one that does not has its first record.

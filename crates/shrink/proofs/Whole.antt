@@ -13,6 +13,7 @@ use Rattle.refusals.specs.Rules.{Rule, rule, refuses, judge}
 use Rattle.records.specs.Wire.{records}
 use Rattle.records.specs.Forms.{byDefault}
 use Rattle.table.specs.TableRules.{tableRules}
+use Rattle.table.specs.SizedRules.{tableRulesIn}
 use Rattle.calls.specs.Rewriting.{rewriteRules, replyBy}
 use Rattle.text.specs.Answers.{replyText}
 use Rattle.program.specs.Printed.{printedIn}
@@ -50,14 +51,14 @@ refused-alike hops i j (r ∷ front) n {x} {y} e f rs rs₁ a b = go (r .kept) (
 module _ (mode default room words : ℕ) where
   -- By number 3.
   broken-alike : (s t : List ℕ) → (length s % 8 ≡ 0 → ⊥) → (length t % 8 ≡ 0 → ⊥) → printedIn mode default room words s ≡ printedIn mode default room words t
-  unfolding printedIn replyBy rewriteRules tableRules
+  unfolding printedIn replyBy rewriteRules tableRulesIn
   broken-alike s t e f =
       refused-alike (ltb 1 mode) (records s) (records t) (take 4 (rewriteRules byDefault s mode default [] room words)) 3 (ne-eqb (length s % 8) 0 e) (ne-eqb (length t % 8) 0 f) _ _ _ _
 
   -- By number 4.
   many-alike : (s t : List ℕ) → length s % 8 ≡ 0 → length t % 8 ≡ 0 → 1024 < records s → 1024 < records t
       → printedIn mode default room words s ≡ printedIn mode default room words t
-  unfolding printedIn replyBy rewriteRules tableRules
+  unfolding printedIn replyBy rewriteRules tableRulesIn
   many-alike s t e f m n =
       rw (eq-eqb (length s % 8) 0 e, eq-eqb (length t % 8) 0 f)
       (refused-alike (ltb 1 mode) (records s) (records t) (take 4 (rewriteRules byDefault s mode default [] room words) ++ (rule 3 0 true ∷ [])) 4 (lt-leb (records s) 1024 m) (lt-leb (records t) 1024 n) _ _ _ _)

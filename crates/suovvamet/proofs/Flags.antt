@@ -7,8 +7,8 @@ use lib.Dec.{eqb}
 use Rattle.records.specs.Forms.{byDefault, strictly}
 use Rattle.suovvamet.specs.Numbers.{formBy}
 
-by-bit : (flags bit : ℕ) → flags % 2 ≡ bit → formBy flags ≡ record { strict = not (eqb bit 0) }
-by-bit flags bit e = ap (λ (b : ℕ). record { strict = not (eqb b 0) }) e
+by-bit : (flags bit : ℕ) → flags % 2 ≡ bit → formBy flags ≡ record { strict = not (eqb bit 0); long = false }
+by-bit flags bit e = ap (λ (b : ℕ). record { strict = not (eqb b 0); long = false }) e
 
 -- Whatever the other bits are.
 pub flags-default : (rest : ℕ) → formBy (2 * rest) ≡ byDefault

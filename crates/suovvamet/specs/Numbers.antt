@@ -26,7 +26,7 @@ use Rattle.calls.specs.declared.Covers.the-variants.{Covered, Uncovered, Refuse
 
 -- How a table is read: strictly where the lowest bit of the flags is set. The others are ignored.
 abbrev pub formBy : ℕ → Form
-formBy flags = record { strict = not (eqb (flags % 2) 0) }
+formBy flags = record { strict = not (eqb (flags % 2) 0); long = false }
 
 -- Document 01's number of a refusal, 0 where there is none.
 abbrev pub numberOf : {A : Type 0} → Reply A → ℕ

@@ -34,6 +34,7 @@ fn form_of(flags: u32) -> Form
 {
     Form {
         strict: flags % 2 != 0,
+        long: false,
     }
 }
 

@@ -8,12 +8,13 @@ use native.Mathlib.Omega.{arith}
 use lib.ListN.{length}
 use Rattle.theory.specs.Routes.{Route}
 use Rattle.records.specs.Wire.{records, routeAt, routes, routesFrom}
+use Rattle.records.specs.Sized.{routesFromIn, routesIn}
 use Rattle.text.specs.Text.{Put, lineOf, linesOf}
 use Rattle.text.proofs.Puts.{put-none}
 
 -- The routes of one record more.
 from-more : (t : List ℕ) (i k : ℕ) → routesFrom t i (suc k) ≡ routesFrom t i k ++ (routeAt t (i + k) ∷ [])
-unfolding routesFrom
+unfolding routesFromIn
 from-more t i zero = let e : i + 0 ≡ i = omega arith in rw e
 from-more t i (suc k) =
     let e : suc i + k ≡ i + suc k = omega arith in
@@ -28,7 +29,7 @@ lines-behind hops (q ∷ rs) r =
 
 -- No lines are put yet.
 pub lines-none : (t : List ℕ) (hops : Bool) (at : ℕ) (o : List ℕ) → at ≤ length o → Put (linesOf hops (routesFrom t 0 0)) at at o o
-unfolding routesFrom linesOf
+unfolding routesFromIn linesOf
 lines-none t hops at o fits = put-none at o fits
 
 -- The lines of i records with that of record i are those of i + 1.
@@ -42,5 +43,5 @@ lines-more t hops i =
 
 -- The lines of all records are those of the table's routes.
 pub lines-all : (t : List ℕ) (hops : Bool) (i : ℕ) → i ≡ records t → linesOf hops (routesFrom t 0 i) ≡ linesOf hops (routes t)
-unfolding routes
+unfolding routesIn
 lines-all t hops i e = ap (λ (k : ℕ). linesOf hops (routesFrom t 0 k)) e

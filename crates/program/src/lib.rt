@@ -19,7 +19,10 @@ pub fn answer_in(table: &[u8], mode: u32, default: u32, work: &mut [u32], out: &
     let ranks = [0u16; 0];
     let answered = aggregate::rewrite(
         table,
-        Form { strict: false, long: false },
+        Form {
+            strict: false,
+            long: false,
+        },
         mode,
         default,
         &ranks,

@@ -16,7 +16,14 @@ fn answer(table: &[u8], out: &mut [u8]) -> usize
     ensures { λ r. ⌜ Put (printed (now (table .entry))) 0 r (now (out .entry)) (now (out .exit)) ⌝ }
 {
     let mut output = [0u8; 65536];
-    let answered = holes::unrouted(table, Form { strict: false, long: false }, &mut output);
+    let answered = holes::unrouted(
+        table,
+        Form {
+            strict: false,
+            long: false,
+        },
+        &mut output,
+    );
     put_listed(answered, &output, false, 0, out)
 }
 

@@ -16,7 +16,7 @@ enum-told : tie.Need-enum-told
 enum-told c = search needs
 
 longest-in-requires : tie.Need-longest-in-requires
-longest-in-requires c κs = λ i h. accepted _ false _ _ (sym (c .before .before .check-table .ensures) ∙ ap checkedSays (c .enum-told .given .1)) .each i h .length-kept
+longest-in-requires c κs = λ i h. accepted (c .before .before .before .before .args .form) false _ _ (sym (c .before .before .check-table .ensures) ∙ ap checkedSays (c .enum-told .given .1)) .each i h .length-kept
 
 answer-of-requires : tie.Need-answer-of-requires
 answer-of-requires c κs = search needs

@@ -1,4 +1,4 @@
--- Keys over the width w of an address: the start of a prefix, its host bits and the order of addresses are those of their keys. Assumes nothing.
+-- Keys over the width w of an address: the start of a prefix, its host bits, what it contains and the order of addresses are those of their keys. Assumes nothing.
 use mathlib.Core.Path.{_≡_, refl, sym, ap, _∙_}
 use mathlib.Core.Bool.{Bool, true, false, _||_, _&&_}
 use Prim.Native.Nat.{ℕ, _+_, _-_, _*_, _/_, _%_, _^_, _≤_}
@@ -9,9 +9,9 @@ use lib.Dec.{eqb, ltb}
 use lib.Pow.{pow-pos, pow-add, shl-shr, split}
 use borrow.Author.Tests.{ltb-true, ltb-false, lt-ltb, le-ltb}
 use Rattle.theory.specs.Results.{startOf}
-use Rattle.words.specs.Prefix.{hostClear}
+use Rattle.words.specs.Prefix.{agree, hostClear}
 use Rattle.words.specs.Keys.{keyOf}
-use Rattle.words.proofs.PrefixLaws.{same-test}
+use Rattle.words.proofs.PrefixLaws.{same-test, start-agree}
 
 -- ---- The start of a prefix.
 -- Zeros behind an address stay behind the start of its prefix;
@@ -48,6 +48,14 @@ start-key w n a le = go (decLe n w)
 pub mask-key : (w n a key r : ℕ) → w ≤ 64 → key ≡ keyOf w a → r ≡ startOf (64 - n) key → r ≡ keyOf w (startOf (w - n) a)
 mask-key w n a key r le k e = e ∙ ap (startOf (64 - n)) k ∙ start-key w n a le
 
+-- The first n bits of a key are those of its address.
+pub key-bits : (w n a : ℕ) → w ≤ 64 → n ≤ w → keyOf w a / 2 ^ (64 - n) ≡ a / 2 ^ (w - n)
+key-bits w n a le h =
+    let e : 64 - n ≡ (w - n) + (64 - w) = omega arith in
+    ap (λ (m : ℕ). keyOf w a / 2 ^ m) e
+    ∙ ap (λ (p : ℕ). keyOf w a / p) (pow-add 2 (w - n) (64 - w))
+    ∙ mul-div-mul-right a (2 ^ (w - n)) (pow-pos (64 - w))
+
 -- A key tells its address.
 pub key-same : (w x y : ℕ) → keyOf w x ≡ keyOf w y → x ≡ y
 key-same w x y = eq-of-mul-eq-mul-right (2 ^ (64 - w)) (pow-pos (64 - w)) x y
@@ -63,6 +71,10 @@ host-key w n a =
 -- ---- The order.
 pub key-equal : (w x y : ℕ) → eqb (keyOf w x) (keyOf w y) ≡ eqb x y
 key-equal w x y = same-test (keyOf w x) (keyOf w y) x y (key-same w x y) (ap (keyOf w))
+
+-- Starts of keys' prefixes are equal exactly when the addresses agree so far.
+pub key-agree : (w n x y : ℕ) → eqb (keyOf w (startOf (w - n) x)) (keyOf w (startOf (w - n) y)) ≡ agree w n x y
+key-agree w n x y = key-equal w (startOf (w - n) x) (startOf (w - n) y) ∙ start-agree w n x y
 
 pub key-below : (w x y : ℕ) → ltb (keyOf w x) (keyOf w y) ≡ ltb x y
 key-below w x y = go (ltb x y) refl

@@ -1,8 +1,8 @@
 -- Keys over the width w of an address: the start of a prefix, its host bits, what it contains and the order of addresses are those of their keys. Assumes nothing.
 use mathlib.Core.Path.{_≡_, refl, sym, ap, _∙_}
 use mathlib.Core.Bool.{Bool, true, false, _||_, _&&_}
-use Prim.Native.Nat.{ℕ, _+_, _-_, _*_, _/_, _%_, _^_, _≤_}
-use native.Mathlib.Nat.{mul-assoc, mul-div-mul-right, mul-lt-mul-of-pos-right, mul-le-mul-right, eq-of-mul-eq-mul-right}
+use Prim.Native.Nat.{ℕ, _+_, _-_, _*_, _/_, _%_, _^_, _≤_, _<_}
+use native.Mathlib.Nat.{add-mul, mul-assoc, mul-div-mul-right, mul-lt-mul-of-pos-right, mul-le-mul-right, eq-of-mul-eq-mul-right}
 use native.Mathlib.Decide.{decLe}
 use native.Mathlib.Omega.{arith}
 use lib.Dec.{eqb, ltb}
@@ -56,6 +56,22 @@ key-bits w n a le h =
     ∙ ap (λ (p : ℕ). keyOf w a / p) (pow-add 2 (w - n) (64 - w))
     ∙ mul-div-mul-right a (2 ^ (w - n)) (pow-pos (64 - w))
 
+-- A position that lies among the addresses of w bits lies among the keys.
+pub key-fits : (w n a : ℕ) → w ≤ 64 → n ≤ w → a + 2 ^ (w - n) ≤ 2 ^ w → keyOf w a + 2 ^ (64 - n) ≤ 2 ^ 64
+key-fits w n a le h fits =
+    let e : 64 - n ≡ (w - n) + (64 - w) = omega arith in
+    let size : 2 ^ (64 - n) ≡ 2 ^ (w - n) * 2 ^ (64 - w) = ap (λ (m : ℕ). 2 ^ m) e ∙ pow-add 2 (w - n) (64 - w) in
+    let f : 64 ≡ w + (64 - w) = omega arith in
+    let all : 2 ^ 64 ≡ 2 ^ w * 2 ^ (64 - w) = ap (λ (m : ℕ). 2 ^ m) f ∙ pow-add 2 w (64 - w) in
+    omega (arith, mul-le-mul-right {m = a + 2 ^ (w - n)} {n = 2 ^ w} (2 ^ (64 - w)) fits, add-mul a (2 ^ (w - n)) (2 ^ (64 - w)))
+
+-- A position of length n starts at the key of its address, and its right half at the key of the right half's.
+pub key-half : (w n a : ℕ) → w ≤ 64 → n < w → keyOf w (a + 2 ^ (w - 1 - n)) ≡ keyOf w a + 2 ^ (63 - n)
+key-half w n a le lt =
+    let e : 63 - n ≡ (w - 1 - n) + (64 - w) = omega arith in
+    add-mul a (2 ^ (w - 1 - n)) (2 ^ (64 - w))
+    ∙ ap (λ (p : ℕ). keyOf w a + p) (sym (ap (λ (m : ℕ). 2 ^ m) e ∙ pow-add 2 (w - 1 - n) (64 - w)))
+
 -- A key tells its address.
 pub key-same : (w x y : ℕ) → keyOf w x ≡ keyOf w y → x ≡ y
 key-same w x y = eq-of-mul-eq-mul-right (2 ^ (64 - w)) (pow-pos (64 - w)) x y
@@ -82,6 +98,15 @@ key-below w x y = go (ltb x y) refl
     go : (b : Bool) → ltb x y ≡ b → ltb (keyOf w x) (keyOf w y) ≡ b
     go true e = lt-ltb (keyOf w x) (keyOf w y) (mul-lt-mul-of-pos-right {m = x} {n = y} {k = 2 ^ (64 - w)} (ltb-true x y e) (pow-pos (64 - w)))
     go false e = le-ltb (keyOf w x) (keyOf w y) (mul-le-mul-right {m = y} {n = x} (2 ^ (64 - w)) (ltb-false x y e))
+
+pub key-rises : (w x y : ℕ) → x ≤ y → keyOf w x ≤ keyOf w y
+key-rises w x y = mul-le-mul-right {m = x} {n = y} (2 ^ (64 - w))
+
+pub key-under : (w x y : ℕ) → keyOf w x < keyOf w y → x < y
+key-under w x y h = ltb-true x y (sym (key-below w x y) ∙ lt-ltb (keyOf w x) (keyOf w y) h)
+
+pub key-over : (w x y : ℕ) → keyOf w x ≤ keyOf w y → x ≤ y
+key-over w x y h = ltb-false y x (sym (key-below w y x) ∙ le-ltb (keyOf w y) (keyOf w x) h)
 
 -- Keys stand before one another as their addresses do.
 pub key-before : (w x y l m : ℕ) → (ltb (keyOf w x) (keyOf w y) || (eqb (keyOf w x) (keyOf w y) && ltb l m)) ≡ (ltb x y || (eqb x y && ltb l m))

@@ -76,10 +76,7 @@ fn live_turn(words: usize, commands: &[u8], at: usize, kept: &mut [u8]) -> Turn
     let mut text = [0u8; 524288];
     let end = live_text(commands, words, &mut text);
     send(&text, end);
-    Turn {
-        at: 0,
-        more: true,
-    }
+    Turn { at: 0, more: true }
 }
 
 // The most bytes of output that are lent to a list.
@@ -103,10 +100,7 @@ fn list_turn(first: u8, bytes: usize, table: &[u8], at: usize, kept: &mut [u8]) 
     let mut text = [0u8; 3145764];
     let end = list_text(table, form_of(first), &mut output[..bytes], &mut text);
     send(&text, end);
-    Turn {
-        at: 0,
-        more: true,
-    }
+    Turn { at: 0, more: true }
 }
 
 // Keeps the answer of a case with call 0 to 3, with a work room that holds what it asks for.

@@ -1,13 +1,13 @@
 // The cases of call 6, the chip loader: the text of the answer is kept. The image is filled before the call and looked at after it: by the call's
 // statement no line about it is ever kept.
 
+use chip::Loaded;
 use kept::FILLED_BYTE;
 use kept::counted::put_counted;
 use kept::form_of;
 use kept::join2;
 use kept::keep_line;
 use kept::room_for;
-use chip::Loaded;
 use records::Form;
 use text::put_records;
 use text::put_refused;

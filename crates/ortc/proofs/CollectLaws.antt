@@ -64,7 +64,7 @@ pub collecting-start : {size : ℕ} {t : List ℕ} {lo hi depth key : ℕ} (f : 
     → 160 * nodesBelow (nodesDeep depth) key (run size t lo hi) ≤ top → length slots ≡ 63
     → ((i : ℕ) → i < 32 → ShowsSet (getD slots (31 + i) 0) (leafAt covering fill i))
     → Collecting f covering fill depth key (run size t lo hi) 32 top top slots o o
-collecting-start {t} {lo} {hi} {depth} {key} f covering fill top slots o n room e leaves =
+collecting-start {size} {t} {lo} {hi} {depth} {key} f covering fill top slots o n room e leaves =
     record {
       count = e;
       ahead = leaves;
@@ -181,7 +181,7 @@ pub collecting-end : {size : ℕ} {t : List ℕ} {lo hi depth key : ℕ} {f : �
     → Collecting f covering fill depth key (run size t lo hi) 0 top at slots o o₁ → top ≤ length o
     → ShowsNode f (slotSize depth) key xs → Pushed (packed xs) at r o₁ o₂
     → ShowsSet (getD xs 0 0) (sets f (wide - depth) key) × Laid (setWords f) (nodesDeep depth) key (run size t lo hi) top r o o₂
-collecting-end {t} {lo} {hi} {depth} {key} {f} {xs = xs} n h within shows pushed =
+collecting-end {size} {t} {lo} {hi} {depth} {key} {f} {xs = xs} n h within shows pushed =
     let bits-below : wide - depth ≡ slotSize depth + 5 = omega (arith, n .at .deep) in
     let w = laid-own 160 _ _ (slotSize depth) key (run size t lo hi) (setWords f) (h .laid) within (xs, shows, refl) pushed in (
       rw bits-below (node-set shows),

@@ -29,7 +29,7 @@ use Rattle.consistent.proofs.+aggregate_consistent_map.{statement}
 use Rattle.consistent.proofs.+aggregate_consistent_map.Tie.{close}
 
 abbrev μ-depth : Measures 2 kinds.ps ℕ
-μ-depth κs a = reach - a .1 .1 .1 .0
+μ-depth κs a = reach (a .1 .0) - a .1 .1 .1 .1 .0
 
 abbrev at : ℕ → In 2 kinds.ps
 at t = and 2 kinds.ps (is 2 kinds.ps μ-depth t) reads.Pre

@@ -20,7 +20,7 @@ returns : tie.Need-returns
 returns c =
     let a = c .before .before .args in
     let sure = holes-sure (c .before .before .pre .0) in
-    sym (le-leb (length (holesAt (a .table .now) 0 (a .records) 0 0)) (a .room) (omega arith))
+    sym (le-leb (length (holesAt (a .size) (a .table .now) 0 (a .records) 0 0)) (a .room) (omega arith))
 
 count-requires : tie.Need-count-requires
 count-requires c κs = search needs

@@ -14,7 +14,7 @@ use Rattle.theory.specs.Shapes.{routed}
 use Rattle.theory.proofs.Blocks.{pow-pos}
 use Rattle.positions.specs.Runs.{isAt, inside, Run, headHop, own}
 use Rattle.positions.proofs.Runs.{AtMostOne, at-most-one, run-one, run-splits, Half, half-run}
-use Rattle.records.specs.Sized.{widthIn}
+use Rattle.records.specs.Sized.{IsSize, widthIn}
 use Rattle.records.proofs.SizedReading.{width-most, in-length-from}
 use Rattle.runs.specs.Runs.{run}
 use Rattle.holes.specs.Holes.{addressIn, holesIn, holesAt}
@@ -131,3 +131,8 @@ holes-sure {size} {t} {n} p =
     let bits : widthIn size - 0 - 11 ≡ widthIn size - 11 = omega arith in
     let most = holes-most (widthIn size) 10 (widthIn size - 0) (addressIn size 0) (run size t 0 n) (p .at .lies) in
     omega (arith, rw (k, bits) at most, mul-comm n (widthIn size - 11))
+
+-- That is a number of the output's range.
+pub sure-small : {size n : ℕ} → IsSize size → n ≤ 1024 → (widthIn size - 11) * n + 1024 ≤ 55296
+sure-small (inl e) le = rw e (omega arith)
+sure-small (inr e) le = rw e (omega arith)

@@ -11,7 +11,7 @@ use borrow.Fn.PlainCycle.{Measures, is, falls, and}
 use Rattle.records.specs.Sized.{widthIn, route}
 use Rattle.holes.specs.Holes.{addressIn, holesAt}
 use Rattle.holes.specs.Kinds.{Halves, KindOf}
-use Rattle.holes.proofs.Output.{hole-laid, hole-room, none-laid, halves-size, left-size, left-room, halves-laid}
+use Rattle.holes.proofs.Output.{hole-laid, hole-room, none-laid, halves-size, left-size, left-room, both-few, halves-laid}
 use Rattle.holes.proofs.Positions.{half-short, halves-count}
 use Rattle.holes.proofs.list.Reads as list
 use Rattle.holes.proofs.list.Kinds as list-kinds
@@ -76,7 +76,7 @@ enum-known-right : (t : ℕ) → lts.Need-enum-known-right (claims t) (entered t
 enum-known-right t c = search needs
 
 add-list : (t : ℕ) → lts.Need-add-list (claims t) (entered t) list.Post
-add-list t c = let short = half-short (halves t (c .before)) in search needs
+add-list t c = let short = half-short (halves t c) in search needs
 
 list-requires : (t : ℕ) → lts.Need-list-requires (claims t) (entered t) list.Post
 list-requires t c κs =
@@ -111,7 +111,10 @@ list-requires-2 t c κs =
 
 add-result : (t : ℕ) → lts.Need-add-result (claims t) (entered t) list.Post
 add-result t c =
-    let fits = room t (c .before .before .before .before .before .before) in
+    let left = c .before .before .before .before .before .before in
+    let start = left .before .before .before .before .before .before .before .before in
+    let few =
+    both-few (halves t (left .before .before)) (start .args .out .now) (start .pre .1 .1) (left .list .ensures .0) (left .list .ensures .1) in
     let more = c .before .before .list2 .ensures .0 in
     search needs
 

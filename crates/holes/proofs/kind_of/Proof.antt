@@ -7,7 +7,7 @@ returns : tie.Need-returns
 returns c = empty-hole (c .before .before .pre) (c .if1 .taken)
 
 past-own-requires : tie.Need-past-own-requires
-past-own-requires c κs = let p = c .before .before .before .pre in (p .sized, p .at .high)
+past-own-requires c κs = let p = c .before .before .pre in (p .sized, p .at .high)
 
 returns-2 : tie.Need-returns-2
 returns-2 c = own-routed (c .before .before .before .before .pre) (c .before .past-own .ensures) (c .if2 .taken)

@@ -7,9 +7,11 @@ use mathlib.Core.Bool.{Bool, true, false}
 use mathlib.Core.List.{List, [], _∷_, _++_}
 use mathlib.Core.Logic.{_⊎_, inl, inr, _↔_}
 use native.Mathlib.Decide.{decLe}
+use native.Mathlib.Nat.{mod-lt}
 use native.Mathlib.Omega.{arith}
 use lib.Dec.{leb}
 use lib.ListN.{length, take, drop, length-append, length-drop}
+use lib.Pow.{pow-pos}
 use lib.Seq.{take-at, drop-at}
 use borrow.Author.Tests.{leb-false, lt-leb}
 use Rattle.theory.specs.Routes.{Route, held, miss, lookup, All, Table, Member}
@@ -166,15 +168,15 @@ module _ (form : Form) (t o : List ℕ) (r : Listed) (o′ : List ℕ) (ok : Lis
     -- The list's records stand at the output's start, and behind them the output is as it was.
     pub unrouted-written : take (sizeOf form * count) o′ ≡ bytesIn (sizeOf form) (holesOf (sizeOf form) t)
     unrouted-written =
-        let bytes = in-length-bytes (sizeOf form) (form-size form) (holesOf (sizeOf form) t) in
+        let bytes = in-length-bytes (sizeOf form) (form-size form) (holesOf (sizeOf form) t) ∙ ap (λ (n : ℕ). sizeOf form * n) counted in
         ap (take (sizeOf form * count)) whole-output
-        ∙ take-at (bytesIn (sizeOf form) (holesOf (sizeOf form) t)) (drop (sizeOf form * length (holesOf (sizeOf form) t)) o) (sizeOf form * count) (omega (arith, counted))
+        ∙ take-at (bytesIn (sizeOf form) (holesOf (sizeOf form) t)) (drop (sizeOf form * length (holesOf (sizeOf form) t)) o) (sizeOf form * count) bytes
 
     pub unrouted-rest : drop (sizeOf form * count) o′ ≡ drop (sizeOf form * count) o
     unrouted-rest =
-        let bytes = in-length-bytes (sizeOf form) (form-size form) (holesOf (sizeOf form) t) in
+        let bytes = in-length-bytes (sizeOf form) (form-size form) (holesOf (sizeOf form) t) ∙ ap (λ (n : ℕ). sizeOf form * n) counted in
         ap (drop (sizeOf form * count)) whole-output
-        ∙ drop-at (bytesIn (sizeOf form) (holesOf (sizeOf form) t)) (drop (sizeOf form * length (holesOf (sizeOf form) t)) o) (sizeOf form * count) (omega (arith, counted))
+        ∙ drop-at (bytesIn (sizeOf form) (holesOf (sizeOf form) t)) (drop (sizeOf form * length (holesOf (sizeOf form) t)) o) (sizeOf form * count) bytes
         ∙ ap (λ (n : ℕ). drop (sizeOf form * n) o) counted
 
     -- Read back they are the list.

@@ -4,7 +4,7 @@ use mathlib.Core.Path.{_≡_, refl, sym, ap, subst, _∙_}
 use mathlib.Core.Bool.{Bool, true, false}
 use mathlib.Core.List.{List, [], _∷_, _++_}
 use mathlib.Core.Logic.{inl, inr}
-use native.Mathlib.Nat.{zero-div, zero-mul}
+use native.Mathlib.Nat.{sub-zero, zero-div, zero-mul}
 use native.Mathlib.Omega.{arith}
 use lib.Dec.{leb}
 use lib.ListN.{length}
@@ -86,7 +86,7 @@ module _ (size : ℕ) (is : IsSize size) (strict : Bool) (t : List ℕ) {n : ℕ
   -- so its holes are those of its run.
   pub whole-holes : holesAt size t 0 n 0 0 ≡ holesOf size t
   whole-holes =
-      rw (sym all-records, zero-address size) (ap (λ (u : List Route). holesIn (widthIn size) u (widthIn size) 0) (run-whole size t))
+      rw (sym all-records, zero-address size, sub-zero (widthIn size)) (ap (λ (u : List Route). holesIn (widthIn size) u (widthIn size) 0) (run-whole size t))
 
   -- It is accepted: what the walk asks.
   module _ (bytes : Bytes t) where
@@ -97,7 +97,7 @@ module _ (size : ℕ) (is : IsSize size) (strict : Bool) (t : List ℕ) {n : ℕ
           short = omega arith;
           exact = sym (rw (zero-address size) (zero-mul (2 ^ (64 - widthIn size))));
           at =
-              rw (zero-address size) (subst (λ (k : ℕ). RunAt size (widthIn size) t 0 k (widthIn size) 0) all-records
+              rw (zero-address size, sub-zero (widthIn size)) (subst (λ (k : ℕ). RunAt size (widthIn size) t 0 k (widthIn size) 0) all-records
               (whole-run size (widthIn size) (in-accepted-table size is strict false t bytes (recordsIn size t) n valid .0 .table)));
         }
 

@@ -4,6 +4,7 @@ use Prim.Native.Nat.{ℕ, _*_, _^_, _≤_, _<_}
 use mathlib.Core.Path.{_≡_, refl, sym, ap, ap₂, subst, _∙_}
 use mathlib.Core.Bool.{true, false}
 use mathlib.Core.List.{List, [], _∷_}
+use native.Mathlib.Nat.{mul-zero}
 use native.Mathlib.Omega.{arith}
 use lib.Dec.{leb}
 use lib.IntN.{ℤ}
@@ -110,7 +111,7 @@ module _ (form : Form) (rules : List Rule) (t : List ℕ) (bytes : Bytes t) (d :
         → (q ≡ Listing 0) × (q′ ≡ p)
     fill-listed accepted p q q′ l =
         let size : length (holesOf (sizeOf form) (take (sizeOf form * count) o′)) ≡ 0 = ap length fill-holes in
-        let e = unrouted-listed form (take (sizeOf form * count) o′) p q q′ l 0 .1 (accepted, omega arith, size) in
+        let e = unrouted-listed form (take (sizeOf form * count) o′) p q q′ l 0 .1 (accepted, omega (arith, ap (λ (n : ℕ). sizeOf form * n) size, mul-zero (sizeOf form)), size) in
         (e, unrouted-rest form (take (sizeOf form * count) o′) p q q′ l 0 e)
 
 -- ---- The same of the engine over nodes.

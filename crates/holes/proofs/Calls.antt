@@ -1,9 +1,9 @@
 -- What the call's statement settles: no second answer satisfies it, each case of an answer stands for exactly these facts, and what is written is the
 -- list. The answer of a call is any r, and the output o′, of which the call's `ensures` holds. Assumes nothing.
 use Prim.{tt}
-use Prim.Native.Nat.{ℕ, _+_, _-_, _*_, _%_, _^_, _≤_, _<_}
+use Prim.Native.Nat.{ℕ, _+_, _-_, _*_, _%_, _^_, _≤_}
 use mathlib.Core.Path.{_≡_, refl, sym, ap, subst, _∙_}
-use mathlib.Core.Bool.{Bool, true, false}
+use mathlib.Core.Bool.{true, false}
 use mathlib.Core.List.{List, [], _∷_, _++_}
 use mathlib.Core.Logic.{_⊎_, inl, inr, _↔_}
 use native.Mathlib.Decide.{decLe}
@@ -14,11 +14,11 @@ use lib.ListN.{length, take, drop, length-append, length-drop}
 use lib.Pow.{pow-pos}
 use lib.Seq.{take-at, drop-at}
 use borrow.Author.Tests.{leb-false, lt-leb}
-use Rattle.theory.specs.Routes.{Route, held, miss, lookup, All, Table, Member}
+use Rattle.theory.specs.Routes.{Route, held, All, Table, Member}
 use Rattle.theory.proofs.Routed.{Bare}
 use Rattle.refusals.specs.Rules.{Rule, rule, Reply, gives, refuses, judge}
 use Rattle.refusals.specs.Order.{rank, First, None}
-use Rattle.refusals.proofs.Answered.{unique, given-exactly, refused-exactly}
+use Rattle.refusals.proofs.Answered.{given-exactly, refused-exactly}
 use Rattle.refusals.proofs.Judged.{Broken, gives-any, refuses-any}
 use Rattle.refusals.proofs.Ranked.{broken-left, broken-right, sound-each, sound-append, singles, ranked-append, Ranked}
 use Rattle.records.specs.Sized.{widthIn, recordsIn, routesIn, bytesIn, Bytes}
@@ -26,7 +26,7 @@ use Rattle.records.specs.declared.Form.{Form}
 use Rattle.records.specs.Forms.{sizeOf}
 use Rattle.records.proofs.SizedReading.{form-size}
 use Rattle.records.proofs.SizedWritten.{in-length-bytes, in-routes-bytes}
-use Rattle.table.specs.Conditions.{FormCondition, AcceptedBy}
+use Rattle.table.specs.Conditions.{AcceptedBy}
 use Rattle.table.specs.TableRules.{formRules}
 use Rattle.table.proofs.SizedAccepted.{in-accepted-exactly, in-not-refused}
 use Rattle.table.proofs.SizedTested.{in-table-tests, in-table-ranked, in-table-numbers}
@@ -191,7 +191,7 @@ module _ (form : Form) (t o : List ℕ) (r : Listed) (o′ : List ℕ) (ok : Lis
         let y = x % 2 ^ widthIn (sizeOf form) in
         let none = lookup-none-exactly form t x a said in
         let hold = holes-hold (widthIn (sizeOf form)) (routesIn (sizeOf form) t) y (mod-lt x (pow-pos (widthIn (sizeOf form)))) in
-        let miss-is = miss-held (sizeOf form) t y in
+        let miss-is = miss-held (widthIn (sizeOf form)) (routesIn (sizeOf form) t) y in
         let read : held (widthIn (sizeOf form)) (routesIn (sizeOf form) (take (sizeOf form * count) o′)) y ≡ held (widthIn (sizeOf form)) (holesOf (sizeOf form) t) y =
         ap (λ (u : List Route). held (widthIn (sizeOf form)) u y) unrouted-reads in (
           λ h. none .1 (unrouted-listed count .0 answered .0, miss-is .0 (hold .0 (sym read ∙ h))),

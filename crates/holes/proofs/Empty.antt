@@ -10,7 +10,7 @@ use lib.ListN.{length, take}
 use Rattle.theory.specs.Routes.{Route}
 use Rattle.refusals.specs.Order.{Earlier}
 use Rattle.refusals.proofs.Judged.{earlier-not}
-use Rattle.records.specs.Sized.{IsSize, widthIn, recordsIn, route, routesFromIn, routesIn, bytesIn}
+use Rattle.records.specs.Sized.{IsSize, widthIn, route, routesFromIn, routesIn, bytesIn}
 use Rattle.records.specs.declared.Form.{Form}
 use Rattle.records.specs.Forms.{sizeOf}
 use Rattle.records.proofs.SizedReading.{form-size}

@@ -1,19 +1,18 @@
 -- How many holes there can be: by the number of routes and the bits of the position. 1,024 routes leave at most 22,528 of 32 bits, 55,296 of 64. Over the
 -- width. Assumes nothing.
 use Prim.Native.Nat.{ℕ, zero, suc, _+_, _-_, _*_, _^_, _≤_, _<_}
-use mathlib.Core.Path.{_≡_, refl, sym, ap, ap₂, _∙_}
-use mathlib.Core.Bool.{Bool, true}
+use mathlib.Core.Path.{_≡_, refl, sym, ap, _∙_}
 use mathlib.Core.List.{List, [], _∷_, _++_}
-use mathlib.Core.Logic.{_⊎_, inl, inr}
+use mathlib.Core.Logic.{inl, inr}
 use native.Mathlib.Nat.{pow-suc, mul-comm, mul-le-mul-left, sub-zero}
 use native.Mathlib.Omega.{arith}
 use lib.ListN.{length, length-append}
 use Rattle.theory.specs.Results.{part}
-use Rattle.theory.specs.Routes.{Route, Answer, none, via, Table, head}
+use Rattle.theory.specs.Routes.{Route, via, head}
 use Rattle.theory.specs.Shapes.{routed}
 use Rattle.theory.proofs.Blocks.{pow-pos}
 use Rattle.positions.specs.Runs.{isAt, inside, Run, headHop, own}
-use Rattle.positions.proofs.Runs.{AtMostOne, at-most-one, run-one, run-splits, Half, half-run}
+use Rattle.positions.proofs.Runs.{AtMostOne, at-most-one, run-one, run-splits, half-run}
 use Rattle.records.specs.Sized.{IsSize, widthIn}
 use Rattle.records.proofs.SizedReading.{width-most, in-length-from}
 use Rattle.runs.specs.Runs.{run}

@@ -1,7 +1,7 @@
 -- The list of what a rewrite has written, by any engine whose rules are guarded and by the one over nodes: mode 4's is that of its input, byte for byte, and
 -- mode 5's is empty. Assumes of a table that its elements are bytes.
-use Prim.Native.Nat.{ℕ, _*_, _^_, _≤_, _<_}
-use mathlib.Core.Path.{_≡_, refl, sym, ap, ap₂, subst, _∙_}
+use Prim.Native.Nat.{ℕ, _*_, _≤_}
+use mathlib.Core.Path.{_≡_, refl, sym, ap, _∙_}
 use mathlib.Core.Bool.{true, false}
 use mathlib.Core.List.{List, [], _∷_}
 use native.Mathlib.Nat.{mul-zero}
@@ -9,14 +9,13 @@ use native.Mathlib.Omega.{arith}
 use lib.Dec.{leb}
 use lib.IntN.{ℤ}
 use lib.ListN.{length, take}
-use Rattle.theory.specs.Routes.{Route, held, Answer, none, via, answer, orDefault}
-use Rattle.theory.specs.Results.{In}
+use Rattle.theory.specs.Routes.{Route, Answer, none, via, answer, orDefault}
 use Rattle.theory.specs.Ranks.{lowest}
 use Rattle.theory.specs.Shapes.{routed}
 use Rattle.theory.proofs.Ranks.{lowest-chooses}
 use Rattle.theory.proofs.Lengths.{result-length}
 use Rattle.theory.proofs.Routed.{held-answer}
-use Rattle.refusals.specs.Rules.{Rule, rule, Reply, judge}
+use Rattle.refusals.specs.Rules.{Rule, rule, judge}
 use Rattle.refusals.proofs.Judged.{all-next}
 use Rattle.records.specs.Sized.{widthIn, recordsIn, routesIn, Bytes}
 use Rattle.records.specs.declared.Form.{Form}
@@ -112,7 +111,7 @@ module _ (form : Form) (rules : List Rule) (t : List ℕ) (bytes : Bytes t) (d :
     fill-listed accepted p q q′ l =
         let size : length (holesOf (sizeOf form) (take (sizeOf form * count) o′)) ≡ 0 = ap length fill-holes in
         let e = unrouted-listed form (take (sizeOf form * count) o′) p q q′ l 0 .1 (accepted, omega (arith, ap (λ (n : ℕ). sizeOf form * n) size, mul-zero (sizeOf form)), size) in
-        (e, unrouted-rest form (take (sizeOf form * count) o′) p q q′ l 0 e)
+        (e, rw (mul-zero (sizeOf form)) at (unrouted-rest form (take (sizeOf form * count) o′) p q q′ l 0 e))
 
 -- ---- The same of the engine over nodes.
 module _ (form : Form) (t : List ℕ) (bytes : Bytes t) (d : ℕ) (ranks o : List ℕ) (words count : ℕ) (change : ℤ) (o′ w′ : List ℕ) where

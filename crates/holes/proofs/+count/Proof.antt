@@ -1,13 +1,12 @@
 -- `holes::count`, which calls itself on the halves of a position, meets its contract, by falling bits below the position. Assumes nothing.
-use Prim.Native.Nat.{ℕ, _+_, _-_, _*_, _<_}
-use mathlib.Core.Path.{_≡_, sym, ap, ap₂, subst, _∙_}
+use Prim.Native.Nat.{ℕ, _+_, _-_, _<_}
+use mathlib.Core.Path.{sym, ap, ap₂, subst, _∙_}
 use native.Mathlib.Omega.{arith}
-use lib.ListN.{length, length-append}
+use lib.ListN.{length}
 use borrow.Author.Needs.{needs}
 use borrow.Fn.Kinds.{In}
 use borrow.Fn.PlainCycle.{Measures, is, falls, and}
 use Rattle.records.specs.Sized.{widthIn}
-use Rattle.holes.specs.Holes.{holesAt}
 use Rattle.holes.specs.Kinds.{Halves, KindOf}
 use Rattle.holes.proofs.Most.{holes-few}
 use Rattle.holes.proofs.Positions.{half-short, halves-count}

@@ -16,7 +16,8 @@ use Rattle.holes.specs.Kinds.{Halves}
 use Rattle.holes.proofs.Positions.{halves-count}
 
 -- The one record of a hole,
-pub hole-laid : (size : ℕ) {rs : List Route} (r : Route) (o o′ : List ℕ) → rs ≡ r ∷ [] → o′ ≡ laid (size * 0) (recordIn size r) o → o′ ≡ laid 0 (bytesIn size rs) o
+pub hole-laid : (size : ℕ) {rs : List Route} (r : Route) (o o′ : List ℕ) → rs ≡ r ∷ [] → o′ ≡ laid (size * 0) (recordIn size r) o
+    → o′ ≡ laid 0 (bytesIn size rs) o
 unfolding bytesIn
 hole-laid size r o o′ e f = rw e (rw (mul-zero size) at f ∙ ap (λ (l : List ℕ). laid 0 l o) (sym (append-nil (recordIn size r))))
 

@@ -61,7 +61,8 @@ times : (size n room : ℕ) → IsSize size → (n ≤ room / size → size * n 
 times size n room (inl e) = rw e (λ h. omega arith, λ h. omega arith)
 times size n room (inr e) = rw e (λ h. omega arith, λ h. omega arith)
 
-module _ (size : ℕ) (is : IsSize size) (t : List ℕ) (n : ℕ) (o : List ℕ) {b : Bool} (asked : b ≡ leb (length (holesAt size t 0 n 0 0)) (length o / size)) where
+module _ (size : ℕ) (is : IsSize size) (t : List ℕ) (n : ℕ) (o : List ℕ) {b : Bool}
+    (asked : b ≡ leb (length (holesAt size t 0 n 0 0)) (length o / size)) where
   pub room-enough : b ≡ true → size * length (holesAt size t 0 n 0 0) ≤ length o
   room-enough e =
       times size (length (holesAt size t 0 n 0 0)) (length o) is .0
@@ -131,8 +132,8 @@ module _ (form : Form) (t : List ℕ) {size : ℕ} (sized : size ≡ sizeOf form
     whole = whole-holes size is (form .strict) t valid
 
     -- The list fits the output, and is written.
-    pub lists-given : (o : List ℕ) {o′ : List ℕ} {count : ℕ} → size * length (holesAt size t 0 n 0 0) ≤ length o → count ≡ length (holesAt size t 0 n 0 0)
-        → o′ ≡ laid 0 (bytesIn size (holesAt size t 0 n 0 0)) o → Lists form t o (Records count) o′
+    pub lists-given : (o : List ℕ) {o′ : List ℕ} {count : ℕ} → size * length (holesAt size t 0 n 0 0) ≤ length o
+        → count ≡ length (holesAt size t 0 n 0 0) → o′ ≡ laid 0 (bytesIn size (holesAt size t 0 n 0 0)) o → Lists form t o (Records count) o′
     lists-given o fits counted wrote =
         let le : size * length (holesOf size t) ≤ length o = rw whole at fits in
         lists-in (ap gives (counted ∙ ap length whole) ∙ sym (given-reply size (form .strict) t (length o) (length (holesOf size t)) valid le))

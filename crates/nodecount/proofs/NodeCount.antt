@@ -4,7 +4,7 @@ use mathlib.Core.Path.{_≡_, refl, sym, ap, ap₂, _∙_}
 use mathlib.Core.Bool.{Bool, true, false, cond, _||_, _&&_, and-eq-true-iff}
 use mathlib.Core.List.{List, [], _∷_}
 use mathlib.Core.Logic.{inl, inr}
-use native.Mathlib.Nat.{le-refl, le-antisymm, div-mul-le-self, lt-of-mul-lt-mul-right, mul-suc}
+use native.Mathlib.Nat.{le-refl, le-antisymm, div-mul-le-self, lt-of-mul-lt-mul-right, mul-le-mul-left, mul-suc}
 use lib.ListN.{length}
 use lib.Pow.{pow-mono, shr-mono, shr-lt, shl-shr}
 use native.Mathlib.Decide.{decLt}
@@ -240,39 +240,42 @@ start-most w p (cons {r = r} {t = t} u us) (first d ds) =
 pub nodes-bound : (w : ℕ) {t : List Route} → Table w t → nodes w t ≤ 33 + (w / 5 - 1) * length t
 nodes-bound w t = omega (arith, nodes-pass w t, start-most w root (t .valid) (t .order))
 
--- The most nodes of a table on the wire.
-pub nodes-most : {t : List Route} → Table 32 t → length t ≤ 1024 → nodes 32 t ≤ 5153
-nodes-most t le = omega (arith, nodes-bound 32 t)
+-- The most nodes of a table on the wire: 5,153 at 32 bits, 11,297 at 64.
+pub nodes-most : (w : ℕ) {t : List Route} → Table w t → length t ≤ 1024 → nodes w t ≤ 33 + (w / 5 - 1) * 1024
+nodes-most w {t} table le = omega (arith, nodes-bound w table, mul-le-mul-left {m = length t} {n = 1024} (w / 5 - 1) le)
 
--- ---- Examples at 32 bits, and a table that has the most nodes.
+-- ---- Examples, and a table that has the most nodes.
 
 -- A prefix by its first two octets and its length.
 abbrev at : ℕ → ℕ → ℕ → Route
 at a b n = record { addr = a * 2 ^ 24 + b * 2 ^ 16; len = n; hop = 0 }
 
--- Tables with their numbers of nodes: empty, one /4, one /5, one /32, two /9 that share depth 5, a /16 that shares it with its /8.
+-- Tables of a width with their numbers of nodes: empty, one /4, one /5, one /32, two /9 that share depth 5, a /16 that shares it with its /8; at 64 bits
+-- 2001:db8::/64, which has one at each depth down to 60.
 pub record NodeCase : Type 0 where
+  pub width : ℕ
   pub table : List Route
   pub count : ℕ
 
 abbrev pub nodeCases : List NodeCase
 nodeCases =
-    record { table = []; count = 1 }
-    ∷ record { table = at 160 0 4 ∷ []; count = 1 }
-    ∷ record { table = at 160 0 5 ∷ []; count = 2 }
-    ∷ record { table = at 160 1 32 ∷ []; count = 7 }
-    ∷ record { table = at 10 0 9 ∷ at 10 128 9 ∷ []; count = 2 }
-    ∷ record { table = at 10 0 8 ∷ at 10 1 16 ∷ []; count = 4 }
+    record { width = 32; table = []; count = 1 }
+    ∷ record { width = 32; table = at 160 0 4 ∷ []; count = 1 }
+    ∷ record { width = 32; table = at 160 0 5 ∷ []; count = 2 }
+    ∷ record { width = 32; table = at 160 1 32 ∷ []; count = 7 }
+    ∷ record { width = 32; table = at 10 0 9 ∷ at 10 128 9 ∷ []; count = 2 }
+    ∷ record { width = 32; table = at 10 0 8 ∷ at 10 1 16 ∷ []; count = 4 }
+    ∷ record { width = 64; table = record { addr = (8193 * 2 ^ 16 + 3512) * 2 ^ 32; len = 64; hop = 0 } ∷ []; count = 13 }
     ∷ []
 
 abbrev pub Counted : List NodeCase → Type 0
 Counted [] = Unit {0}
-Counted (c ∷ cs) = (nodes 32 (c .table) ≡ c .count) × Counted cs
+Counted (c ∷ cs) = (nodes (c .width) (c .table) ≡ c .count) × Counted cs
 
 -- Each table of the cases has its number of nodes.
 pub nodes-examples : Counted nodeCases
 unfolding nodes brought fresh
-nodes-examples = (refl, (refl, (refl, (refl, (refl, (refl, tt))))))
+nodes-examples = (refl, (refl, (refl, (refl, (refl, (refl, (refl, tt)))))))
 
 -- The first address of the i-th block of ten bits, as a record of length 32; and n such records from the i-th on.
 abbrev pub host : ℕ → Route

@@ -1,0 +1,61 @@
+-- `cases::listed_turn` meets its contract: as many bytes are lent as are asked for. Assumes nothing.
+use Prim.Native.Nat.{_≤_}
+use mathlib.Core.Path.{_≡_, ap}
+use native.Mathlib.Omega.{arith}
+use lib.ListN.{length, take, length-take}
+use borrow.Author.Needs.{needs}
+use Rattle.text.proofs.Puts.{put-as}
+use Rattle.replaying.specs.Answers.{listAnswer}
+use Rattle.replaying.proofs.listed_turn.Statement.{statement}
+use Rattle.replaying.proofs.listed_turn.Tie as tie
+
+slice-aggregate-last-line : tie.Need-slice-aggregate-last-line
+slice-aggregate-last-line c = search needs
+
+last-line-requires : tie.Need-last-line-requires
+last-line-requires c κs = search needs
+
+same-length : tie.Need-same-length
+same-length c = search needs
+
+returns : tie.Need-returns
+returns c = (λ h. absurd (omega arith), search needs)
+
+slice-relend-prefix-keep-listed : tie.Need-slice-relend-prefix-keep-listed
+slice-relend-prefix-keep-listed c = search needs
+
+slice-aggregate-keep-listed : tie.Need-slice-aggregate-keep-listed
+slice-aggregate-keep-listed c = simp length-take (omega arith)
+
+keep-listed-requires : tie.Need-keep-listed-requires
+keep-listed-requires c κs =
+    let pre = c .before .before .before .before .before .before .pre in
+    (simp length-take (omega (arith, pre .0)), pre .1)
+
+same-length-2 : tie.Need-same-length-2
+same-length-2 c = search needs
+
+same-length-3 : tie.Need-same-length-3
+same-length-3 c = search needs
+
+returns-2 : tie.Need-returns-2
+returns-2 c =
+    let s = c .before .before .before .before .before .before .before .before .before .before .before .args in
+    let enough : s .asked ≤ length (s .output .now) = omega arith in
+    let lent : length (take (s .asked) (s .output .now)) ≡ s .asked = simp length-take (omega arith) in
+    (λ h. put-as (ap (listAnswer (s .form) (s .table .now)) lent) (c .before .before .before .before .keep-listed .ensures), search needs)
+
+pub listed-turn-spec : {M : Type 1} → statement M
+listed-turn-spec =
+    tie.close
+    (tie.spec
+    slice-aggregate-last-line
+    last-line-requires
+    same-length
+    returns
+    slice-relend-prefix-keep-listed
+    slice-aggregate-keep-listed
+    keep-listed-requires
+    same-length-2
+    same-length-3
+    returns-2)

@@ -47,11 +47,7 @@ rewriteRules form t mode default ranks room words =
     ∷ rule 2 0 (not (eqb mode 5) || leb default 63)
     ∷ rule 15 0 (not (leb 4 mode) || isRanking 64 ranks)
     ∷ formRules form (takesSet mode) t
-    ++ (
-    rule 10 0 (leb (160 * nodes (widthIn (sizeOf form)) (routesIn (sizeOf form) t)) words)
-    ∷ rule 11 0 (leb (sizeOf form * length (resultOf (sizeOf form) t mode default ranks)) room)
-    ∷ []
-    )
+    ++ (rule 10 0 (leb (160 * nodes (widthIn (sizeOf form)) (routesIn (sizeOf form) t)) words) ∷ rule 11 0 (leb (sizeOf form * length (resultOf (sizeOf form) t mode default ranks)) room) ∷ [])
 
 -- What a rewrite gives: the number of records, and the change, records out minus records in.
 pub record Written : Type 0 where

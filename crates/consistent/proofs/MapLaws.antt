@@ -11,8 +11,7 @@ use lib.ListN.{length, getD}
 use lib.Pow.{pow-pos}
 use borrow.Author.Tests.{lt-ltb, le-ltb, eq-eqb, ne-eqb}
 use Rattle.theory.specs.Routes.{Route, Answer, none, via}
-use Rattle.records.specs.Wire.{routeAt}
-use Rattle.records.specs.Sized.{route}
+use Rattle.records.specs.Sized.{routeIn, route}
 use Rattle.words.specs.Bits.{bit, NextBit}
 use Rattle.words.specs.Positions.{position}
 use Rattle.words.proofs.BitLaws.{if-lt, if-eq}
@@ -90,8 +89,8 @@ entry-is size t from upto hop over place bits-below len o long own covers = go (
     go : Dec (from < upto)
         → cond (isEntry from upto hop over) (route place len hop ∷ []) [] ≡ entryUnless wide bits-below place o (hopOf over)
     go (yes has) =
-        let e : o ≡ via (routeAt t from .hop) = own ∙ ap headHop (run-first size t from upto has) in
-        let z = hop-via hop (routeAt t from .hop) (covers ∙ ap (λ (a : Answer). orElse a (hopOf over)) e) in
+        let e : o ≡ via (routeIn size t from .hop) = own ∙ ap headHop (run-first size t from upto has) in
+        let z = hop-via hop (routeIn size t from .hop) (covers ∙ ap (λ (a : Answer). orElse a (hopOf over)) e) in
         rw (e, ← z .0, hop-same hop over (z .1), long, lt-ltb from upto has) (same (eqb hop over))
     go (no ge) =
         let le : upto ≤ from = omega arith in
@@ -105,8 +104,8 @@ abbrev pub mapWalk : List Route → ℕ → ℕ → Answer → List Route
 mapWalk rs n a s = walk (consistentMapOut wide rs) (consistentMapNext wide rs) n a s
 
 -- That of slot c, over its own records, by the hop that covers it.
-abbrev pub mapSlot : List ℕ → List ℕ → List ℕ → List ℕ → ℕ → ℕ → ℕ → List Route
-mapSlot t first end hops depth key c =
+abbrev pub mapSlot : ℕ → List ℕ → List ℕ → List ℕ → List ℕ → ℕ → ℕ → ℕ → List Route
+mapSlot size t first end hops depth key c =
     mapWalk (runAt size t first end (31 + c)) (slotSize depth) (placeAt (slotSize depth) key 5 c) (hopOf (getD hops (15 + c / 2) 0))
 
 module _ {size : ℕ} {t : List ℕ} {lo hi depth key : ℕ} {first end : List ℕ} {present : ℕ} (g : Gathered size t lo hi depth key first end present) where
@@ -119,7 +118,7 @@ module _ {size : ℕ} {t : List ℕ} {lo hi depth key : ℕ} {first end : List �
       ∙ ap (λ (rs : List Route). mapWalk rs (slotSize depth) (placeAt (slotSize depth) key 5 c) s) (sym (slot-records g c lt))
 
   -- Where the slot has no records it is empty.
-  pub map-no-child : (hops : List ℕ) (c : ℕ) → c < 32 → getD end (31 + c) 0 ≤ getD first (31 + c) 0 → mapSlot t first end hops depth key c ≡ []
+  pub map-no-child : (hops : List ℕ) (c : ℕ) → c < 32 → getD end (31 + c) 0 ≤ getD first (31 + c) 0 → mapSlot size t first end hops depth key c ≡ []
   map-no-child hops c lt le =
       sym (slot-reads c lt (hopOf (getD hops (15 + c / 2) 0)))
       ∙ kept-walk-nothing wide (run size t lo hi) (slotSize depth) (placeAt (slotSize depth) key 5 c) (hopOf (getD hops (15 + c / 2) 0)) (no-child g c lt le)
@@ -134,7 +133,7 @@ pub record Found (size : ℕ) (t : List ℕ) (lo hi depth key inherited : ℕ) (
   pub bits : (b : ℕ) → b < 31 → bit entries b ≡ entryBit first end hops inherited b
 
 module _ {size : ℕ} {t : List ℕ} {lo hi depth key inherited : ℕ} {first end hops : List ℕ} {entries : ℕ}
-    (f : Found t lo hi depth key inherited first end hops entries) where
+    (f : Found size t lo hi depth key inherited first end hops entries) where
   -- The code's hops say what covers the positions,
   hops-cover : (l j : ℕ) → l ≤ 4 → j < 2 ^ l
       → hopOf (getD hops (position l j) 0) ≡ cover wide (slotSize depth) key (run size t lo hi) (hopOf inherited) l j
@@ -178,23 +177,23 @@ module _ {size : ℕ} {t : List ℕ} {lo hi depth key inherited : ℕ} {first en
       ∙ ap (orElse (own wide (sizeAt (slotSize depth) l) (placeAt (slotSize depth) key l j) (run size t lo hi))) (sym (hops-over l j le lt))))
 
   -- The walk through the node, by its slots.
-  pub map-slots : mapWalk (run size t lo hi) (wide - depth) key (hopOf inherited) ≡ slots (entryAt entries hops depth key) (mapSlot t first end hops depth key) 32
+  pub map-slots : mapWalk (run size t lo hi) (wide - depth) key (hopOf inherited) ≡ slots (entryAt entries hops depth key) (mapSlot size t first end hops depth key) 32
   map-slots =
       let bits-below : wide - depth ≡ slotSize depth + 5 = omega (arith, f .node .at .deep) in
       rw bits-below (walk-slots (consistentMapOut wide (run size t lo hi)) (consistentMapNext wide (run size t lo hi)) (slotSize depth) key (hopOf inherited)
-      ∙ slots-agree 5 _ (entryAt entries hops depth key) (λ l j lt small. sym (map-entry l j (omega arith) small)) _ (mapSlot t first end hops depth key)
+      ∙ slots-agree 5 _ (entryAt entries hops depth key) (λ l j lt small. sym (map-entry l j (omega arith) small)) _ (mapSlot size t first end hops depth key)
       (λ c lt. slot-reads (f .gathered) c lt _
       ∙ ap (mapWalk (runAt size t first end (31 + c)) (slotSize depth) (placeAt (slotSize depth) key 5 c)) (sym (hops-slot c lt))) 32 (le-refl 32))
 
   -- It has no more entries than the node has records.
-  pub map-most : length (slots (entryAt entries hops depth key) (mapSlot t first end hops depth key) 32) ≤ hi - lo
+  pub map-most : length (slots (entryAt entries hops depth key) (mapSlot size t first end hops depth key) 32) ≤ hi - lo
   map-most =
       let bits-below : wide - depth ≡ slotSize depth + 5 = omega (arith, f .node .at .deep) in
       rw (← map-slots, bits-below) (omega (arith, kept-few (node-run (f .node)) (hopOf inherited), run-length size t lo hi))
 
   -- A slot with records has what the walk of its node has.
   pub map-child : (c place : ℕ) → place ≡ placeAt (slotSize depth) key 5 c
-      → mapWalk (runAt size t first end (31 + c)) (wide - (depth + 5)) place (hopOf (getD hops (15 + c / 2) 0)) ≡ mapSlot t first end hops depth key c
+      → mapWalk (runAt size t first end (31 + c)) (wide - (depth + 5)) place (hopOf (getD hops (15 + c / 2) 0)) ≡ mapSlot size t first end hops depth key c
   map-child c place e =
       let bits-below : wide - (depth + 5) ≡ slotSize depth = omega (arith, f .node .at .deep) in
       rw (bits-below, e)

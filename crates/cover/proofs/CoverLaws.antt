@@ -25,7 +25,9 @@ use Rattle.words.proofs.PositionLaws.{in-word, Place, above}
 use Rattle.positions.specs.Runs.{inside, sizeAt, placeAt, memberOver}
 use Rattle.positions.proofs.Runs.{Nested, nested-start, throughout-under}
 use Rattle.positions.proofs.RunsNode.{size-slot, above-lt, ownAt, slot-run, level-held, level-covered, halves-covered}
-use Rattle.nodes.specs.Node.{bits, wide, run, slotSize, Node}
+use Rattle.records.specs.Sized.{widthIn}
+use Rattle.records.proofs.SizedReading.{width-most}
+use Rattle.nodes.specs.Node.{wide, run, slotSize, Node}
 use Rattle.gather.specs.Gathered.{runAt, levelOf, Gathered, Occupied}
 use Rattle.gather.proofs.GatherLaws.{node-run, slot-records, no-child, member-is, has-record, slot-vacant, slot-occupied, child-node}
 use Rattle.gather.proofs.GatherPlaces.{in-heap, index-lt, same-position, level-slot, place-in, place-at}
@@ -270,7 +272,7 @@ module _ {size : ℕ} {t : List ℕ} {lo hi depth key : ℕ} {first end : List �
 
   -- ---- A prefix that lies in the node, by its level and its index there.
 
-  module _ (query len : ℕ) (lens : (depth ≤ len) × (len ≤ bits)) (aligned : Aligned (wide - len) query)
+  module _ (query len : ℕ) (lens : (depth ≤ len) × (len ≤ widthIn size)) (aligned : Aligned (wide - len) query)
       (lies : In (wide - depth) key query) where
     -- The prefix as a route.
     abbrev asked : Route
@@ -280,6 +282,7 @@ module _ {size : ℕ} {t : List ℕ} {lo hi depth key : ℕ} {first end : List �
     asked-within =
         let i : Nested (wide - len) query (wide - depth) key = nested-start (wide - len) query (wide - depth) key (omega arith) aligned (n .at .aligned) lies in
         let deep = n .at .deep in
+        let most = width-most size (n .sized) in
         record { low = i .from; high = i .upto; deep = omega arith; short = omega arith; aligned = aligned }
 
     -- Above the slots it is a position.
@@ -309,14 +312,14 @@ module _ {size : ℕ} {t : List ℕ} {lo hi depth key : ℕ} {first end : List �
 pub record Sought (size : ℕ) (t : List ℕ) (lo hi depth key query len : ℕ) (first end : List ℕ) (present level b : ℕ) : Type 0 where
   pub node : Node size t lo hi depth key
   pub gathered : Gathered size t lo hi depth key first end present
-  pub lens : (depth ≤ len) × (len ≤ bits)
+  pub lens : (depth ≤ len) × (len ≤ widthIn size)
   pub aligned : Aligned (wide - len) query
   pub lies : In (wide - depth) key query
   pub leveled : (level ≡ levelOf len depth) × (level ≤ 5)
   pub placed : b ≡ position level ((query - key) / 2 ^ sizeAt (slotSize depth) level)
 
 module _ {size : ℕ} {t : List ℕ} {lo hi depth key query len : ℕ} {first end : List ℕ} {present level b : ℕ}
-    (s : Sought t lo hi depth key query len first end present level b) where
+    (s : Sought size t lo hi depth key query len first end present level b) where
   -- Its index is one of its level's.
   few : (query - key) / 2 ^ sizeAt (slotSize depth) level < 2 ^ level
   few = index-lt depth level (query - key) (s .node .at .deep) (s .leveled .1) (omega (arith, s .lies))
@@ -406,12 +409,12 @@ pub record Asking (size : ℕ) (t : List ℕ) (lo hi depth key b : ℕ) (first e
 
 -- Of the slots before c, the next to be asked, `covered` has those that were asked and are covered from inside.
 pub record Answered (size : ℕ) (t : List ℕ) (lo hi depth key b : ℕ) (first end : List ℕ) (present under walked covered c : ℕ) : Type 0 where
-  pub asking : Asking t lo hi depth key b first end present under walked
+  pub asking : Asking size t lo hi depth key b first end present under walked
   pub next : c < 32 → bit walked c ≡ true
   pub slots : Marked 32 (λ i. bit walked i && coveredIn (slotSize depth) key (run size t lo hi) 5 i) (λ i. ltb i c) covered
 
 module _ {size : ℕ} {t : List ℕ} {lo hi depth key b : ℕ} {first end : List ℕ} {present under walked : ℕ} where
-  module _ (s : Asking t lo hi depth key b first end present under walked) (c : ℕ) (lt : c < 32) where
+  module _ (s : Asking size t lo hi depth key b first end present under walked) (c : ℕ) (lt : c < 32) where
     -- The bits by which a slot is chosen.
     chosen-is : bit walked c ≡ ((bit (s .occupied) c && bit (s .below) c) && not (bit under c))
     chosen-is = s .chosen c lt ∙ ap (λ (x : Bool). x && not (bit under c)) (bit-and (s .occupied) (s .below) c)
@@ -445,8 +448,8 @@ module _ {size : ℕ} {t : List ℕ} {lo hi depth key b : ℕ} {first end : List
         go o false false z none = absurd (true≢false (sym z))
 
   -- At first none is asked.
-  pub ask-start : {r : ℕ} → Asking t lo hi depth key b first end present under walked → NextBit walked 0 r
-      → Answered t lo hi depth key b first end present under walked 0 r
+  pub ask-start : {r : ℕ} → Asking size t lo hi depth key b first end present under walked → NextBit walked 0 r
+      → Answered size t lo hi depth key b first end present under walked 0 r
   ask-start {r} s z =
       record {
         asking = s;
@@ -454,7 +457,7 @@ module _ {size : ℕ} {t : List ℕ} {lo hi depth key b : ℕ} {first end : List
         slots = slots-past _ z (marked-none 32 _ (λ i. ltb i 0) (λ i lt. le-ltb i 0 (omega arith)));
       }
 
-  module _ {covered c : ℕ} (w : Answered t lo hi depth key b first end present under walked covered c) where
+  module _ {covered c : ℕ} (w : Answered size t lo hi depth key b first end present under walked covered c) where
     -- The records of the next are those of a node.
     pub ask-node : c < 32 → Node size t (getD first (31 + c) 0) (getD end (31 + c) 0) (depth + 5) (placeAt (slotSize depth) key 5 c)
     ask-node lt = child-node (w .asking .node) (w .asking .gathered) c lt (asked-has (w .asking) c lt (w .next lt))
@@ -463,7 +466,7 @@ module _ {size : ℕ} {t : List ℕ} {lo hi depth key b : ℕ} {first end : List
     pub ask-child : (lt : c < 32) (child : Bool) (covered′ r : ℕ)
         → child ≡ throughout (held wide (runAt size t first end (31 + c))) (sizeAt (slotSize (depth + 5)) 0) (placeAt (slotSize (depth + 5)) (placeAt (slotSize depth) key 5 c) 0 0)
         → ((i : ℕ) → i < 32 → bit covered′ i ≡ ((eqb i c && child) || bit covered i)) → NextBit walked (c + 1) r
-        → Answered t lo hi depth key b first end present under walked covered′ r
+        → Answered size t lo hi depth key b first end present under walked covered′ r
     ask-child lt child covered′ r is more z =
         let s = w .asking in
         let on = w .next lt in

@@ -34,7 +34,7 @@ use Rattle.maximal.proofs.+aggregate_set.{statement}
 use Rattle.maximal.proofs.+aggregate_set.Tie.{close}
 
 abbrev measure : Measures 3 kinds.ps ℕ
-measure κs a = reach - a .1 .1 .1 .0
+measure κs a = reach (a .1 .0) - a .1 .1 .1 .1 .0
 
 abbrev entered : ℕ → In 3 kinds.ps
 entered t = and 3 kinds.ps (is 3 kinds.ps measure t) walk.Pre

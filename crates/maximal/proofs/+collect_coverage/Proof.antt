@@ -26,7 +26,7 @@ use Rattle.maximal.proofs.+collect_coverage.{statement}
 use Rattle.maximal.proofs.+collect_coverage.Tie.{close}
 
 abbrev measure : Measures 2 kinds.ps ℕ
-measure κs a = reach - a .1 .1 .1 .0
+measure κs a = reach (a .1 .0) - a .1 .1 .1 .1 .0
 
 abbrev entered : ℕ → In 2 kinds.ps
 entered t = and 2 kinds.ps (is 2 kinds.ps measure t) walk.Pre

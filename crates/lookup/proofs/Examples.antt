@@ -7,10 +7,8 @@ use Rattle.theory.specs.Routes.{miss, hit}
 use Rattle.table.specs.Checking.{checkReply}
 use Rattle.lookup.specs.Calls.{lookupReply, heldReply}
 use Rattle.refusals.specs.Rules.{gives, refuses, judge}
-use Rattle.records.specs.Wire.{rawAt, routeAt, routesFrom, routes}
 use Rattle.records.specs.Forms.{masking, byDefault, strictly}
 use Rattle.records.proofs.Octets.{all-bytes}
-use Rattle.table.specs.TableRules.{recordRules, rulesFrom, tableRules}
 use Rattle.records.specs.Sized.{clear, number, rawIn, routeIn, routesFromIn, routesIn}
 use Rattle.table.specs.SizedRules.{recordRulesIn, rulesFromIn, tableRulesIn}
 use Rattle.theory.proofs.Pass.{countFrom}

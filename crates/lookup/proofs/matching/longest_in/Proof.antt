@@ -1,6 +1,6 @@
 -- `matching::longest_in` goes from the last record to the first. The loop's invariant: the best so far is the longest match among the
 -- routes from record i on. Assumes nothing.
-use Prim.Native.Nat.{ℕ, _-_, _≤_}
+use Prim.Native.Nat.{ℕ, _≤_}
 use mathlib.Core.List.{List}
 use mathlib.Core.Path.{_≡_, refl, sym, ap, ap₂, _∙_}
 use native.Mathlib.Omega.{arith}

@@ -37,7 +37,8 @@ fits size (inr e) n le = rw e (omega arith)
 -- With such rooms an accepted table is answered in every mode, mode 5 given a hop and modes 4 and 5 lawful ranks: none is refused for room.
 pub rooms-enough : (form : Form) (t : List ℕ) (mode default : ℕ) (ranks : List ℕ) (room words : ℕ) → Bytes t → InUse mode → (mode ≡ 5 → default ≤ 63)
     → (4 ≤ mode → Ranking 64 ranks) → AcceptedBy form (takesSet mode) t
-    → sizeOf form * 1025 ≤ room → 160 * mostNodes (sizeOf form) ≤ words → Answerable form t mode default ranks room × (160 * nodes (widthIn (sizeOf form)) (routesIn (sizeOf form) t) ≤ words)
+    → sizeOf form * 1025 ≤ room → 160 * mostNodes (sizeOf form) ≤ words
+    → Answerable form t mode default ranks room × (160 * nodes (widthIn (sizeOf form)) (routesIn (sizeOf form) t) ≤ words)
 unfolding resultOf
 rooms-enough form t mode default ranks room words bytes known small ranked accepted output work =
     let lawful = in-lawful (sizeOf form) (form-size form) (form .strict) (takesSet mode) t bytes accepted in (

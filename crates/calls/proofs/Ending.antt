@@ -155,7 +155,8 @@ module _ (form : Form) (s : Bool) (t : List ℕ) (k : ℕ) (valid : checkReplyIn
 -- ---- The end of a rewrite.
 
 -- The result has no more records than the table, in mode 5 no more than one more.
-pub result-most : (size : ℕ) (t : List ℕ) (mode fill : ℕ) (ranks : List ℕ) {before most : ℕ} → InUse mode → Table (widthIn size) (routesIn size t) → before ≡ recordsIn size t
+pub result-most : (size : ℕ) (t : List ℕ) (mode fill : ℕ) (ranks : List ℕ) {before most : ℕ} → InUse mode → Table (widthIn size) (routesIn size t)
+    → before ≡ recordsIn size t
     → (mode ≡ 5 → most ≡ before + 1) × ((mode ≡ 5 → ⊥) → most ≡ before) → length (resultOf size t mode fill ranks) ≤ most
 unfolding resultOf
 result-most size t mode fill ranks {most = most} used table count at =
@@ -206,15 +207,19 @@ module _ (size : ℕ) (is : IsSize size) (t : List ℕ) (mode fill : ℕ) (ranks
   -- Number 11: the output has no room for so many records.
   pub finished-refused : length o / size < length (resultOf size t mode fill ranks) → Finished size t mode fill ranks o (Refused 11 0) o
   finished-refused h =
-      let e : lastReply size t mode fill ranks (length o) ≡ refuses 11 0 = broken-here _ 11 0 _ (lt-leb (size * length (resultOf size t mode fill ranks)) (length o) (too-short size is (length o) (length (resultOf size t mode fill ranks)) h)) in
+      let e : lastReply size t mode fill ranks (length o) ≡ refuses 11 0 =
+      broken-here _ 11 0 _
+      (lt-leb (size * length (resultOf size t mode fill ranks)) (length o) (too-short size is (length o) (length (resultOf size t mode fill ranks)) h)) in
       record { answer = sym (ap (writtenOf (recordsIn size t)) e); output = sym (ap (outputOf size o) e) }
 
   -- It has, and they are written.
-  pub finished-written : {k : ℕ} {change : ℤ} {o′ : List ℕ} → k ≡ length (resultOf size t mode fill ranks) → k ≤ length o / size → change ≡ pos k -ℤ pos (recordsIn size t)
+  pub finished-written : {k : ℕ} {change : ℤ} {o′ : List ℕ} → k ≡ length (resultOf size t mode fill ranks) → k ≤ length o / size
+      → change ≡ pos k -ℤ pos (recordsIn size t)
       → o′ ≡ bytesIn size (resultOf size t mode fill ranks) ++ drop (size * k) o → Finished size t mode fill ranks o (Records k change) o′
   unfolding judge
   finished-written {k} {change} {o′} count fits differ wrote =
-      let e : lastReply size t mode fill ranks (length o) ≡ gives (resultOf size t mode fill ranks) = rw (le-leb (size * length (resultOf size t mode fill ranks)) (length o) (long-enough size is (length o) (length (resultOf size t mode fill ranks)) (omega arith))) in
+      let e : lastReply size t mode fill ranks (length o) ≡ gives (resultOf size t mode fill ranks) =
+      rw (le-leb (size * length (resultOf size t mode fill ranks)) (length o) (long-enough size is (length o) (length (resultOf size t mode fill ranks)) (omega arith))) in
       record {
         answer = rw (differ, count) (sym (ap (writtenOf (recordsIn size t)) e));
         output = wrote ∙ rw count (sym (ap (outputOf size o) e));

@@ -37,7 +37,8 @@ abbrev pub RewritesWith : Form → Engine → List ℕ → ℕ → ℕ → List 
 RewritesWith form e t mode default ranks o r o′ = RewritesBy (sizeOf form) (rulesOf form e t mode default ranks o) t mode default ranks o r o′
 
 -- Both engines' rules are guarded.
-pub both-guarded : (form : Form) (e : Engine) (t : List ℕ) (mode default : ℕ) (ranks o : List ℕ) → Guarded form (rulesOf form e t mode default ranks o) t mode default ranks (length o)
+pub both-guarded : (form : Form) (e : Engine) (t : List ℕ) (mode default : ℕ) (ranks o : List ℕ)
+    → Guarded form (rulesOf form e t mode default ranks o) t mode default ranks (length o)
 both-guarded form (nodes words) t mode default ranks o = rewrite-guarded form t mode default ranks (length o) words
 both-guarded form plain t mode default ranks o = plain-guarded form t mode default ranks (length o)
 
@@ -46,21 +47,24 @@ module _ (form : Form) (ranks : List ℕ) (g : Engine) (t : List ℕ) (bytes : B
     (h : Engine) (s : List ℕ) (small : Bytes s) (p : List ℕ) (number : ℕ) (other : ℤ) (p′ : List ℕ) where
   -- Mode 4: the same bytes exactly when they send all addresses the same way, no route included.
   pub both-engines-drop : (d e : ℕ) → RewritesWith form g t 4 d ranks o (Records count change) o′ → RewritesWith form h s 4 e ranks p (Records number other) p′
-      → take (sizeOf form * count) o′ ≡ take (sizeOf form * number) p′ ↔ Alike (widthIn (sizeOf form)) (answer (widthIn (sizeOf form)) (routesIn (sizeOf form) t)) (answer (widthIn (sizeOf form)) (routesIn (sizeOf form) s))
+      → take (sizeOf form * count) o′ ≡ take (sizeOf form * number) p′
+      ↔ Alike (widthIn (sizeOf form)) (answer (widthIn (sizeOf form)) (routesIn (sizeOf form) t)) (answer (widthIn (sizeOf form)) (routesIn (sizeOf form) s))
   both-engines-drop d e a b =
       drop-by form ranks (rulesOf form g t 4 d ranks o) t bytes o count change o′ (rulesOf form h s 4 e ranks p) s small p number other p′ d e
       (both-guarded form g t 4 d ranks o) a (both-guarded form h s 4 e ranks p) b
 
   -- Mode 5, at one default: exactly when they do once unrouted addresses have the default.
   pub both-engines-fill : (d : ℕ) → RewritesWith form g t 5 d ranks o (Records count change) o′ → RewritesWith form h s 5 d ranks p (Records number other) p′
-      → take (sizeOf form * count) o′ ≡ take (sizeOf form * number) p′ ↔ Alike (widthIn (sizeOf form)) (filled d (answer (widthIn (sizeOf form)) (routesIn (sizeOf form) t))) (filled d (answer (widthIn (sizeOf form)) (routesIn (sizeOf form) s)))
+      → take (sizeOf form * count) o′ ≡ take (sizeOf form * number) p′
+      ↔ Alike (widthIn (sizeOf form)) (filled d (answer (widthIn (sizeOf form)) (routesIn (sizeOf form) t))) (filled d (answer (widthIn (sizeOf form)) (routesIn (sizeOf form) s)))
   both-engines-fill d a b =
       fill-by form ranks (rulesOf form g t 5 d ranks o) t bytes o count change o′ (rulesOf form h s 5 d ranks p) s small p number other p′ d
       (both-guarded form g t 5 d ranks o) a (both-guarded form h s 5 d ranks p) b
 
   -- Mode 1: exactly when they hold the same addresses.
   pub both-engines-set : (d e : ℕ) → RewritesWith form g t 1 d ranks o (Records count change) o′ → RewritesWith form h s 1 e ranks p (Records number other) p′
-      → take (sizeOf form * count) o′ ≡ take (sizeOf form * number) p′ ↔ ((x : ℕ) → x < 2 ^ widthIn (sizeOf form) → held (widthIn (sizeOf form)) (routesIn (sizeOf form) t) x ≡ held (widthIn (sizeOf form)) (routesIn (sizeOf form) s) x)
+      → take (sizeOf form * count) o′ ≡ take (sizeOf form * number) p′
+      ↔ ((x : ℕ) → x < 2 ^ widthIn (sizeOf form) → held (widthIn (sizeOf form)) (routesIn (sizeOf form) t) x ≡ held (widthIn (sizeOf form)) (routesIn (sizeOf form) s) x)
   both-engines-set d e a b =
       set-by form ranks (rulesOf form g t 1 d ranks o) t bytes o count change o′ (rulesOf form h s 1 e ranks p) s small p number other p′ d e
       (both-guarded form g t 1 d ranks o) a (both-guarded form h s 1 e ranks p) b

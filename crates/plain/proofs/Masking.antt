@@ -24,7 +24,8 @@ use Rattle.plain.specs.Rewriting.{isKnown, plainRules}
 use Rattle.plain.proofs.Calls.{plain-settled}
 
 -- The default is the strict choice with number 6 waived.
-plain-waived : (long : Bool) (t : List ℕ) (mode default : ℕ) (ranks : List ℕ) (room : ℕ) → waived 6 (plainRules (refusing long) t mode default ranks room) ≡ plainRules (masking long) t mode default ranks room
+plain-waived : (long : Bool) (t : List ℕ) (mode default : ℕ) (ranks : List ℕ) (room : ℕ)
+    → waived 6 (plainRules (refusing long) t mode default ranks room) ≡ plainRules (masking long) t mode default ranks room
 unfolding plainRules
 plain-waived long t mode default ranks room =
     ap (λ (l : List Rule).
@@ -49,7 +50,8 @@ plain-carried long t mode default ranks o r q o′ p′ one other h =
     (by-waived (sizeOf (masking long)) (plainRules (refusing long) t mode default ranks (length o)) t mode default ranks o r o′ one h))
 
 -- The masked bytes of a table that is accepted as a set or as a map, under either choice, satisfy the table's own statement, and no other answer does.
-pub plain-masked : (form : Form) (s : Bool) (t : List ℕ) → Bytes t → AcceptedBy form s t → (other : Bool) (mode default : ℕ) (ranks o : List ℕ) (r : Rewritten) (o′ : List ℕ)
+pub plain-masked : (form : Form) (s : Bool) (t : List ℕ) → Bytes t → AcceptedBy form s t
+    → (other : Bool) (mode default : ℕ) (ranks o : List ℕ) (r : Rewritten) (o′ : List ℕ)
     → RewritesBy (sizeOf form) (plainRules (choosing other (form .long)) (maskedIn (sizeOf form) t) mode default ranks (length o)) (maskedIn (sizeOf form) t) mode default ranks o r o′
     → RewritesBy (sizeOf form) (plainRules (masking (form .long)) t mode default ranks (length o)) t mode default ranks o r o′
 unfolding replyBy plainRules resultOf

@@ -31,7 +31,8 @@ OwnOr size t lo first cover hop = (lo < first → hop ≡ routeIn size t lo .hop
 -- ---- By addresses.
 module _ {size : ℕ} {t : List ℕ} {lo hi : ℕ} (hopped : Hopped size t) {first cover hop : ℕ} (given : OwnOr size t lo first cover hop) where
   -- It says what a position's own route says, or else what covers it.
-  own-answer : {n a : ℕ} → RunAt size (widthIn size) t lo hi n a → PastOwn size t lo hi (widthIn size - n) first → hopOf hop ≡ orElse (own (widthIn size) n a (run size t lo hi)) (hopOf cover)
+  own-answer : {n a : ℕ} → RunAt size (widthIn size) t lo hi n a → PastOwn size t lo hi (widthIn size - n) first
+      → hopOf hop ≡ orElse (own (widthIn size) n a (run size t lo hi)) (hopOf cover)
   own-answer {n} {a} at past = go (decLt lo first)
     where
       go : Dec (lo < first) → hopOf hop ≡ orElse (own (widthIn size) n a (run size t lo hi)) (hopOf cover)
@@ -43,7 +44,8 @@ module _ {size : ℕ} {t : List ℕ} {lo hi : ℕ} (hopped : Hopped size t) {fir
           rw (own-none at past same, given .1 (omega arith))
 
   -- A split of the records past its own has its halves.
-  pub halved : {n a mid : ℕ} → RunAt size (widthIn size) t lo hi (suc n) a → PastOwn size t lo hi (widthIn size - suc n) first → SplitAt size t first hi (a + 2 ^ n) mid
+  pub halved : {n a mid : ℕ} → RunAt size (widthIn size) t lo hi (suc n) a → PastOwn size t lo hi (widthIn size - suc n) first
+      → SplitAt size t first hi (a + 2 ^ n) mid
       → Halved size t lo hi cover n a hop first mid (a + 2 ^ n)
   halved {n} {a} {mid} at past split =
       record {

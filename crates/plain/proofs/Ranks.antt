@@ -27,7 +27,8 @@ module _ (form : Form) (g : Engine) (t ranks o : List ℕ) (count : ℕ) (change
 
   -- Under other ranks, by either engine: as many records.
   pub both-engines-count : (mode default : ℕ) (h : Engine) (other p : List ℕ) (number : ℕ) (differs : ℤ) (p′ : List ℕ)
-      → RewritesWith form g t mode default ranks o (Records count change) o′ → RewritesWith form h t mode default other p (Records number differs) p′ → count ≡ number
+      → RewritesWith form g t mode default ranks o (Records count change) o′ → RewritesWith form h t mode default other p (Records number differs) p′
+      → count ≡ number
   both-engines-count mode default h other p number differs p′ =
       by-count form (rulesOf form g t mode default ranks o) (rulesOf form h t mode default other p) t mode default ranks other o p (both-guarded form g t mode default ranks o)
       (both-guarded form h t mode default other p) count number change differs o′ p′

@@ -33,19 +33,22 @@ module _ (form : Form) (t : List ℕ) (mode default : ℕ) (ranks : List ℕ) (r
 
     module _ (used : mode ≡ 2 → ⊥) where
       -- Number 2.
-      pub not-a-hop : (not (eqb mode 5) || leb default 63) ≡ false → replyBy (sizeOf form) (plainRules form t mode default ranks room) t mode default ranks ≡ refuses 2 0
+      pub not-a-hop : (not (eqb mode 5) || leb default 63) ≡ false
+          → replyBy (sizeOf form) (plainRules form t mode default ranks room) t mode default ranks ≡ refuses 2 0
       unfolding replyBy plainRules
       not-a-hop e = refused-default (isKnown mode) form t mode default ranks last (resultOf (sizeOf form) t mode default ranks) known used e
 
       module _ (ok : (not (eqb mode 5) || leb default 63) ≡ true) where
         -- Number 15.
-        pub not-a-ranking : (not (leb 4 mode) || isRanking 64 ranks) ≡ false → replyBy (sizeOf form) (plainRules form t mode default ranks room) t mode default ranks ≡ refuses 15 0
+        pub not-a-ranking : (not (leb 4 mode) || isRanking 64 ranks) ≡ false
+            → replyBy (sizeOf form) (plainRules form t mode default ranks room) t mode default ranks ≡ refuses 15 0
         unfolding replyBy plainRules
         not-a-ranking e = refused-ranks (isKnown mode) form t mode default ranks last (resultOf (sizeOf form) t mode default ranks) known used ok e
 
         module _ (ranked : (not (leb 4 mode) || isRanking 64 ranks) ≡ true) where
           -- Numbers 3 to 8.
-          pub not-a-table : {n i : ℕ} → checkReplyIn (sizeOf form) (form .strict) (takesSet mode) t ≡ refuses n i → replyBy (sizeOf form) (plainRules form t mode default ranks room) t mode default ranks ≡ refuses n i
+          pub not-a-table : {n i : ℕ} → checkReplyIn (sizeOf form) (form .strict) (takesSet mode) t ≡ refuses n i
+              → replyBy (sizeOf form) (plainRules form t mode default ranks room) t mode default ranks ≡ refuses n i
           unfolding replyBy plainRules
           not-a-table e = refused-table (isKnown mode) form t mode default ranks last (resultOf (sizeOf form) t mode default ranks) known used ok ranked e
 

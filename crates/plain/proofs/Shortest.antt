@@ -21,7 +21,8 @@ use Rattle.plain.proofs.Demand3.{Engine, rulesOf, RewritesWith, both-gu
 
 module _ (form : Form) (g : Engine) (t : List ℕ) (ranks o : List ℕ) (o′ : List ℕ) where
   -- The change is never above 0, in mode 5 never above 1, answered or refused.
-  pub both-engines-change : (mode default : ℕ) (r : Rewritten) → RewritesWith form g t mode default ranks o r o′ → Bytes t → changeOf r ≤ℤ mostChange (modeOf mode default)
+  pub both-engines-change : (mode default : ℕ) (r : Rewritten) → RewritesWith form g t mode default ranks o r o′ → Bytes t
+      → changeOf r ≤ℤ mostChange (modeOf mode default)
   both-engines-change mode default r = change-by form (rulesOf form g t mode default ranks o) t mode default ranks o (both-guarded form g t mode default ranks o) r o′
 
   module _ (count : ℕ) (change : ℤ) where
@@ -38,6 +39,8 @@ module _ (form : Form) (g : Engine) (t : List ℕ) (ranks o : List ℕ) (o′ : 
         none-shorter-by form (rulesOf form g t mode default ranks o) t mode default ranks o (both-guarded form g t mode default ranks o) count change o′
 
     -- Mode 1: a set of the same addresses that has as many records is the one written, but for host bits.
-    pub both-engines-alone : (d : ℕ) → RewritesWith form g t 1 d ranks o (Records count change) o′ → (strict : Bool) (u : List ℕ) → Bytes u → AcceptedIn (sizeOf form) strict true u
-        → ((x : ℕ) → x < 2 ^ widthIn (sizeOf form) → held (widthIn (sizeOf form)) (routesIn (sizeOf form) u) x ≡ held (widthIn (sizeOf form)) (routesIn (sizeOf form) t) x) → recordsIn (sizeOf form) u ≤ count → bytesIn (sizeOf form) (routesIn (sizeOf form) u) ≡ take (sizeOf form * count) o′
+    pub both-engines-alone : (d : ℕ) → RewritesWith form g t 1 d ranks o (Records count change) o′ → (strict : Bool) (u : List ℕ) → Bytes u
+        → AcceptedIn (sizeOf form) strict true u
+        → ((x : ℕ) → x < 2 ^ widthIn (sizeOf form) → held (widthIn (sizeOf form)) (routesIn (sizeOf form) u) x ≡ held (widthIn (sizeOf form)) (routesIn (sizeOf form) t) x)
+        → recordsIn (sizeOf form) u ≤ count → bytesIn (sizeOf form) (routesIn (sizeOf form) u) ≡ take (sizeOf form * count) o′
     both-engines-alone d = only-written-by form (rulesOf form g t 1 d ranks o) t d ranks o (both-guarded form g t 1 d ranks o) count change o′

@@ -1,12 +1,13 @@
 -- Laws of the calls: the replies that refuse, what the walks can begin with, and the cover query at wide addresses. Assumes nothing.
 use Prim.Native.Nat.{ℕ, _+_, _-_, _*_, _/_, _%_, _^_, _≤_, _<_}
-use mathlib.Core.Path.{_≡_, refl, ap, _∙_}
+use mathlib.Core.Path.{_≡_, refl, sym, ap, _∙_, subst}
 use mathlib.Core.Bool.{Bool, true, false, not, _||_, _&&_, and-eq-true-iff}
 use mathlib.Core.List.{List, [], _∷_}
-use native.Mathlib.Nat.{div-mul-le-self}
+use native.Mathlib.Nat.{div-mul-le-self, mod-lt, mul-lt-mul-of-pos-right}
 use native.Mathlib.Omega.{arith}
 use lib.Dec.{eqb, leb}
 use lib.ListN.{length}
+use lib.Pow.{pow-pos, pow-add}
 use borrow.Author.Tests.{leb-true, le-leb, lt-leb}
 use Rattle.theory.specs.Ranks.{isRanking}
 use Rattle.theory.specs.Results.{startOf, throughout}
@@ -16,7 +17,7 @@ use Rattle.words.proofs.PrefixLaws.{start-small}
 use Rattle.table.specs.Checking.{checkReplyIn}
 use Rattle.table.specs.SizedConditions.{LawfulIn}
 use Rattle.nodecount.specs.Nodes.{nodes}
-use Rattle.refusals.specs.Rules.{Rule, rule, gives, refuses, judge}
+use Rattle.refusals.specs.Rules.{Rule, rule, Reply, gives, refuses, judge}
 use Rattle.records.specs.Sized.{IsSize, widthIn, recordsIn, routesIn, Bytes}
 use Rattle.records.specs.Forms.{sizeOf}
 use Rattle.records.specs.declared.Form.{Form}
@@ -27,6 +28,7 @@ use Rattle.table.proofs.SizedTables.{hops-below, set-hops}
 use Rattle.positions.specs.Wide.{widened}
 use Rattle.positions.proofs.Wide.{aligned-widen, held-widen, throughout-widen, all-widen}
 use Rattle.nodes.specs.Node.{wide, spare, Node}
+use Rattle.nodes.proofs.OutputLaws.{width-spare}
 use Rattle.gather.proofs.GatherLaws.{root-run, root-node}
 use Rattle.calls.specs.Covering.{coverRules, coveredBy, coverReply}
 use Rattle.calls.specs.Rewriting.{InUse, resultOf, takesSet, rewriteRules, replyBy, rewriteReply}
@@ -94,6 +96,11 @@ mode-used mode e used = let p = and-eq-true-iff (leb 1 mode) (leb mode 5) .0 e i
 
 -- ---- What a table that keeps the rules is good for.
 
+-- What the check says at a size that is the form's it says at the form's.
+pub at-form : {size : ℕ} (form : Form) (s : Bool) (t : List ℕ) {r : Reply ℕ} → size ≡ sizeOf form → checkReplyIn size (form .strict) s t ≡ r
+    → checkReplyIn (sizeOf form) (form .strict) s t ≡ r
+at-form form s t {r} e = subst (λ (n : ℕ). checkReplyIn n (form .strict) s t ≡ r) e
+
 module _ (form : Form) (s : Bool) (t : List ℕ) (k : ℕ) (valid : checkReplyIn (sizeOf form) (form .strict) s t ≡ gives k) where
   -- Its records are those of the root.
   pub checked-node : Bytes t → Node (sizeOf form) t 0 (recordsIn (sizeOf form) t) 0 0
@@ -155,9 +162,9 @@ module _ (size : ℕ) (is : IsSize size) (t : List ℕ) (address len : ℕ) wher
   -- The wide query is an address.
   pub query-within : start * 2 ^ spare size < 2 ^ wide
   query-within =
-      let s = start-small width (width - len) lowest (mod-lt address (pow-positive 2 width)) in
-      let e : 2 ^ wide ≡ 2 ^ width * 2 ^ spare size = ap (λ (n : ℕ). 2 ^ n) (omega (arith, width-most size is)) ∙ pow-add 2 width (spare size) in
-      rw e (mul-lt-right s (pow-positive 2 (spare size)))
+      let s = start-small width (width - len) lowest (mod-lt address (pow-pos width)) in
+      let e : 2 ^ wide ≡ 2 ^ width * 2 ^ spare size = ap (λ (n : ℕ). 2 ^ n) (sym (width-spare size is)) ∙ pow-add 2 width (spare size) in
+      rw e (mul-lt-mul-of-pos-right s (pow-pos (spare size)))
 
   module _ (short : len ≤ width) where
     sizes : wide - len ≡ (width - len) + spare size
@@ -173,5 +180,6 @@ module _ (size : ℕ) (is : IsSize size) (t : List ℕ) (address len : ℕ) wher
     covered-wide valid =
         rw (sizes, root-run size t)
         (throughout-agree (held wide (widened (spare size) (routesIn size t))) (λ x. held width (routesIn size t) (x / 2 ^ spare size)) ((width - len) + spare size)
-        (start * 2 ^ spare size) (λ x i. held-widen width (spare size) valid x)
+        (start * 2 ^ spare size)
+        (λ x i. ap (λ (w : ℕ). held w (widened (spare size) (routesIn size t)) x) (sym (width-spare size is)) ∙ held-widen width (spare size) valid x)
         ∙ throughout-widen (spare size) (held width (routesIn size t)) (width - len) start)

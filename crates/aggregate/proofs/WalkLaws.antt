@@ -1,6 +1,6 @@
 -- What the walks of the four modes make of a whole table: at wide addresses each is the mode's result, and narrowed it is the result itself.
 -- Assumes nothing.
-use Prim.Native.Nat.{ℕ, _+_, _*_, _≤_, _<_}
+use Prim.Native.Nat.{ℕ, _+_, _*_, _/_, _≤_, _<_}
 use mathlib.Core.Path.{_≡_, refl, sym, ap, _∙_}
 use mathlib.Core.Bool.{Bool, true, false}
 use mathlib.Core.List.{List, [], _++_}
@@ -77,6 +77,11 @@ written-most size is t mode fill ranks table wrote =
       most-of (modeOf mode fill) (length (routesIn size t)),
       in-length-routes size t,
     )
+
+-- So many records fit where no more are asked for than the room has.
+pub records-fit : (size : ℕ) → IsSize size → (room n : ℕ) → n ≤ room / size → size * n ≤ room
+records-fit size (inl e) room n h = let g : n ≤ room / 8 = rw e at h in rw e (omega arith)
+records-fit size (inr e) room n h = let g : n ≤ room / 16 = rw e at h in rw e (omega arith)
 
 -- ---- The walks from the root.
 

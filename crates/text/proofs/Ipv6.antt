@@ -7,8 +7,45 @@ use native.Mathlib.Nat.{max-eq-left, max-eq-right}
 use native.Mathlib.Omega.{arith}
 use borrow.Author.Tests.{eq-eqb, ne-eqb, eqb-true, eqb-false, le-ltb}
 use lib.Dec.{eqb}
-use lib.ListN.{length, replicate}
+use lib.ListN.{length, drop, replicate}
 use Rattle.text.specs.Ipv6.{hexadecimal, joined, zeros, longest, firstRow, without, shortened, groupsOf, ipv6, groupPart}
+
+-- ---- The row that is shortened, in any groups.
+
+-- No row of zeros is longer than the longest.
+no-zeros : zeros [] ≤ 0
+unfolding zeros
+no-zeros = omega arith
+
+pub longest-most : (gs : List ℕ) (k : ℕ) → zeros (drop k gs) ≤ longest gs
+unfolding longest
+longest-most [] zero = no-zeros
+longest-most [] (suc k) = no-zeros
+longest-most (g ∷ gs) zero = omega arith
+longest-most (g ∷ gs) (suc k) = let rest = longest-most gs k in omega arith
+
+-- The longest stands where it is said to.
+pub first-there : (n : ℕ) (gs : List ℕ) → longest gs ≡ n → zeros (drop (firstRow n gs) gs) ≡ n
+unfolding longest zeros firstRow
+first-there n [] e = e
+first-there n (g ∷ gs) e = go (eqb (zeros (g ∷ gs)) n) refl (first-there n gs)
+  where
+    go : (b : Bool) → eqb (zeros (g ∷ gs)) n ≡ b → (longest gs ≡ n → zeros (drop (firstRow n gs) gs) ≡ n)
+        → zeros (drop (cond b 0 (suc (firstRow n gs))) (g ∷ gs)) ≡ n
+    go true f rest = eqb-true (zeros (g ∷ gs)) n f
+    go false f rest = let other = eqb-false (zeros (g ∷ gs)) n f in rest (omega (arith, other, e))
+
+-- None that is as long begins in front of it.
+pub first-before : (n : ℕ) (gs : List ℕ) (k : ℕ) → k < firstRow n gs → zeros (drop k gs) ≡ n → ⊥
+unfolding firstRow
+first-before n [] k h e = omega arith
+first-before n (g ∷ gs) k h e = go (eqb (zeros (g ∷ gs)) n) refl k h e (first-before n gs)
+  where
+    go : (b : Bool) → eqb (zeros (g ∷ gs)) n ≡ b → (k : ℕ) → k < cond b 0 (suc (firstRow n gs)) → zeros (drop k (g ∷ gs)) ≡ n
+        → ((j : ℕ) → j < firstRow n gs → zeros (drop j gs) ≡ n → ⊥) → ⊥
+    go true f k h e rest = omega arith
+    go false f zero h e rest = eqb-false (zeros (g ∷ gs)) n f e
+    go false f (suc k) h e rest = rest k (omega arith) e
 
 -- ---- A row of zeros at the end.
 

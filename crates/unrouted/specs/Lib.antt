@@ -1,2 +1,0 @@
--- What the program prints.
-pub mod Printed

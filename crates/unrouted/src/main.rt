@@ -6,10 +6,8 @@ use libc::STDOUT_FILENO;
 use records::Form;
 use records::size_of;
 use text::answers::put_listed;
-ghost use mathlib.Core.Path.{_≡_};
 ghost use Prim.Native.Nat.{_+_, _*_, _≤_};
 ghost use lib.ListN.{length};
-ghost use Rattle.records.specs.Forms.{sizeOf};
 ghost use Rattle.text.specs.Text.{Put};
 ghost use Rattle.unrouted.specs.Printed.{printed, printedIn};
 
@@ -32,9 +30,12 @@ fn answer(table: &[u8], long: bool, out: &mut [u8]) -> usize
         strict: false,
         long,
     };
-    let mut output = [0u8; 131072];
-    let room = 8192 * size_of(form);
-    answer_in(table, form, &mut output[..room], out)
+    if long {
+        let mut output = [0u8; 131072];
+        return answer_in(table, form, &mut output, out);
+    }
+    let mut output = [0u8; 65536];
+    answer_in(table, form, &mut output, out)
 }
 
 // Is the first argument `64`?
@@ -49,19 +50,21 @@ fn is_long() -> bool {
     word[1] == 52
 }
 
-// How many bytes of a table are read.
-fn most(long: bool) -> usize
-    ensures { λ r. ⌜ r ≤ 16400 ⌝ }
+// How many bytes of a table count, of so many that were read.
+fn kept(read: usize, long: bool) -> usize
+    ensures { λ r. ⌜ r ≤ read ⌝ }
 {
-    if long { 16400 } else { 8200 }
+    if long {
+        return read;
+    }
+    if read < 8200 { read } else { 8200 }
 }
 
 fn main() {
-    let long = is_long();
     let mut table = [0u8; 16400];
     let mut out = [0u8; 393252];
-    let room = most(long);
-    let size = io::read_full(STDIN_FILENO, &mut table[..room]);
+    let long = is_long();
+    let size = kept(io::read_full(STDIN_FILENO, &mut table), long);
     let end = answer(&table[..size], long, &mut out);
     io::write_all(STDOUT_FILENO, &out[..end]);
 }

@@ -1,7 +1,7 @@
 -- Laws for the proof of any engine's rewrite: the rules 1, 2, 15 and 3 to 8 judged one after the other, the mode and the default, what a table that was checked is good
 -- for, the most records of a result, and the end of a rewrite. Assumes nothing.
 use Prim.Native.Nat.{ℕ, zero, suc, _+_, _-_, _*_, _/_, _^_, _≤_, _<_}
-use mathlib.Core.Path.{_≡_, refl, sym, ap, _∙_}
+use mathlib.Core.Path.{_≡_, refl, sym, ap, subst, _∙_}
 use mathlib.Core.Bool.{Bool, true, false, not, cond, _||_}
 use mathlib.Core.List.{List, _∷_, _++_}
 use mathlib.Core.Logic.{inl, inr}
@@ -90,6 +90,11 @@ module _ (size : ℕ) (rules : List Rule) (t : List ℕ) (mode default : ℕ) (r
       → Finished size t mode fill ranks o r o′ → RewritesBy size rules t mode default ranks o r o′
   finished-by e f =
       record { answer = f .answer ∙ sym (ap (writtenOf (recordsIn size t)) e); output = f .output ∙ sym (ap (outputOf size o) e) }
+
+-- What is finished at a size that is the form's is finished at the form's.
+pub finished-in : {size n : ℕ} {t : List ℕ} {mode fill : ℕ} {ranks o : List ℕ} {r : Rewritten} {o′ : List ℕ} → size ≡ n → Finished size t mode fill ranks o r o′
+    → Finished n t mode fill ranks o r o′
+finished-in {t = t} {mode} {fill} {ranks} {o} {r} {o′} e = subst (λ (k : ℕ). Finished k t mode fill ranks o r o′) e
 
 -- ---- The mode and the default.
 
@@ -193,7 +198,7 @@ too-short size (inl e) room n h = let g : room / 8 < n = rw e at h in rw e (omeg
 too-short size (inr e) room n h = let g : room / 16 < n = rw e at h in rw e (omega arith)
 
 -- and enough are enough.
-long-enough : (size : ℕ) → IsSize size → (room n : ℕ) → n ≤ room / size → size * n ≤ room
+pub long-enough : (size : ℕ) → IsSize size → (room n : ℕ) → n ≤ room / size → size * n ≤ room
 long-enough size (inl e) room n h = let g : n ≤ room / 8 = rw e at h in rw e (omega arith)
 long-enough size (inr e) room n h = let g : n ≤ room / 16 = rw e at h in rw e (omega arith)
 

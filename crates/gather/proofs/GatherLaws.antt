@@ -42,10 +42,12 @@ node-run {depth} n =
     let e : wide - depth ≡ slotSize depth + 5 = omega arith in
     record { fits = omega arith; aligned = rw e at (n .at .aligned); table = n .table; within = rw e at (n .within) }
 
-module _ {size : ℕ} {t : List ℕ} {lo hi depth key : ℕ} {first end : List ℕ} {present : ℕ} (g : Gathered size t lo hi depth key first end present) where
+module _ {size : ℕ} {t : List ℕ} {lo hi depth key : ℕ} {first end : List ℕ} {present : ℕ}
+    (g : Gathered size t lo hi depth key first end present) where
   -- Those of a position are the routes that stand at it.
   position-part : (l j : ℕ) → l ≤ 4 → j < 2 ^ l
-      → part (filed (slotSize depth) key l j) (run size t lo hi) ≡ part (isAt wide (sizeAt (slotSize depth) l) (placeAt (slotSize depth) key l j)) (run size t lo hi)
+      → part (filed (slotSize depth) key l j) (run size t lo hi)
+      ≡ part (isAt wide (sizeAt (slotSize depth) l) (placeAt (slotSize depth) key l j)) (run size t lo hi)
   position-part l j le lt =
       part-agree (filed (slotSize depth) key l j) (isAt wide (sizeAt (slotSize depth) l) (placeAt (slotSize depth) key l j)) (run size t lo hi)
       (λ r m. filed-position (slotSize depth) key l j r (omega arith))
@@ -55,7 +57,8 @@ module _ {size : ℕ} {t : List ℕ} {lo hi depth key : ℕ} {first end : List �
   position-run l j le lt = g .places l j (omega arith) lt ∙ position-part l j le lt
 
   -- Those of a slot are the routes inside it.
-  pub slot-records : (c : ℕ) → c < 32 → runAt size t first end (31 + c) ≡ inside wide (slotSize depth) (placeAt (slotSize depth) key 5 c) (run size t lo hi)
+  pub slot-records : (c : ℕ) → c < 32
+      → runAt size t first end (31 + c) ≡ inside wide (slotSize depth) (placeAt (slotSize depth) key 5 c) (run size t lo hi)
   slot-records c lt =
       g .places 5 c (omega arith) lt
       ∙ ap (λ (n : ℕ). inside wide n (placeAt (slotSize depth) key 5 c) (run size t lo hi)) (size-slot (slotSize depth))

@@ -39,7 +39,8 @@ unfolding routesFromIn
 all-span size t lo zero p = nil
 all-span size t lo (suc k) p = cons (p lo (omega arith) (omega arith)) (all-span size t (suc lo) k (λ i l h. p i (omega arith) (omega arith)))
 
-before-span : (size : ℕ) (t : List ℕ) (lo k i j : ℕ) → Ascending (span size t lo k) → lo ≤ i → i < j → j < lo + k → Before (wideAt size t i) (wideAt size t j)
+before-span : (size : ℕ) (t : List ℕ) (lo k i j : ℕ) → Ascending (span size t lo k) → lo ≤ i → i < j → j < lo + k
+    → Before (wideAt size t i) (wideAt size t j)
 unfolding routesFromIn
 before-span size t lo zero i j o le lt h = absurd (omega arith)
 before-span size t lo (suc k) i j (first b o) le lt h = go (eq-or-lt-of-le le) (λ l. before-span size t (suc lo) k i j o l lt (omega arith))
@@ -73,7 +74,8 @@ pub all-run : {P : Route → Type 0} (size : ℕ) (t : List ℕ) (lo hi : ℕ) �
 all-run size t lo hi p = all-span size t lo (hi - lo) (λ i l h. p i l (omega arith))
 
 -- The records of an ascending run stand in the order of their numbers.
-pub before-run : (size : ℕ) (t : List ℕ) (lo hi i j : ℕ) → Ascending (run size t lo hi) → lo ≤ i → i < j → j < hi → Before (wideAt size t i) (wideAt size t j)
+pub before-run : (size : ℕ) (t : List ℕ) (lo hi i j : ℕ) → Ascending (run size t lo hi) → lo ≤ i → i < j → j < hi
+    → Before (wideAt size t i) (wideAt size t j)
 before-run size t lo hi i j o le lt h = before-span size t lo (hi - lo) i j o le lt (omega arith)
 
 -- A run that ends where it starts, or before, has no records.

@@ -187,7 +187,8 @@ module _ {size : ℕ} {t : List ℕ} {lo hi depth key : ℕ} (node : Node size t
             → filed (slotSize depth) key l j (wideAt size t k) ≡ false
         away f e p k a h out = filed-here l j le lt k a h ∙ ne-eqb _ _ (λ z. out (p .holds k a h .0 z))
 
-        go : (f e : ℕ) → Placed size t lo hi depth key (position l j) f e → Dec (f < e) → run size t f e ≡ part (filed (slotSize depth) key l j) (run size t lo hi)
+        go : (f e : ℕ) → Placed size t lo hi depth key (position l j) f e → Dec (f < e)
+            → run size t f e ≡ part (filed (slotSize depth) key l j) (run size t lo hi)
         go f e p (yes has) =
             let from = p .from has in
             let bound = p .bound in

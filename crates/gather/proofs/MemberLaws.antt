@@ -14,7 +14,8 @@ use Rattle.nodes.specs.Node.{wide, run, slotSize}
 use Rattle.gather.specs.Gathered.{Gathered}
 use Rattle.gather.proofs.GatherLaws.{member-is}
 
-module _ {size : ℕ} {t : List ℕ} {lo hi depth key : ℕ} {first end : List ℕ} {present : ℕ} (g : Gathered size t lo hi depth key first end present) where
+module _ {size : ℕ} {t : List ℕ} {lo hi depth key : ℕ} {first end : List ℕ} {present : ℕ}
+    (g : Gathered size t lo hi depth key first end present) where
   -- A place stands strictly below a marked position exactly when a route of the node stands above it.
   under-is : (l j : ℕ) → l ≤ 5 → j < 2 ^ l → under present l j ≡ memberOver wide (slotSize depth) key (run size t lo hi) l j
   unfolding under memberOver

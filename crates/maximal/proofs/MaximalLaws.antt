@@ -174,13 +174,13 @@ pub record Opened (size : ℕ) (t : List ℕ) (lo hi depth key : ℕ) (first end
   pub chosen : (c : ℕ) → c < 32 → bit walked c ≡ (bit occupied c && not (bit under c))
 
 -- A member of the node stands above slot c, or else the slot has no record.
-abbrev Passed : List ℕ → ℕ → ℕ → ℕ → ℕ → List ℕ → List ℕ → ℕ → Type 0
+abbrev Passed : ℕ → List ℕ → ℕ → ℕ → ℕ → ℕ → List ℕ → List ℕ → ℕ → Type 0
 Passed size t lo hi depth key first end c =
     (memberOver wide (slotSize depth) key (run size t lo hi) 5 c ≡ true)
     ⊎ ((memberOver wide (slotSize depth) key (run size t lo hi) 5 c ≡ false) × (getD end (31 + c) 0 ≤ getD first (31 + c) 0))
 
 module _ {size : ℕ} {t : List ℕ} {lo hi depth key : ℕ} {first end : List ℕ} {present under walked : ℕ}
-    (s : Opened t lo hi depth key first end present under walked) (c : ℕ) (lt : c < 32) where
+    (s : Opened size t lo hi depth key first end present under walked) (c : ℕ) (lt : c < 32) where
   -- A slot that is walked has a record,
   pub walked-has : bit walked c ≡ true → getD first (31 + c) 0 < getD end (31 + c) 0
   walked-has e = slot-occupied (s .gathered) (s .occupied) (s .filled) c lt (go (bit (s .occupied) c) (bit under c) (sym (s .chosen c lt) ∙ e))
@@ -258,8 +258,8 @@ module _ {size : ℕ} {t : List ℕ} {lo hi depth key : ℕ} {first end : List �
 
 -- What the walk lists of slot c, where the word says which slots are below a covered position of the node, and `above` whether one above the
 -- node is covered.
-abbrev pub maximalSlot : List ℕ → ℕ → ℕ → Bool → List ℕ → List ℕ → ℕ → ℕ → List Route
-maximalSlot t depth key above first end pushed c =
+abbrev pub maximalSlot : ℕ → List ℕ → ℕ → ℕ → Bool → List ℕ → List ℕ → ℕ → ℕ → List Route
+maximalSlot size t depth key above first end pushed c =
     maximalWalk (runAt size t first end (31 + c)) (slotSize depth) (placeAt (slotSize depth) key 5 c) (above || bit pushed c)
 
 module _ {size : ℕ} {t : List ℕ} {lo hi depth key : ℕ} {first end : List ℕ} {present : ℕ} (n : Node size t lo hi depth key)
@@ -320,7 +320,7 @@ module _ {size : ℕ} {t : List ℕ} {lo hi depth key : ℕ} {first end : List �
 
     -- The walk of a slot reads the slot's records only: below a covered position it lists nothing, and else no route stands above the slot.
     slot-walk : (c : ℕ) → c < 32
-        → maximalWalk (run size t lo hi) (slotSize depth) (placeAt (slotSize depth) key 5 c) (state 5 c) ≡ maximalSlot t depth key above first end pushed c
+        → maximalWalk (run size t lo hi) (slotSize depth) (placeAt (slotSize depth) key 5 c) (state 5 c) ≡ maximalSlot size t depth key above first end pushed c
     slot-walk c lt = rw (marked-is c lt) (go (above || bit pushed c) refl)
       where
         place : ℕ
@@ -343,30 +343,30 @@ module _ {size : ℕ} {t : List ℕ} {lo hi depth key : ℕ} {first end : List �
     -- The walk through the node, by the words of the code.
     pub maximal-slots : {entries : ℕ} → Entries above cov entries → (hops : List ℕ) → ((b : ℕ) → b < 31 → getD hops b 0 ≡ 0)
         → maximalWalk (run size t lo hi) (wide - depth) key above
-        ≡ slots (entryAt entries hops depth key) (maximalSlot t depth key above first end pushed) 32
+        ≡ slots (entryAt entries hops depth key) (maximalSlot size t depth key above first end pushed) 32
     maximal-slots {entries} e hops bare =
         let bits-below : wide - depth ≡ slotSize depth + 5 = omega (arith, n .at .deep) in
         rw bits-below (walk-slots (maximalOut wide (held wide (run size t lo hi))) (maximalNext (held wide (run size t lo hi))) (slotSize depth) key above
         ∙ slots-agree 5 _ (entryAt entries hops depth key) (λ l j lt small. sym (entry-is e hops bare l j (omega arith) small)) _ _ slot-walk 32 (le-refl 32))
 
     -- It lists nothing in a slot without records, nor in one below a member.
-    pub no-child-slot : (c : ℕ) → c < 32 → getD end (31 + c) 0 ≤ getD first (31 + c) 0 → maximalSlot t depth key above first end pushed c ≡ []
+    pub no-child-slot : (c : ℕ) → c < 32 → getD end (31 + c) 0 ≤ getD first (31 + c) 0 → maximalSlot size t depth key above first end pushed c ≡ []
     no-child-slot c lt none =
         ap (λ (rs : List Route). maximalWalk rs (slotSize depth) (placeAt (slotSize depth) key 5 c) (above || bit pushed c))
         (slot-records g c lt ∙ no-child g c lt none)
         ∙ maximal-none (slotSize depth) (placeAt (slotSize depth) key 5 c) (above || bit pushed c)
 
     pub below-member-slot : (c : ℕ) → c < 32 → memberOver wide (slotSize depth) key (run size t lo hi) 5 c ≡ true
-        → maximalSlot t depth key above first end pushed c ≡ []
+        → maximalSlot size t depth key above first end pushed c ≡ []
     below-member-slot c lt m =
         rw (marked-over c lt m) (maximal-covered wide (held wide (runAt size t first end (31 + c))) (slotSize depth) (placeAt (slotSize depth) key 5 c))
 
 -- So it lists nothing in a slot that is not walked.
 pub passed-nothing : {size : ℕ} {t : List ℕ} {lo hi depth key : ℕ} {first end : List ℕ} {present under walked : ℕ}
-    → (s : Opened t lo hi depth key first end present under walked) {cov : ℕ} → IsCoverage (slotSize depth) key (run size t lo hi) cov → (above : Bool) (pushed : ℕ)
-    → PushedSlots cov pushed → (c : ℕ) → c < 32 → bit walked c ≡ false → maximalSlot t depth key above first end pushed c ≡ []
-passed-nothing {t} {lo} {hi} {depth} {key} {first} {end} s is above pushed f c lt e = go (passed-is s c lt e)
+    → (s : Opened size t lo hi depth key first end present under walked) {cov : ℕ} → IsCoverage (slotSize depth) key (run size t lo hi) cov → (above : Bool) (pushed : ℕ)
+    → PushedSlots cov pushed → (c : ℕ) → c < 32 → bit walked c ≡ false → maximalSlot size t depth key above first end pushed c ≡ []
+passed-nothing {size} {t} {lo} {hi} {depth} {key} {first} {end} s is above pushed f c lt e = go (passed-is s c lt e)
   where
-    go : Passed size t lo hi depth key first end c → maximalSlot t depth key above first end pushed c ≡ []
+    go : Passed size t lo hi depth key first end c → maximalSlot size t depth key above first end pushed c ≡ []
     go (inl m) = below-member-slot (s .node) (s .gathered) is above pushed f c lt m
     go (inr (m, none)) = no-child-slot (s .node) (s .gathered) is above pushed f c lt none

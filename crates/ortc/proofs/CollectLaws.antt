@@ -60,7 +60,8 @@ pub record Collecting (f : ℕ → Answer) (covering : List ℕ) (fill depth key
   pub laid : SlotsLaid 160 (Block (setWords f) (nodesDeep (depth + 5))) (nodesBelow (nodesDeep (depth + 5))) (slotSize depth) key t c top at o o′
 
 -- Before the last slot.
-pub collecting-start : {size : ℕ} {t : List ℕ} {lo hi depth key : ℕ} (f : ℕ → Answer) (covering : List ℕ) (fill top : ℕ) (slots o : List ℕ) → Node size t lo hi depth key
+pub collecting-start : {size : ℕ} {t : List ℕ} {lo hi depth key : ℕ} (f : ℕ → Answer) (covering : List ℕ) (fill top : ℕ) (slots o : List ℕ)
+    → Node size t lo hi depth key
     → 160 * nodesBelow (nodesDeep depth) key (run size t lo hi) ≤ top → length slots ≡ 63
     → ((i : ℕ) → i < 32 → ShowsSet (getD slots (31 + i) 0) (leafAt covering fill i))
     → Collecting f covering fill depth key (run size t lo hi) 32 top top slots o o
@@ -177,7 +178,8 @@ module _ {size : ℕ} {t : List ℕ} {lo hi depth key : ℕ} {first end : List �
         bits-below = omega (arith, n .at .deep)
 
 -- After the first slot the node's own words are laid.
-pub collecting-end : {size : ℕ} {t : List ℕ} {lo hi depth key : ℕ} {f : ℕ → Answer} {covering : List ℕ} {fill top at r : ℕ} {slots xs o o₁ o₂ : List ℕ} → Node size t lo hi depth key
+pub collecting-end : {size : ℕ} {t : List ℕ} {lo hi depth key : ℕ} {f : ℕ → Answer} {covering : List ℕ} {fill top at r : ℕ}
+    {slots xs o o₁ o₂ : List ℕ} → Node size t lo hi depth key
     → Collecting f covering fill depth key (run size t lo hi) 0 top at slots o o₁ → top ≤ length o
     → ShowsNode f (slotSize depth) key xs → Pushed (packed xs) at r o₁ o₂
     → ShowsSet (getD xs 0 0) (sets f (wide - depth) key) × Laid (setWords f) (nodesDeep depth) key (run size t lo hi) top r o o₂

@@ -62,7 +62,8 @@ module _ (choose : List ℕ → ℕ) (f : ℕ → Answer) (m a : ℕ) (g : Answe
 -- ---- A region without routes.
 
 -- Its rewrite is one entry at most, by the hop that covers it or else fills.
-pub leaf-rewrite : (choose : List ℕ → ℕ) → Chooses choose → (size : ℕ) (t : List ℕ) (lo hi depth key covering fill hop above : ℕ) → hi ≤ lo → depth ≤ wide → hop ≤ noHop → above ≤ noHop
+pub leaf-rewrite : (choose : List ℕ → ℕ) → Chooses choose → (size : ℕ) (t : List ℕ) (lo hi depth key covering fill hop above : ℕ) → hi ≤ lo
+    → depth ≤ wide → hop ≤ noHop → above ≤ noHop
     → hopOf hop ≡ orElse (hopOf covering) (hopOf fill)
     → ortc choose wide (answerIn (run size t lo hi) (hopOf covering) (hopOf fill)) (wide - depth) key (hopOf above) ≡ entryOver key depth hop above
 leaf-rewrite choose law size t lo hi depth key covering fill hop above none deep hop-low above-low e =
@@ -96,7 +97,8 @@ slotRewrite choose size t first end covering hops depth key fill c =
     (wide - (depth + 5)) (placeAt (slotSize depth) key 5 c) (hopOf (getD hops (15 + c / 2) 0))
 
 -- One without records lists nothing where no entry of its own is marked.
-leaf-none : (choose : List ℕ → ℕ) → Chooses choose → (size : ℕ) (t first end covering hops : List ℕ) (depth key fill leaves : ℕ) → LeafSlots covering hops fill leaves → depth ≤ 60 → fill ≤ noHop
+leaf-none : (choose : List ℕ → ℕ) → Chooses choose → (size : ℕ) (t first end covering hops : List ℕ) (depth key fill leaves : ℕ)
+    → LeafSlots covering hops fill leaves → depth ≤ 60 → fill ≤ noHop
     → (c : ℕ) → c < 32 → getD end (31 + c) 0 ≤ getD first (31 + c) 0 → getD covering (15 + c / 2) 0 ≤ noHop → getD hops (15 + c / 2) 0 ≤ noHop
     → bit leaves c ≡ false → slotRewrite choose size t first end covering hops depth key fill c ≡ []
 leaf-none choose law size t first end covering hops depth key fill leaves marks deep fill-low c lt none covers-low hops-low clear =
@@ -108,7 +110,8 @@ leaf-none choose law size t first end covering hops depth key fill leaves marks 
 
 -- What is found of a node before its slots are walked: the records of its places, what covers them and what they are assigned, its rewrite by its
 -- slots, and the slots that are busy.
-pub record Opened (choose : List ℕ → ℕ) (size : ℕ) (t : List ℕ) (lo hi depth key inherited fill above : ℕ) (work : List ℕ) (top : ℕ) (first end covering hops : List ℕ)
+pub record Opened (choose : List ℕ → ℕ) (size : ℕ) (t : List ℕ) (lo hi depth key inherited fill above : ℕ) (work : List ℕ) (top : ℕ)
+    (first end covering hops : List ℕ)
     (entries busy : ℕ) : Type 0 where
   pub node : Node size t lo hi depth key
   pub present : ℕ
@@ -127,12 +130,14 @@ AheadIn size t lo hi depth key inherited fill top o c at =
     Ahead everywhere (setWords (answerIn (run size t lo hi) (hopOf inherited) (hopOf fill))) (run size t lo hi) depth key top o c at
 
 -- What the walk over its slots has done before slot c: it has written those before it, and read their blocks.
-pub record Walking (choose : List ℕ → ℕ) (size : ℕ) (t : List ℕ) (lo hi depth key inherited fill above : ℕ) (work : List ℕ) (top : ℕ) (first end covering hops : List ℕ) (entries : ℕ)
+pub record Walking (choose : List ℕ → ℕ) (size : ℕ) (t : List ℕ) (lo hi depth key inherited fill above : ℕ) (work : List ℕ) (top : ℕ)
+    (first end covering hops : List ℕ) (entries : ℕ)
     (c at n : ℕ) (out₀ out : List ℕ) : Type 0 where
   pub walked : Walked size entries hops depth key (slotRewrite choose size t first end covering hops depth key fill) c n out₀ out
   pub ahead : AheadIn size t lo hi depth key inherited fill top work c at
 
-module _ (choose : List ℕ → ℕ) (law : Chooses choose) {size : ℕ} {t : List ℕ} {lo hi depth key : ℕ} {first end : List ℕ} {present : ℕ} (n : Node size t lo hi depth key)
+module _ (choose : List ℕ → ℕ) (law : Chooses choose) {size : ℕ} {t : List ℕ} {lo hi depth key : ℕ} {first end : List ℕ} {present : ℕ}
+    (n : Node size t lo hi depth key)
     (g : Gathered size t lo hi depth key first end present) (inherited fill above : ℕ) (inherited-low : inherited ≤ noHop) (fill-low : fill ≤ noHop)
     (above-low : above ≤ noHop) where
   -- By what the passes over the node find.
@@ -200,7 +205,8 @@ module _ (choose : List ℕ → ℕ) (law : Chooses choose) {size : ℕ} {t : Li
 
 -- ---- The loop over the slots.
 
-module _ {choose : List ℕ → ℕ} {size : ℕ} {t : List ℕ} {lo hi depth key inherited fill above : ℕ} {work : List ℕ} {top : ℕ} {first end covering hops : List ℕ} {entries busy : ℕ}
+module _ {choose : List ℕ → ℕ} {size : ℕ} {t : List ℕ} {lo hi depth key inherited fill above : ℕ} {work : List ℕ} {top : ℕ}
+    {first end covering hops : List ℕ} {entries busy : ℕ}
     (q : Opened choose size t lo hi depth key inherited fill above work top first end covering hops entries busy) where
   -- The room is read up to the blocks of the slots.
   pub walking-start : (at : ℕ) (out : List ℕ) → ((xs : List ℕ) → Begins (packed xs) top work → at ≡ top + length (packed xs))
@@ -246,7 +252,8 @@ module _ {choose : List ℕ → ℕ} {size : ℕ} {t : List ℕ} {lo hi depth ke
   walking-on b h = record { walked = walked-next (q .quiet) b (h .walked); ahead = ahead-past (q .quiet) b (h .ahead) }
 
   -- The node's rewrite has at most one entry more than the node has records.
-  pub opened-most : Chooses choose → length (slots (entryAt entries hops depth key) (slotRewrite choose size t first end covering hops depth key fill) 32) ≤ (hi - lo) + 1
+  pub opened-most : Chooses choose
+      → length (slots (entryAt entries hops depth key) (slotRewrite choose size t first end covering hops depth key fill) 32) ≤ (hi - lo) + 1
   opened-most law =
       let bits-below : wide - depth ≡ slotSize depth + 5 = omega (arith, q .node .at .deep) in
       omega (

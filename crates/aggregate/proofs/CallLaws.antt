@@ -99,14 +99,14 @@ module _ (form : Form) (s : Bool) (t : List ℕ) (k : ℕ) (valid : checkReplyIn
   pub checked-node : Bytes t → Node (sizeOf form) t 0 (recordsIn (sizeOf form) t) 0 0
   checked-node bytes =
       let lawful = checked-lawful form s t k valid bytes in
-      root-node (sizeOf form) (form-size form) t (lawful .table) (hops-below s (lawful .hops))
+      root-node (sizeOf form) t (form-size form) (lawful .table) (hops-below s (lawful .hops))
 
 -- The walks can begin.
 pub ready : (size : ℕ) → IsSize size → (mode : ℕ) (t : List ℕ) → LawfulIn size (takesSet mode) (routesIn size t) → Ready size t mode
 ready size is mode t lawful =
     record {
       few = omega (arith, lawful .few, in-length-routes size t);
-      node = root-node size is t (lawful .table) (hops-below (takesSet mode) (lawful .hops));
+      node = root-node size t is (lawful .table) (hops-below (takesSet mode) (lawful .hops));
       bare = λ e. rw (root-run size t) (all-widen (spare size) (λ r h. h) (set-hops (rw e at (lawful .hops))));
     }
 

@@ -17,7 +17,7 @@ use Rattle.theory.proofs.Agree.{ortc-agree}
 use Rattle.theory.proofs.Ranks.{lowest-chooses}
 use Rattle.theory.proofs.Lengths.{most-of, result-length}
 use Rattle.records.specs.Sized.{IsSize, widthIn, recordsIn, routesIn, bytesIn}
-use Rattle.records.proofs.SizedReading.{width-most, in-length-routes}
+use Rattle.records.proofs.SizedReading.{in-length-routes}
 use Rattle.positions.specs.Runs.{noHop, hopOf, orElse}
 use Rattle.positions.specs.Walk.{walk}
 use Rattle.positions.specs.Walks.{maximalOut, maximalNext, consistentMapOut, consistentMapNext}
@@ -28,7 +28,7 @@ use Rattle.nodes.specs.Node.{wide, spare}
 use Rattle.nodes.specs.Output.{wireOf, Wrote}
 use Rattle.nodes.specs.Room.{LaidBy, StoredBy}
 use Rattle.gather.proofs.GatherLaws.{root-run}
-use Rattle.nodes.proofs.OutputLaws.{wrote-whole, wrote-count}
+use Rattle.nodes.proofs.OutputLaws.{width-spare, wrote-whole, wrote-count}
 use Rattle.nodes.proofs.RoomLaws.{pushed-begins}
 use Rattle.assign.specs.Answers.{answerIn}
 use Rattle.calls.specs.Rewriting.{modeOf, resultOf}
@@ -42,9 +42,8 @@ module _ (size : ℕ) (is : IsSize size) (t : List ℕ) (mode fill : ℕ) (ranks
   pub wide-is : narrowed (spare size) (wideResult (lowest ranks) size t mode fill) ≡ resultOf size t mode fill ranks
   unfolding wideResult resultOf
   wide-is =
-      let e : wide ≡ widthIn size + spare size = omega (arith, width-most size is) in
       ap (λ (u : List Route). narrowed (spare size) (result (lowest ranks) wide (modeOf mode fill) u)) (root-run size t)
-      ∙ ap (λ (w : ℕ). narrowed (spare size) (result (lowest ranks) w (modeOf mode fill) (widened (spare size) (routesIn size t)))) e
+      ∙ ap (λ (w : ℕ). narrowed (spare size) (result (lowest ranks) w (modeOf mode fill) (widened (spare size) (routesIn size t)))) (sym (width-spare size is))
       ∙ result-narrow (lowest ranks) (lowest-chooses ranks) (widthIn size) (spare size) (modeOf mode fill) valid
 
   -- So it has as many routes,

@@ -35,21 +35,24 @@ module _ (form : Form) (ranks : List ℕ) (t : List ℕ) (bytes : Bytes t) (o : 
 
   -- Mode 4: exactly when they send all addresses the same way, no route included.
   pub same-bytes-drop : (d e : ℕ) → Rewrites form t 4 d ranks o words (Records count change) o′ w′ → Rewrites form s 4 e ranks p space (Records number other) p′ v′
-      → take (sizeOf form * count) o′ ≡ take (sizeOf form * number) p′ ↔ Alike (widthIn (sizeOf form)) (answer (widthIn (sizeOf form)) (routesIn (sizeOf form) t)) (answer (widthIn (sizeOf form)) (routesIn (sizeOf form) s))
+      → take (sizeOf form * count) o′ ≡ take (sizeOf form * number) p′
+      ↔ Alike (widthIn (sizeOf form)) (answer (widthIn (sizeOf form)) (routesIn (sizeOf form) t)) (answer (widthIn (sizeOf form)) (routesIn (sizeOf form) s))
   same-bytes-drop d e a b =
       drop-by form ranks (one 4 d) t bytes o count change o′ (two 4 e) s small p number other p′ d e
       (rewrite-guarded form t 4 d ranks (length o) words) (a .inner) (rewrite-guarded form s 4 e ranks (length p) space) (b .inner)
 
   -- Mode 5, at one default: exactly when they do once unrouted addresses have the default.
   pub same-bytes-fill : (d : ℕ) → Rewrites form t 5 d ranks o words (Records count change) o′ w′ → Rewrites form s 5 d ranks p space (Records number other) p′ v′
-      → take (sizeOf form * count) o′ ≡ take (sizeOf form * number) p′ ↔ Alike (widthIn (sizeOf form)) (filled d (answer (widthIn (sizeOf form)) (routesIn (sizeOf form) t))) (filled d (answer (widthIn (sizeOf form)) (routesIn (sizeOf form) s)))
+      → take (sizeOf form * count) o′ ≡ take (sizeOf form * number) p′
+      ↔ Alike (widthIn (sizeOf form)) (filled d (answer (widthIn (sizeOf form)) (routesIn (sizeOf form) t))) (filled d (answer (widthIn (sizeOf form)) (routesIn (sizeOf form) s)))
   same-bytes-fill d a b =
       fill-by form ranks (one 5 d) t bytes o count change o′ (two 5 d) s small p number other p′ d
       (rewrite-guarded form t 5 d ranks (length o) words) (a .inner) (rewrite-guarded form s 5 d ranks (length p) space) (b .inner)
 
   -- Mode 1: exactly when they hold the same addresses.
   pub same-bytes-set : (d e : ℕ) → Rewrites form t 1 d ranks o words (Records count change) o′ w′ → Rewrites form s 1 e ranks p space (Records number other) p′ v′
-      → take (sizeOf form * count) o′ ≡ take (sizeOf form * number) p′ ↔ ((x : ℕ) → x < 2 ^ widthIn (sizeOf form) → held (widthIn (sizeOf form)) (routesIn (sizeOf form) t) x ≡ held (widthIn (sizeOf form)) (routesIn (sizeOf form) s) x)
+      → take (sizeOf form * count) o′ ≡ take (sizeOf form * number) p′
+      ↔ ((x : ℕ) → x < 2 ^ widthIn (sizeOf form) → held (widthIn (sizeOf form)) (routesIn (sizeOf form) t) x ≡ held (widthIn (sizeOf form)) (routesIn (sizeOf form) s) x)
   same-bytes-set d e a b =
       set-by form ranks (one 1 d) t bytes o count change o′ (two 1 e) s small p number other p′ d e
       (rewrite-guarded form t 1 d ranks (length o) words) (a .inner) (rewrite-guarded form s 1 e ranks (length p) space) (b .inner)
@@ -79,7 +82,8 @@ module _ (form : Form) (t : List ℕ) (bytes : Bytes t) (mode default : ℕ) (ra
       (rewriteRules form (take (sizeOf form * count) o′) mode default ranks (length p) space) p (rewrite-guarded form (take (sizeOf form * count) o′) mode default ranks (length p) space) r p′ (b .inner)
 
   -- And they are not refused where they are at most 1,024, the room is enough for their nodes and the output for them.
-  pub again-answered : count ≤ 1024 → (p : List ℕ) (space : ℕ) → sizeOf form * count ≤ length p → 160 * nodes (widthIn (sizeOf form)) (routesIn (sizeOf form) (take (sizeOf form * count) o′)) ≤ space
+  pub again-answered : count ≤ 1024 → (p : List ℕ) (space : ℕ) → sizeOf form * count ≤ length p
+      → 160 * nodes (widthIn (sizeOf form)) (routesIn (sizeOf form) (take (sizeOf form * count) o′)) ≤ space
       → None (RewriteCondition form (take (sizeOf form * count) o′) mode default ranks (length p) space)
   again-answered few p space fits room =
       answerable-exactly form (take (sizeOf form * count) o′) mode default ranks (length p) space .1

@@ -1,7 +1,7 @@
 -- Laws for the proof of any engine's rewrite: the rules 1, 2, 15 and 3 to 8 judged one after the other, the mode and the default, what a table that was checked is good
 -- for, the most records of a result, and the end of a rewrite. Assumes nothing.
 use Prim.Native.Nat.{ℕ, zero, suc, _+_, _-_, _*_, _/_, _^_, _≤_, _<_}
-use mathlib.Core.Path.{_≡_, refl, sym, ap, _∙_}
+use mathlib.Core.Path.{_≡_, refl, sym, ap, subst, _∙_}
 use mathlib.Core.Bool.{Bool, true, false, not, cond, _||_}
 use mathlib.Core.List.{List, _∷_, _++_}
 use mathlib.Core.Logic.{inl, inr}
@@ -91,6 +91,11 @@ module _ (size : ℕ) (rules : List Rule) (t : List ℕ) (mode default : ℕ) (r
   finished-by e f =
       record { answer = f .answer ∙ sym (ap (writtenOf (recordsIn size t)) e); output = f .output ∙ sym (ap (outputOf size o) e) }
 
+-- What is finished at a size that is the form's is finished at the form's.
+pub finished-in : {size n : ℕ} {t : List ℕ} {mode fill : ℕ} {ranks o : List ℕ} {r : Rewritten} {o′ : List ℕ} → size ≡ n → Finished size t mode fill ranks o r o′
+    → Finished n t mode fill ranks o r o′
+finished-in {t = t} {mode} {fill} {ranks} {o} {r} {o′} e = subst (λ (k : ℕ). Finished k t mode fill ranks o r o′) e
+
 -- ---- The mode and the default.
 
 -- What holds of the mode of each number in use holds of the number's mode.
@@ -150,7 +155,8 @@ module _ (form : Form) (s : Bool) (t : List ℕ) (k : ℕ) (valid : checkReplyIn
 -- ---- The end of a rewrite.
 
 -- The result has no more records than the table, in mode 5 no more than one more.
-pub result-most : (size : ℕ) (t : List ℕ) (mode fill : ℕ) (ranks : List ℕ) {before most : ℕ} → InUse mode → Table (widthIn size) (routesIn size t) → before ≡ recordsIn size t
+pub result-most : (size : ℕ) (t : List ℕ) (mode fill : ℕ) (ranks : List ℕ) {before most : ℕ} → InUse mode → Table (widthIn size) (routesIn size t)
+    → before ≡ recordsIn size t
     → (mode ≡ 5 → most ≡ before + 1) × ((mode ≡ 5 → ⊥) → most ≡ before) → length (resultOf size t mode fill ranks) ≤ most
 unfolding resultOf
 result-most size t mode fill ranks {most = most} used table count at =
@@ -193,7 +199,7 @@ too-short size (inl e) room n h = let g : room / 8 < n = rw e at h in rw e (omeg
 too-short size (inr e) room n h = let g : room / 16 < n = rw e at h in rw e (omega arith)
 
 -- and enough are enough.
-long-enough : (size : ℕ) → IsSize size → (room n : ℕ) → n ≤ room / size → size * n ≤ room
+pub long-enough : (size : ℕ) → IsSize size → (room n : ℕ) → n ≤ room / size → size * n ≤ room
 long-enough size (inl e) room n h = let g : n ≤ room / 8 = rw e at h in rw e (omega arith)
 long-enough size (inr e) room n h = let g : n ≤ room / 16 = rw e at h in rw e (omega arith)
 
@@ -201,15 +207,19 @@ module _ (size : ℕ) (is : IsSize size) (t : List ℕ) (mode fill : ℕ) (ranks
   -- Number 11: the output has no room for so many records.
   pub finished-refused : length o / size < length (resultOf size t mode fill ranks) → Finished size t mode fill ranks o (Refused 11 0) o
   finished-refused h =
-      let e : lastReply size t mode fill ranks (length o) ≡ refuses 11 0 = broken-here _ 11 0 _ (lt-leb (size * length (resultOf size t mode fill ranks)) (length o) (too-short size is (length o) (length (resultOf size t mode fill ranks)) h)) in
+      let e : lastReply size t mode fill ranks (length o) ≡ refuses 11 0 =
+      broken-here _ 11 0 _
+      (lt-leb (size * length (resultOf size t mode fill ranks)) (length o) (too-short size is (length o) (length (resultOf size t mode fill ranks)) h)) in
       record { answer = sym (ap (writtenOf (recordsIn size t)) e); output = sym (ap (outputOf size o) e) }
 
   -- It has, and they are written.
-  pub finished-written : {k : ℕ} {change : ℤ} {o′ : List ℕ} → k ≡ length (resultOf size t mode fill ranks) → k ≤ length o / size → change ≡ pos k -ℤ pos (recordsIn size t)
+  pub finished-written : {k : ℕ} {change : ℤ} {o′ : List ℕ} → k ≡ length (resultOf size t mode fill ranks) → k ≤ length o / size
+      → change ≡ pos k -ℤ pos (recordsIn size t)
       → o′ ≡ bytesIn size (resultOf size t mode fill ranks) ++ drop (size * k) o → Finished size t mode fill ranks o (Records k change) o′
   unfolding judge
   finished-written {k} {change} {o′} count fits differ wrote =
-      let e : lastReply size t mode fill ranks (length o) ≡ gives (resultOf size t mode fill ranks) = rw (le-leb (size * length (resultOf size t mode fill ranks)) (length o) (long-enough size is (length o) (length (resultOf size t mode fill ranks)) (omega arith))) in
+      let e : lastReply size t mode fill ranks (length o) ≡ gives (resultOf size t mode fill ranks) =
+      rw (le-leb (size * length (resultOf size t mode fill ranks)) (length o) (long-enough size is (length o) (length (resultOf size t mode fill ranks)) (omega arith))) in
       record {
         answer = rw (differ, count) (sym (ap (writtenOf (recordsIn size t)) e));
         output = wrote ∙ rw count (sym (ap (outputOf size o) e));

@@ -34,7 +34,8 @@ use Rattle.calls.specs.Rewriting.{InUse, modeOf, resultOf, takesSet, Wri
 use Rattle.calls.proofs.Settled.{rewritten-same}
 
 -- A reply that is said with records gives the result.
-reply-result : (size : ℕ) (rules : List Rule) (t : List ℕ) (mode default : ℕ) (ranks : List ℕ) (before : ℕ) {w : Written} → writtenOf before (replyBy size rules t mode default ranks) ≡ gives w
+reply-result : (size : ℕ) (rules : List Rule) (t : List ℕ) (mode default : ℕ) (ranks : List ℕ) (before : ℕ) {w : Written}
+    → writtenOf before (replyBy size rules t mode default ranks) ≡ gives w
     → replyBy size rules t mode default ranks ≡ gives (resultOf size t mode default ranks)
 unfolding replyBy
 reply-result size rules t mode default ranks before e = go (judge rules (resultOf size t mode default ranks)) refl e
@@ -87,7 +88,8 @@ module _ {Holds : ℕ → ℕ → Type 0} (size : ℕ) (rules : List Rule) (test
     )
 
 -- A refusal leaves the output as it was, and has count 0 and change 0.
-pub by-untouched : (size : ℕ) (rules : List Rule) (t : List ℕ) (mode default : ℕ) (ranks o : List ℕ) (r : Rewritten) (o′ : List ℕ) → RewritesBy size rules t mode default ranks o r o′
+pub by-untouched : (size : ℕ) (rules : List Rule) (t : List ℕ) (mode default : ℕ) (ranks o : List ℕ) (r : Rewritten) (o′ : List ℕ)
+    → RewritesBy size rules t mode default ranks o r o′
     → (number index : ℕ) → r ≡ Refused number index → (o′ ≡ o) × (countOf r ≡ 0) × (changeOf r ≡ pos 0)
 by-untouched size rules t mode default ranks o r o′ ok number index e =
     let f = says-refuses (recordsIn size t) (replyBy size rules t mode default ranks) (sym (ok .answer) ∙ ap rewrittenSays e) in
@@ -113,7 +115,8 @@ module _ (form : Form) (rules : List Rule) (t : List ℕ) (mode default : ℕ) (
     (ok : RewritesBy (sizeOf form) rules t mode default ranks o r o′) where
   -- ---- Demand 2.
   -- An answer with records says that the reply is the result.
-  pub by-reply : (count : ℕ) (change : ℤ) → r ≡ Records count change → replyBy (sizeOf form) rules t mode default ranks ≡ gives (resultOf (sizeOf form) t mode default ranks)
+  pub by-reply : (count : ℕ) (change : ℤ) → r ≡ Records count change
+      → replyBy (sizeOf form) rules t mode default ranks ≡ gives (resultOf (sizeOf form) t mode default ranks)
   by-reply count change e = reply-result (sizeOf form) rules t mode default ranks (recordsIn (sizeOf form) t) (sym (ok .answer) ∙ ap rewrittenSays e)
 
   -- It is the number of the result's records and the change, and the output has them from its start.
@@ -156,7 +159,8 @@ module _ (form : Form) (rules : List Rule) (t : List ℕ) (mode default : ℕ) (
         let f = by-records count change answered in
         let n : sizeOf form * count ≡ sizeOf form * length (resultOf (sizeOf form) t mode default ranks) = ap (λ (m : ℕ). sizeOf form * m) (f .1) in
         rw (n, f .3)
-        (take-at (bytesIn (sizeOf form) (resultOf (sizeOf form) t mode default ranks)) (drop (sizeOf form * length (resultOf (sizeOf form) t mode default ranks)) o) (sizeOf form * length (resultOf (sizeOf form) t mode default ranks))
+        (take-at (bytesIn (sizeOf form) (resultOf (sizeOf form) t mode default ranks))
+        (drop (sizeOf form * length (resultOf (sizeOf form) t mode default ranks)) o) (sizeOf form * length (resultOf (sizeOf form) t mode default ranks))
         (in-length-bytes (sizeOf form) (form-size form) (resultOf (sizeOf form) t mode default ranks)))
 
     module _ (bytes : Bytes t) where
@@ -171,12 +175,14 @@ module _ (form : Form) (rules : List Rule) (t : List ℕ) (mode default : ℕ) (
       by-table = result-table (lowest ranks) (lowest-chooses ranks) (widthIn (sizeOf form)) (modeOf mode default) (by-lawful .table)
 
       -- What is written reads back as the result.
-      pub by-reads : routesIn (sizeOf form) (take (sizeOf form * count) o′) ≡ result (lowest ranks) (widthIn (sizeOf form)) (modeOf mode default) (routesIn (sizeOf form) t)
+      pub by-reads : routesIn (sizeOf form) (take (sizeOf form * count) o′)
+          ≡ result (lowest ranks) (widthIn (sizeOf form)) (modeOf mode default) (routesIn (sizeOf form) t)
       unfolding resultOf
       by-reads = ap (routesIn (sizeOf form)) by-written ∙ in-routes-bytes (sizeOf form) (form-size form) (resultOf (sizeOf form) t mode default ranks) (by-table .valid)
 
       -- And says of each address what is demanded of its mode: the sets hold it alike, the maps answer it alike, fill gives the unrouted the default.
-      pub by-keeps : (x : ℕ) → x < 2 ^ widthIn (sizeOf form) → Keeps (widthIn (sizeOf form)) (modeOf mode default) (routesIn (sizeOf form) t) (routesIn (sizeOf form) (take (sizeOf form * count) o′)) x
+      pub by-keeps : (x : ℕ) → x < 2 ^ widthIn (sizeOf form)
+          → Keeps (widthIn (sizeOf form)) (modeOf mode default) (routesIn (sizeOf form) t) (routesIn (sizeOf form) (take (sizeOf form * count) o′)) x
       by-keeps x lt =
           subst (λ (s : List Route). Keeps (widthIn (sizeOf form)) (modeOf mode default) (routesIn (sizeOf form) t) s x) (sym by-reads)
           (result-keeps (lowest ranks) (lowest-chooses ranks) (widthIn (sizeOf form)) (modeOf mode default) (by-lawful .table) x lt)
@@ -232,7 +238,8 @@ module _ (form : Form) (rules : List Rule) (t : List ℕ) (mode default : ℕ) (
 
 -- Rewritten again in their mode and under the same ranks, by the same engine or another and without refusal, the records of an output are given back with change 0: as many records,
 -- and the same bytes from the output's start.
-pub again-by : (form : Form) (rules : List Rule) (t : List ℕ) (mode default : ℕ) (ranks o : List ℕ) → Guarded form rules t mode default ranks (length o) → (count : ℕ) (change : ℤ) (o′ : List ℕ)
+pub again-by : (form : Form) (rules : List Rule) (t : List ℕ) (mode default : ℕ) (ranks o : List ℕ) → Guarded form rules t mode default ranks (length o)
+    → (count : ℕ) (change : ℤ) (o′ : List ℕ)
     → RewritesBy (sizeOf form) rules t mode default ranks o (Records count change) o′ → Bytes t
     → (more : List Rule) (p : List ℕ) → Guarded form more (take (sizeOf form * count) o′) mode default ranks (length p) → (q : Rewritten) (p′ : List ℕ)
     → RewritesBy (sizeOf form) more (take (sizeOf form * count) o′) mode default ranks p q p′
@@ -267,27 +274,32 @@ module _ (form : Form) (ranks : List ℕ) (rules : List Rule) (t : List ℕ) (by
       let k = by-written form more s mode e ranks p h (Records number other) p′ b number other refl in
       let u = by-table form rules t mode d ranks o g (Records count change) o′ a count change refl bytes .valid in
       let v = by-table form more s mode e ranks p h (Records number other) p′ b number other refl small .valid in (
-        λ q. sym (in-routes-bytes (sizeOf form) (form-size form) (resultOf (sizeOf form) t mode d ranks) u) ∙ ap (routesIn (sizeOf form)) (sym f ∙ q ∙ k) ∙ in-routes-bytes (sizeOf form) (form-size form) (resultOf (sizeOf form) s mode e ranks) v,
+        λ q.
+            sym (in-routes-bytes (sizeOf form) (form-size form) (resultOf (sizeOf form) t mode d ranks) u)
+            ∙ ap (routesIn (sizeOf form)) (sym f ∙ q ∙ k) ∙ in-routes-bytes (sizeOf form) (form-size form) (resultOf (sizeOf form) s mode e ranks) v,
         λ q. f ∙ ap (bytesIn (sizeOf form)) q ∙ sym k,
       )
 
   -- Mode 4: exactly when they send all addresses the same way, no route included.
   pub drop-by : (d e : ℕ) → Guarded form rules t 4 d ranks (length o) → RewritesBy (sizeOf form) rules t 4 d ranks o (Records count change) o′
       → Guarded form more s 4 e ranks (length p) → RewritesBy (sizeOf form) more s 4 e ranks p (Records number other) p′
-      → take (sizeOf form * count) o′ ≡ take (sizeOf form * number) p′ ↔ Alike (widthIn (sizeOf form)) (answer (widthIn (sizeOf form)) (routesIn (sizeOf form) t)) (answer (widthIn (sizeOf form)) (routesIn (sizeOf form) s))
+      → take (sizeOf form * count) o′ ≡ take (sizeOf form * number) p′
+      ↔ Alike (widthIn (sizeOf form)) (answer (widthIn (sizeOf form)) (routesIn (sizeOf form) t)) (answer (widthIn (sizeOf form)) (routesIn (sizeOf form) s))
   unfolding resultOf
   drop-by d e g a h b = Iff·trans (same-results-by 4 d e g a h b) (drop-alike (lowest ranks) (lowest-chooses ranks) (widthIn (sizeOf form)) (routesIn (sizeOf form) t) (routesIn (sizeOf form) s))
 
   -- Mode 5, at one default: exactly when they do once unrouted addresses have the default.
   pub fill-by : (d : ℕ) → Guarded form rules t 5 d ranks (length o) → RewritesBy (sizeOf form) rules t 5 d ranks o (Records count change) o′
       → Guarded form more s 5 d ranks (length p) → RewritesBy (sizeOf form) more s 5 d ranks p (Records number other) p′
-      → take (sizeOf form * count) o′ ≡ take (sizeOf form * number) p′ ↔ Alike (widthIn (sizeOf form)) (filled d (answer (widthIn (sizeOf form)) (routesIn (sizeOf form) t))) (filled d (answer (widthIn (sizeOf form)) (routesIn (sizeOf form) s)))
+      → take (sizeOf form * count) o′ ≡ take (sizeOf form * number) p′
+      ↔ Alike (widthIn (sizeOf form)) (filled d (answer (widthIn (sizeOf form)) (routesIn (sizeOf form) t))) (filled d (answer (widthIn (sizeOf form)) (routesIn (sizeOf form) s)))
   unfolding resultOf
   fill-by d g a h b = Iff·trans (same-results-by 5 d d g a h b) (fill-alike (lowest ranks) (lowest-chooses ranks) (widthIn (sizeOf form)) d (routesIn (sizeOf form) t) (routesIn (sizeOf form) s))
 
   -- Mode 1: exactly when they hold the same addresses.
   pub set-by : (d e : ℕ) → Guarded form rules t 1 d ranks (length o) → RewritesBy (sizeOf form) rules t 1 d ranks o (Records count change) o′
       → Guarded form more s 1 e ranks (length p) → RewritesBy (sizeOf form) more s 1 e ranks p (Records number other) p′
-      → take (sizeOf form * count) o′ ≡ take (sizeOf form * number) p′ ↔ ((x : ℕ) → x < 2 ^ widthIn (sizeOf form) → held (widthIn (sizeOf form)) (routesIn (sizeOf form) t) x ≡ held (widthIn (sizeOf form)) (routesIn (sizeOf form) s) x)
+      → take (sizeOf form * count) o′ ≡ take (sizeOf form * number) p′
+      ↔ ((x : ℕ) → x < 2 ^ widthIn (sizeOf form) → held (widthIn (sizeOf form)) (routesIn (sizeOf form) t) x ≡ held (widthIn (sizeOf form)) (routesIn (sizeOf form) s) x)
   unfolding resultOf
   set-by d e g a h b = Iff·trans (same-results-by 1 d e g a h b) (set-alike (lowest ranks) (lowest-chooses ranks) (widthIn (sizeOf form)) (routesIn (sizeOf form) t) (routesIn (sizeOf form) s))

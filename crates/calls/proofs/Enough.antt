@@ -7,7 +7,6 @@ use Prim.Native.Nat.{ℕ, _+_, _-_, _*_, _/_, _≤_}
 use native.Mathlib.Nat.{le-trans}
 use native.Mathlib.Omega.{arith}
 use lib.ListN.{length}
-use Rattle.theory.specs.Routes.{Route, Table}
 use Rattle.theory.specs.Ranks.{lowest, Ranking}
 use Rattle.theory.proofs.Ranks.{lowest-chooses}
 use Rattle.theory.proofs.Lengths.{most-of, result-length}
@@ -18,17 +17,13 @@ use Rattle.records.proofs.SizedReading.{form-size}
 use Rattle.table.specs.Conditions.{AcceptedBy}
 use Rattle.table.proofs.SizedTables.{in-lawful}
 use Rattle.nodecount.specs.Nodes.{nodes}
-use Rattle.nodecount.proofs.NodeCount.{nodes-bound}
+use Rattle.nodecount.proofs.NodeCount.{nodes-most}
 use Rattle.calls.specs.Conditions.{Answerable}
 use Rattle.calls.specs.Rewriting.{InUse, modeOf, resultOf, takesSet}
 
 -- The most nodes of a table of 1,024 records of this size: the root, 32 nodes at depth 5, and one node for each record at each deeper depth.
 abbrev pub mostNodes : ℕ → ℕ
 mostNodes size = 33 + (widthIn size / 5 - 1) * 1024
-
-nodes-few : (size : ℕ) → IsSize size → {rs : List Route} → Table (widthIn size) rs → length rs ≤ 1024 → nodes (widthIn size) rs ≤ mostNodes size
-nodes-few size (inl e) {rs} table few = let t : Table 32 rs = rw e at table in rw e (omega (arith, nodes-bound 32 t))
-nodes-few size (inr e) {rs} table few = let t : Table 64 rs = rw e at table in rw e (omega (arith, nodes-bound 64 t))
 
 fits : (size : ℕ) → IsSize size → (n : ℕ) → n ≤ 1025 → size * n ≤ size * 1025
 fits size (inl e) n le = rw e (omega arith)
@@ -37,7 +32,8 @@ fits size (inr e) n le = rw e (omega arith)
 -- With such rooms an accepted table is answered in every mode, mode 5 given a hop and modes 4 and 5 lawful ranks: none is refused for room.
 pub rooms-enough : (form : Form) (t : List ℕ) (mode default : ℕ) (ranks : List ℕ) (room words : ℕ) → Bytes t → InUse mode → (mode ≡ 5 → default ≤ 63)
     → (4 ≤ mode → Ranking 64 ranks) → AcceptedBy form (takesSet mode) t
-    → sizeOf form * 1025 ≤ room → 160 * mostNodes (sizeOf form) ≤ words → Answerable form t mode default ranks room × (160 * nodes (widthIn (sizeOf form)) (routesIn (sizeOf form) t) ≤ words)
+    → sizeOf form * 1025 ≤ room → 160 * mostNodes (sizeOf form) ≤ words
+    → Answerable form t mode default ranks room × (160 * nodes (widthIn (sizeOf form)) (routesIn (sizeOf form) t) ≤ words)
 unfolding resultOf
 rooms-enough form t mode default ranks room words bytes known small ranked accepted output work =
     let lawful = in-lawful (sizeOf form) (form-size form) (form .strict) (takesSet mode) t bytes accepted in (
@@ -57,5 +53,5 @@ rooms-enough form t mode default ranks room words bytes known small ranked accep
             )))
             output;
       },
-      omega (arith, nodes-few (sizeOf form) (form-size form) (lawful .table) (lawful .few)),
+      omega (arith, nodes-most (widthIn (sizeOf form)) (lawful .table) (lawful .few)),
     )

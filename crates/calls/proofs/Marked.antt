@@ -83,8 +83,8 @@ changes =
     ∷ pos 1
     ∷ []
 
--- A case's call, with records of 8 bytes or, if long, of 16, under either choice on host bits: whatever satisfies the statement is the expected records with the expected change, the rest of the
--- output as it was.
+-- A case's call, with records of 8 bytes or, if long, of 16, under either choice on host bits: whatever satisfies the statement is the expected records with
+-- the expected change, the rest of the output as it was.
 abbrev pub CaseAnswered : Bool → Case → ℤ → Type 0
 CaseAnswered long c change =
     (strict : Bool) (o : List ℕ) (words : ℕ) (r : Rewritten) (o′ w′ : List ℕ) → 8200 ≤ length o → 16384 ≤ words

@@ -44,7 +44,8 @@ module _ (size : ℕ) (rules : List Rule) (t : List ℕ) (mode default : ℕ) (r
 
 -- The default is the strict choice with number 6 waived.
 module _ (long : Bool) (t : List ℕ) where
-  rewrite-waived : (mode default : ℕ) (ranks : List ℕ) (room words : ℕ) → waived 6 (rewriteRules (refusing long) t mode default ranks room words) ≡ rewriteRules (masking long) t mode default ranks room words
+  rewrite-waived : (mode default : ℕ) (ranks : List ℕ) (room words : ℕ)
+      → waived 6 (rewriteRules (refusing long) t mode default ranks room words) ≡ rewriteRules (masking long) t mode default ranks room words
   unfolding rewriteRules
   rewrite-waived mode default ranks room words =
       ap (λ (l : List Rule).
@@ -56,7 +57,8 @@ module _ (long : Bool) (t : List ℕ) where
       (waived-append 6 (formRules (refusing long) (takesSet mode) t) behind ∙ ap (λ (l : List Rule). l ++ behind) (in-strict-waived (sizeOf (masking long)) (takesSet mode) t))
     where
       behind : List Rule
-      behind = rule 10 0 (leb (160 * nodes (widthIn (sizeOf (masking long))) (routesIn (sizeOf (masking long)) t)) words) ∷ rule 11 0 (leb (sizeOf (masking long) * length (resultOf (sizeOf (masking long)) t mode default ranks)) room) ∷ []
+      behind = rule 10 0 (leb (160 * nodes (widthIn (sizeOf (masking long))) (routesIn (sizeOf (masking long)) t)) words)
+          ∷ rule 11 0 (leb (sizeOf (masking long) * length (resultOf (sizeOf (masking long)) t mode default ranks)) room) ∷ []
 
   cover-waived : (len words : ℕ) → waived 6 (coverRules (refusing long) t len words) ≡ coverRules (masking long) t len words
   unfolding coverRules
@@ -95,19 +97,23 @@ module _ (form : Form) (s : Bool) (t : List ℕ) (bytes : Bytes t) (ok : Accepte
   same-records : recordsIn (sizeOf form) (maskedIn (sizeOf form) t) ≡ recordsIn (sizeOf form) t
   same-records = ap (λ (n : ℕ). n / sizeOf form) (in-masked-length (sizeOf form) (form-size form) (form .strict) s t bytes ok)
 
-  same-result : (mode default : ℕ) (ranks : List ℕ) → resultOf (sizeOf form) (maskedIn (sizeOf form) t) mode default ranks ≡ resultOf (sizeOf form) t mode default ranks
+  same-result : (mode default : ℕ) (ranks : List ℕ)
+      → resultOf (sizeOf form) (maskedIn (sizeOf form) t) mode default ranks ≡ resultOf (sizeOf form) t mode default ranks
   unfolding resultOf
   same-result mode default ranks = ap (result (lowest ranks) (widthIn (sizeOf form)) (modeOf mode default)) (in-masked-routes (sizeOf form) (form-size form) (form .strict) s t bytes ok)
 
   -- A rewrite of them has the right reply for the table by default,
-  pub rewrite-masked : (mode default : ℕ) (ranks : List ℕ) (room words : ℕ) → rewriteReply (choosing other (form .long)) (maskedIn (sizeOf form) t) mode default ranks room words ≡ rewriteReply (masking (form .long)) t mode default ranks room words
+  pub rewrite-masked : (mode default : ℕ) (ranks : List ℕ) (room words : ℕ)
+      → rewriteReply (choosing other (form .long)) (maskedIn (sizeOf form) t) mode default ranks room words
+      ≡ rewriteReply (masking (form .long)) t mode default ranks room words
   unfolding replyBy rewriteRules
   rewrite-masked mode default ranks room words =
       rw (in-masked-rules (sizeOf form) (form-size form) (form .strict) s t bytes ok other (takesSet mode), in-masked-routes (sizeOf form) (form-size form) (form .strict) s t bytes ok, same-result mode default ranks)
 
   -- and so satisfies its statement, and no other answer does: in every mode the same answer, output and room.
   pub rewrites-masked : (mode default : ℕ) (ranks o : List ℕ) (words : ℕ) (r : Rewritten) (o′ w′ : List ℕ)
-      → Rewrites (choosing other (form .long)) (maskedIn (sizeOf form) t) mode default ranks o words r o′ w′ → Rewrites (masking (form .long)) t mode default ranks o words r o′ w′
+      → Rewrites (choosing other (form .long)) (maskedIn (sizeOf form) t) mode default ranks o words r o′ w′
+      → Rewrites (masking (form .long)) t mode default ranks o words r o′ w′
   rewrites-masked mode default ranks o words r o′ w′ a =
       let same = rewrite-masked mode default ranks (length o) words in
       record {
@@ -120,6 +126,7 @@ module _ (form : Form) (s : Bool) (t : List ℕ) (bytes : Bytes t) (ok : Accepte
       }
 
   -- The cover query likewise.
-  pub covers-masked : (address len words : ℕ) → coverReply (choosing other (form .long)) (maskedIn (sizeOf form) t) address len words ≡ coverReply (masking (form .long)) t address len words
+  pub covers-masked : (address len words : ℕ)
+      → coverReply (choosing other (form .long)) (maskedIn (sizeOf form) t) address len words ≡ coverReply (masking (form .long)) t address len words
   unfolding coverRules coveredBy
   covers-masked address len words = rw (in-masked-rules (sizeOf form) (form-size form) (form .strict) s t bytes ok other true, in-masked-routes (sizeOf form) (form-size form) (form .strict) s t bytes ok)

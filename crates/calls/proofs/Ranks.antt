@@ -90,7 +90,8 @@ module _ (form : Form) (rules : List Rule) (t : List ℕ) (bytes : Bytes t) (ran
 pub by-count : (form : Form) (rules more : List Rule) (t : List ℕ) (mode default : ℕ) (ranks other o p : List ℕ)
     → Guarded form rules t mode default ranks (length o) → Guarded form more t mode default other (length p)
     → (count number : ℕ) (change differs : ℤ) (o′ p′ : List ℕ)
-    → RewritesBy (sizeOf form) rules t mode default ranks o (Records count change) o′ → RewritesBy (sizeOf form) more t mode default other p (Records number differs) p′ → count ≡ number
+    → RewritesBy (sizeOf form) rules t mode default ranks o (Records count change) o′
+    → RewritesBy (sizeOf form) more t mode default other p (Records number differs) p′ → count ≡ number
 by-count form rules more t mode default ranks other o p guarded guards count number change differs o′ p′ ok also =
     by-counted form rules t mode default ranks o guarded (Records count change) o′ ok count change refl
     ∙ ranks-count (sizeOf form) t mode default ranks other

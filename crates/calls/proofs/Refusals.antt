@@ -51,7 +51,8 @@ lawful {n} {ranks} f = go (isRanking n ranks) refl
 
 -- ---- What it is to have none of a rewrite's conditions.
 module _ (form : Form) (t : List ℕ) (mode default : ℕ) (ranks : List ℕ) (room words : ℕ) where
-  none→answerable : None (RewriteCondition form t mode default ranks room words) → Answerable form t mode default ranks room × (160 * nodes (widthIn (sizeOf form)) (routesIn (sizeOf form) t) ≤ words)
+  none→answerable : None (RewriteCondition form t mode default ranks room words)
+      → Answerable form t mode default ranks room × (160 * nodes (widthIn (sizeOf form)) (routesIn (sizeOf form) t) ≤ words)
   none→answerable none = (
     record {
       known-mode = (
@@ -67,7 +68,8 @@ module _ (form : Form) (t : List ℕ) (mode default : ℕ) (ranks : List ℕ) (r
     holds (decLe (160 * nodes (widthIn (sizeOf form)) (routesIn (sizeOf form) t)) words) (λ f. none 10 0 (short-work (omega arith))),
   )
 
-  answerable→none : Answerable form t mode default ranks room × (160 * nodes (widthIn (sizeOf form)) (routesIn (sizeOf form) t) ≤ words) → None (RewriteCondition form t mode default ranks room words)
+  answerable→none : Answerable form t mode default ranks room × (160 * nodes (widthIn (sizeOf form)) (routesIn (sizeOf form) t) ≤ words)
+      → None (RewriteCondition form t mode default ranks room words)
   answerable→none (a, work) n i (no-mode f) = f (a .known-mode .0, a .known-mode .1)
   answerable→none (a, work) n i (retired e) = a .known-mode .2 e
   answerable→none (a, work) n i (large-default e h) = let d = a .small-default e in omega arith
@@ -77,7 +79,8 @@ module _ (form : Form) (t : List ℕ) (mode default : ℕ) (ranks : List ℕ) (r
   answerable→none (a, work) n i (short-output h) = omega (arith, a .enough-output)
 
   -- None holds exactly when the rewrite is answerable and the room is enough.
-  pub answerable-exactly : None (RewriteCondition form t mode default ranks room words) ↔ (Answerable form t mode default ranks room × (160 * nodes (widthIn (sizeOf form)) (routesIn (sizeOf form) t) ≤ words))
+  pub answerable-exactly : None (RewriteCondition form t mode default ranks room words)
+      ↔ (Answerable form t mode default ranks room × (160 * nodes (widthIn (sizeOf form)) (routesIn (sizeOf form) t) ≤ words))
   answerable-exactly = (none→answerable, answerable→none)
 
   -- So the rules of the engine over nodes are guarded.

@@ -64,7 +64,8 @@ module _ (form : Form) (t : List ℕ) (mode default : ℕ) (ranks o : List ℕ) 
     rewrite-length = by-length form rules t mode default ranks o guarded r o′ (ok .inner)
 
     -- The records are written from the output's start.
-    pub rewrite-written : (count : ℕ) (change : ℤ) → r ≡ Records count change → take (sizeOf form * count) o′ ≡ bytesIn (sizeOf form) (resultOf (sizeOf form) t mode default ranks)
+    pub rewrite-written : (count : ℕ) (change : ℤ) → r ≡ Records count change
+        → take (sizeOf form * count) o′ ≡ bytesIn (sizeOf form) (resultOf (sizeOf form) t mode default ranks)
     rewrite-written = by-written form rules t mode default ranks o guarded r o′ (ok .inner)
 
     module _ (bytes : Bytes t) (count : ℕ) (change : ℤ) (answered : r ≡ Records count change) where
@@ -77,18 +78,21 @@ module _ (form : Form) (t : List ℕ) (mode default : ℕ) (ranks o : List ℕ) 
       rewrite-table = by-table form rules t mode default ranks o guarded r o′ (ok .inner) count change answered bytes
 
       -- What is written reads back as the result.
-      pub rewrite-reads : routesIn (sizeOf form) (take (sizeOf form * count) o′) ≡ result (lowest ranks) (widthIn (sizeOf form)) (modeOf mode default) (routesIn (sizeOf form) t)
+      pub rewrite-reads : routesIn (sizeOf form) (take (sizeOf form * count) o′)
+          ≡ result (lowest ranks) (widthIn (sizeOf form)) (modeOf mode default) (routesIn (sizeOf form) t)
       rewrite-reads = by-reads form rules t mode default ranks o guarded r o′ (ok .inner) count change answered bytes
 
       -- And says of each address what is demanded of its mode: the sets hold it alike, the maps answer it alike, fill gives the unrouted the default.
-      pub rewrite-keeps : (x : ℕ) → x < 2 ^ widthIn (sizeOf form) → Keeps (widthIn (sizeOf form)) (modeOf mode default) (routesIn (sizeOf form) t) (routesIn (sizeOf form) (take (sizeOf form * count) o′)) x
+      pub rewrite-keeps : (x : ℕ) → x < 2 ^ widthIn (sizeOf form)
+          → Keeps (widthIn (sizeOf form)) (modeOf mode default) (routesIn (sizeOf form) t) (routesIn (sizeOf form) (take (sizeOf form * count) o′)) x
       rewrite-keeps = by-keeps form rules t mode default ranks o guarded r o′ (ok .inner) count change answered bytes
 
 -- ---- The cover query.
 module _ (form : Form) (t : List ℕ) (address len words : ℕ) (r : Covers) (w′ : List ℕ) (ok : Queried form t address len words r w′) where
   -- It answers that the prefix is covered exactly when no condition holds and each address of the prefix is under some member.
   pub covers-exactly : r ≡ Covered
-      ↔ (None (CoverCondition form t len words) × ((x : ℕ) → In (widthIn (sizeOf form) - len) (startOf (widthIn (sizeOf form) - len) (address % 2 ^ widthIn (sizeOf form))) x → held (widthIn (sizeOf form)) (routesIn (sizeOf form) t) x ≡ true))
+      ↔ (None (CoverCondition form t len words)
+      × ((x : ℕ) → In (widthIn (sizeOf form) - len) (startOf (widthIn (sizeOf form) - len) (address % 2 ^ widthIn (sizeOf form))) x → held (widthIn (sizeOf form)) (routesIn (sizeOf form) t) x ≡ true))
   unfolding coveredBy
   covers-exactly =
       let answered = covers-answered form t address len words r w′ ok true in

@@ -44,27 +44,33 @@ module _ (form : Form) (t : List ℕ) (bytes : Bytes t) (strict : Bool) (set : A
       }
 
   -- It is accepted, however it is read.
-  pub retired-accepted : (other : Bool) → AcceptedIn (sizeOf form) other true (bytesIn (sizeOf form) (consistentSet (widthIn (sizeOf form)) (routesIn (sizeOf form) t)))
+  pub retired-accepted : (other : Bool)
+      → AcceptedIn (sizeOf form) other true (bytesIn (sizeOf form) (consistentSet (widthIn (sizeOf form)) (routesIn (sizeOf form) t)))
   retired-accepted other = in-accepted-written (sizeOf form) (form-size form) other true (consistentSet (widthIn (sizeOf form)) (routesIn (sizeOf form) t)) lawful
 
   reads : routesIn (sizeOf form) wrote ≡ consistentSet (widthIn (sizeOf form)) (routesIn (sizeOf form) t)
   reads = in-routes-bytes (sizeOf form) (form-size form) (consistentSet (widthIn (sizeOf form)) (routesIn (sizeOf form) t)) (lawful .table .valid)
 
   -- Mode 1 makes of it what it makes of t.
-  pub retired-result : (default d : ℕ) (ranks other : List ℕ) → resultOf (sizeOf form) (bytesIn (sizeOf form) (consistentSet (widthIn (sizeOf form)) (routesIn (sizeOf form) t))) 1 default ranks ≡ resultOf (sizeOf form) t 1 d other
+  pub retired-result : (default d : ℕ) (ranks other : List ℕ)
+      → resultOf (sizeOf form) (bytesIn (sizeOf form) (consistentSet (widthIn (sizeOf form)) (routesIn (sizeOf form) t))) 1 default ranks
+      ≡ resultOf (sizeOf form) t 1 d other
   unfolding resultOf result
   retired-result default d ranks other = ap (result smallest (widthIn (sizeOf form)) aggregateSet) reads ∙ retired-same (widthIn (sizeOf form)) (routesIn (sizeOf form) t) smallest
 
   -- So any engine writes the same records.
   pub retired-by : (rules : List Rule) (default d : ℕ) (ranks other o : List ℕ)
-      → Guarded form rules (bytesIn (sizeOf form) (consistentSet (widthIn (sizeOf form)) (routesIn (sizeOf form) t))) 1 default ranks (length o) → (count : ℕ) (change : ℤ) (o′ : List ℕ)
-      → RewritesBy (sizeOf form) rules (bytesIn (sizeOf form) (consistentSet (widthIn (sizeOf form)) (routesIn (sizeOf form) t))) 1 default ranks o (Records count change) o′ → take (sizeOf form * count) o′ ≡ bytesIn (sizeOf form) (resultOf (sizeOf form) t 1 d other)
+      → Guarded form rules (bytesIn (sizeOf form) (consistentSet (widthIn (sizeOf form)) (routesIn (sizeOf form) t))) 1 default ranks (length o)
+      → (count : ℕ) (change : ℤ) (o′ : List ℕ)
+      → RewritesBy (sizeOf form) rules (bytesIn (sizeOf form) (consistentSet (widthIn (sizeOf form)) (routesIn (sizeOf form) t))) 1 default ranks o (Records count change) o′
+      → take (sizeOf form * count) o′ ≡ bytesIn (sizeOf form) (resultOf (sizeOf form) t 1 d other)
   retired-by rules default d ranks other o guarded count change o′ ok =
       by-written form rules wrote 1 default ranks o guarded (Records count change) o′ ok count change refl ∙ ap (bytesIn (sizeOf form)) (retired-result default d ranks other)
 
   -- With room enough the engine over nodes answers with them.
   pub retired-answers : (default d : ℕ) (ranks other o : List ℕ) (words : ℕ) (r : Rewritten) (o′ w′ : List ℕ)
-      → sizeOf form * length (resultOf (sizeOf form) t 1 d other) ≤ length o → 160 * nodes (widthIn (sizeOf form)) (consistentSet (widthIn (sizeOf form)) (routesIn (sizeOf form) t)) ≤ words
+      → sizeOf form * length (resultOf (sizeOf form) t 1 d other) ≤ length o
+      → 160 * nodes (widthIn (sizeOf form)) (consistentSet (widthIn (sizeOf form)) (routesIn (sizeOf form) t)) ≤ words
       → Rewrites form (bytesIn (sizeOf form) (consistentSet (widthIn (sizeOf form)) (routesIn (sizeOf form) t))) 1 default ranks o words r o′ w′
       → (r ≡ Records (length (resultOf (sizeOf form) t 1 d other)) (pos (length (resultOf (sizeOf form) t 1 d other)) -ℤ pos (length (consistentSet (widthIn (sizeOf form)) (routesIn (sizeOf form) t)))))
       × (o′ ≡ bytesIn (sizeOf form) (resultOf (sizeOf form) t 1 d other) ++ drop (sizeOf form * length (resultOf (sizeOf form) t 1 d other)) o)

@@ -56,7 +56,8 @@ most-change aggregateMapDrop a b le = difference a b (omega arith)
 most-change (aggregateMapFill d) a b le = difference a b (omega arith)
 
 -- Answered or refused, the change of a rewrite is at most its mode's most: 0 in modes 1 to 4, and 1 in mode 5.
-pub change-by : (form : Form) (rules : List Rule) (t : List ℕ) (mode default : ℕ) (ranks o : List ℕ) → Guarded form rules t mode default ranks (length o) → (r : Rewritten) (o′ : List ℕ)
+pub change-by : (form : Form) (rules : List Rule) (t : List ℕ) (mode default : ℕ) (ranks o : List ℕ) → Guarded form rules t mode default ranks (length o)
+    → (r : Rewritten) (o′ : List ℕ)
     → RewritesBy (sizeOf form) rules t mode default ranks o r o′ → Bytes t → changeOf r ≤ℤ mostChange (modeOf mode default)
 unfolding resultOf
 change-by form rules t mode default ranks o guarded r o′ ok bytes = go r refl
@@ -106,12 +107,14 @@ module _ (form : Form) (rules : List Rule) (t : List ℕ) (d : ℕ) (ranks o : L
       (set-prefixes (lowest ranks) (widthIn (sizeOf form)) (routesIn (sizeOf form) t) serves (unfold resultOf in few-enough u few) r)
 
   -- A table of them has these prefixes in the same order.
-  only-result : (u : List Route) → Table (widthIn (sizeOf form)) u → ((x : ℕ) → x < 2 ^ widthIn (sizeOf form) → held (widthIn (sizeOf form)) u x ≡ held (widthIn (sizeOf form)) (routesIn (sizeOf form) t) x) → length u ≤ count
+  only-result : (u : List Route) → Table (widthIn (sizeOf form)) u
+      → ((x : ℕ) → x < 2 ^ widthIn (sizeOf form) → held (widthIn (sizeOf form)) u x ≡ held (widthIn (sizeOf form)) (routesIn (sizeOf form) t) x) → length u ≤ count
       → unhopped u ≡ resultOf (sizeOf form) t 1 d ranks
   unfolding resultOf
   only-result u table same few = set-only (lowest ranks) (widthIn (sizeOf form)) (routesIn (sizeOf form) t) table same (unfold resultOf in few-enough u few)
 
-  module _ (strict : Bool) (u : List ℕ) (small : Bytes u) (accepted : AcceptedIn (sizeOf form) strict true u) (same : (x : ℕ) → x < 2 ^ widthIn (sizeOf form) → held (widthIn (sizeOf form)) (routesIn (sizeOf form) u) x ≡ held (widthIn (sizeOf form)) (routesIn (sizeOf form) t) x)
+  module _ (strict : Bool) (u : List ℕ) (small : Bytes u) (accepted : AcceptedIn (sizeOf form) strict true u)
+      (same : (x : ℕ) → x < 2 ^ widthIn (sizeOf form) → held (widthIn (sizeOf form)) (routesIn (sizeOf form) u) x ≡ held (widthIn (sizeOf form)) (routesIn (sizeOf form) t) x)
       (few : recordsIn (sizeOf form) u ≤ count) where
     -- So an accepted set of the same addresses that has no more records is the one written, but for host bits: its routes, put down as records, are the
     -- bytes written,
@@ -161,21 +164,27 @@ module _ (form : Form) (t : List ℕ) (bytes : Bytes t) (ranks o : List ℕ) (wo
     -- ---- The same of tables u that are accepted under either choice on host bits, of a set or of a map.
     module _ (strict isSet : Bool) (u : List ℕ) (small : Bytes u) (accepted : AcceptedIn (sizeOf form) strict isSet u) (d : ℕ) where
       -- Mode 4: none with the same answer at every address, no route included, has fewer records.
-      pub drop-shortest : Rewrites form t 4 d ranks o words (Records count change) o′ w′ → Alike (widthIn (sizeOf form)) (answer (widthIn (sizeOf form)) (routesIn (sizeOf form) u)) (answer (widthIn (sizeOf form)) (routesIn (sizeOf form) t)) → count ≤ recordsIn (sizeOf form) u
+      pub drop-shortest : Rewrites form t 4 d ranks o words (Records count change) o′ w′
+          → Alike (widthIn (sizeOf form)) (answer (widthIn (sizeOf form)) (routesIn (sizeOf form) u)) (answer (widthIn (sizeOf form)) (routesIn (sizeOf form) t))
+          → count ≤ recordsIn (sizeOf form) u
       drop-shortest ok same = none-shorter 4 d ok of-drop u (record { bytes = small; strict = strict; isSet = isSet; accepted = accepted; keeps = same })
 
       -- Mode 5: none that itself routes every address as the filled input does has fewer.
-      pub fill-shortest : Rewrites form t 5 d ranks o words (Records count change) o′ w′ → Alike (widthIn (sizeOf form)) (answer (widthIn (sizeOf form)) (routesIn (sizeOf form) u)) (filled d (answer (widthIn (sizeOf form)) (routesIn (sizeOf form) t)))
+      pub fill-shortest : Rewrites form t 5 d ranks o words (Records count change) o′ w′
+          → Alike (widthIn (sizeOf form)) (answer (widthIn (sizeOf form)) (routesIn (sizeOf form) u)) (filled d (answer (widthIn (sizeOf form)) (routesIn (sizeOf form) t)))
           → count ≤ recordsIn (sizeOf form) u
       fill-shortest ok same = none-shorter 5 d ok (of-fill d) u (record { bytes = small; strict = strict; isSet = isSet; accepted = accepted; keeps = same })
 
       -- Mode 1: none that holds the same addresses has fewer.
-      pub set-shortest : Rewrites form t 1 d ranks o words (Records count change) o′ w′ → ((x : ℕ) → x < 2 ^ widthIn (sizeOf form) → held (widthIn (sizeOf form)) (routesIn (sizeOf form) u) x ≡ held (widthIn (sizeOf form)) (routesIn (sizeOf form) t) x)
+      pub set-shortest : Rewrites form t 1 d ranks o words (Records count change) o′ w′
+          → ((x : ℕ) → x < 2 ^ widthIn (sizeOf form) → held (widthIn (sizeOf form)) (routesIn (sizeOf form) u) x ≡ held (widthIn (sizeOf form)) (routesIn (sizeOf form) t) x)
           → count ≤ recordsIn (sizeOf form) u
       set-shortest ok same = none-shorter 1 d ok of-set u (record { bytes = small; strict = strict; isSet = isSet; accepted = accepted; keeps = same })
 
     -- Mode 1: and a set that has as many is the one written: its records without host bits are the bytes written, byte for byte.
-    pub set-alone : (d : ℕ) → Rewrites form t 1 d ranks o words (Records count change) o′ w′ → (strict : Bool) (u : List ℕ) → Bytes u → AcceptedIn (sizeOf form) strict true u
-        → ((x : ℕ) → x < 2 ^ widthIn (sizeOf form) → held (widthIn (sizeOf form)) (routesIn (sizeOf form) u) x ≡ held (widthIn (sizeOf form)) (routesIn (sizeOf form) t) x) → recordsIn (sizeOf form) u ≤ count → bytesIn (sizeOf form) (routesIn (sizeOf form) u) ≡ take (sizeOf form * count) o′
+    pub set-alone : (d : ℕ) → Rewrites form t 1 d ranks o words (Records count change) o′ w′ → (strict : Bool) (u : List ℕ) → Bytes u
+        → AcceptedIn (sizeOf form) strict true u
+        → ((x : ℕ) → x < 2 ^ widthIn (sizeOf form) → held (widthIn (sizeOf form)) (routesIn (sizeOf form) u) x ≡ held (widthIn (sizeOf form)) (routesIn (sizeOf form) t) x)
+        → recordsIn (sizeOf form) u ≤ count → bytesIn (sizeOf form) (routesIn (sizeOf form) u) ≡ take (sizeOf form * count) o′
     set-alone d ok =
         only-written-by form (rewriteRules form t 1 d ranks (length o) words) t d ranks o (rewrite-guarded form t 1 d ranks (length o) words) count change o′ (ok .inner)

@@ -78,7 +78,8 @@ module _ (strict : Bool) (o : List ℕ) (words : ℕ) (long : 8200 ≤ length o)
   unfolding cases changes route bytesIn recordIn octetsOf
   case-5 ok = written (route 0 0 0 0 0 0 ∷ []) (negsuc 0) (marked .1 .1 .1 .0 strict o words r o′ w′ long wide ok)
 
-  case-11 : Rewrites (choosing strict false) apart 4 0 [] o words r o′ w′ → take (8 * countOf r) o′ ≡ 10 ∷ 0 ∷ 0 ∷ 0 ∷ 8 ∷ 1 ∷ 0 ∷ 0 ∷ 10 ∷ 128 ∷ 0 ∷ 0 ∷ 9 ∷ 2 ∷ 0 ∷ 0 ∷ []
+  case-11 : Rewrites (choosing strict false) apart 4 0 [] o words r o′ w′
+      → take (8 * countOf r) o′ ≡ 10 ∷ 0 ∷ 0 ∷ 0 ∷ 8 ∷ 1 ∷ 0 ∷ 0 ∷ 10 ∷ 128 ∷ 0 ∷ 0 ∷ 9 ∷ 2 ∷ 0 ∷ 0 ∷ []
   unfolding cases changes route bytesIn recordIn octetsOf
   case-11 ok =
       written (route 10 0 0 0 8 1 ∷ route 10 128 0 0 9 2 ∷ []) (pos 0) (marked .1 .1 .1 .1 .1 .1 .1 .0 strict o words r o′ w′ long wide ok)
@@ -109,7 +110,8 @@ module _ (strict : Bool) (o : List ℕ) (words : ℕ) (long : 8200 ≤ length o)
 
 -- One that always gives the same table: the same records are wrong for the halves or for everything.
 pub constant-wrong : (strict : Bool) (o : List ℕ) (words : ℕ) → 8200 ≤ length o → 16384 ≤ words → (r r₁ : Rewritten) (o′ w′ o₁ w₁ : List ℕ)
-    → Rewrites (choosing strict false) halves 1 0 [] o words r o′ w′ → Rewrites (choosing strict false) everything 1 0 [] o words r₁ o₁ w₁ → take (8 * countOf r) o′ ≡ take (8 * countOf r₁) o₁ → ⊥
+    → Rewrites (choosing strict false) halves 1 0 [] o words r o′ w′ → Rewrites (choosing strict false) everything 1 0 [] o words r₁ o₁ w₁
+    → take (8 * countOf r) o′ ≡ take (8 * countOf r₁) o₁ → ⊥
 constant-wrong strict o words long wide r r₁ o′ w′ o₁ w₁ a b e =
     let z : _≡_ {A = ℕ} 10 0 =
     ap (λ (l : List ℕ). getD l 0 0) (sym (case-2 strict o words long wide r o′ w′ a) ∙ e ∙ case-5 strict o words long wide r₁ o₁ w₁ b) in
@@ -123,7 +125,8 @@ alike x lt =
     ∙ ap (λ (t : List Route). answer 32 t x) (worked .1 .1 .1 .1 .1 .1 .0)
 
 pub copier-against-alike : (strict : Bool) (o : List ℕ) (words count : ℕ) (change : ℤ) (o′ w′ p : List ℕ) (space number : ℕ) (other : ℤ) (p′ v′ : List ℕ)
-    → Rewrites (choosing strict false) shadowed 4 0 [] o words (Records count change) o′ w′ → Rewrites (choosing strict false) plain 4 0 [] p space (Records number other) p′ v′
+    → Rewrites (choosing strict false) shadowed 4 0 [] o words (Records count change) o′ w′
+    → Rewrites (choosing strict false) plain 4 0 [] p space (Records number other) p′ v′
     → take (8 * count) o′ ≡ shadowed → take (8 * number) p′ ≡ plain → ⊥
 copier-against-alike strict o words count change o′ w′ p space number other p′ v′ a b copied copied-too =
     let same =

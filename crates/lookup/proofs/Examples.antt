@@ -2,15 +2,13 @@
 use mathlib.Core.Path.{_≡_, refl, ap}
 use mathlib.Core.Bool.{true, false}
 use mathlib.Core.List.{List, [], _∷_}
-use Prim.Native.Nat.{ℕ, _+_, _*_}
+use Prim.Native.Nat.{ℕ, _+_, _*_, _^_}
 use Rattle.theory.specs.Routes.{miss, hit}
 use Rattle.table.specs.Checking.{checkReply}
 use Rattle.lookup.specs.Calls.{lookupReply, heldReply}
 use Rattle.refusals.specs.Rules.{gives, refuses, judge}
-use Rattle.records.specs.Wire.{rawAt, routeAt, routesFrom, routes}
-use Rattle.records.specs.Forms.{byDefault, strictly}
+use Rattle.records.specs.Forms.{masking, byDefault, strictly}
 use Rattle.records.proofs.Octets.{all-bytes}
-use Rattle.table.specs.TableRules.{recordRules, rulesFrom, tableRules}
 use Rattle.records.specs.Sized.{clear, number, rawIn, routeIn, routesFromIn, routesIn}
 use Rattle.table.specs.SizedRules.{recordRulesIn, rulesFromIn, tableRulesIn}
 use Rattle.theory.proofs.Pass.{countFrom}
@@ -44,10 +42,40 @@ pub nested-outside : lookupReply byDefault nested (ip 11 1 2 3) ≡ gives miss
 unfolding judge tableRulesIn rulesFromIn recordRulesIn rawIn routeIn routesFromIn routesIn clear number
 nested-outside = refl
 
+-- Only the lower 32 bits of an address count.
+pub nested-lower : lookupReply byDefault nested (7 * 2 ^ 32 + ip 10 1 2 3) ≡ gives (hit 16 2)
+unfolding judge tableRulesIn rulesFromIn recordRulesIn rawIn routeIn routesFromIn routesIn clear number
+nested-lower = refl
+
 -- As a set it is refused by its first hop.
 pub nested-set : checkReply byDefault true nested ≡ refuses 7 0
 unfolding judge tableRulesIn rulesFromIn recordRulesIn rawIn routeIn clear number
 nested-set = refl
+
+-- ---- Records of 16 bytes.
+
+-- 2001:db8::/32 by hop 1, and 2001:db8:0:7::/64 inside it by hop 2.
+abbrev long : List ℕ
+long =
+    32 ∷ 1 ∷ 13 ∷ 184 ∷ 0 ∷ 0 ∷ 0 ∷ 0 ∷ 32 ∷ 1 ∷ 0 ∷ 0 ∷ 0 ∷ 0 ∷ 0 ∷ 0
+    ∷ 32 ∷ 1 ∷ 13 ∷ 184 ∷ 0 ∷ 0 ∷ 0 ∷ 7 ∷ 64 ∷ 2 ∷ 0 ∷ 0 ∷ 0 ∷ 0 ∷ 0 ∷ 0
+    ∷ []
+
+-- The first 64 bits of an address, as its groups are written.
+abbrev ip6 : ℕ → ℕ → ℕ → ℕ → ℕ
+ip6 a b c d = ((a * 65536 + b) * 65536 + c) * 65536 + d
+
+-- Inside both the longer match wins, the shorter serves the rest, and outside both there is no route.
+pub long-read : (lookupReply (masking true) long (ip6 8193 3512 0 7) ≡ gives (hit 64 2))
+    × (lookupReply (masking true) long (ip6 8193 3512 1 7) ≡ gives (hit 32 1))
+    × (lookupReply (masking true) long (ip6 8193 3513 0 7) ≡ gives miss)
+unfolding judge tableRulesIn rulesFromIn recordRulesIn rawIn routeIn routesFromIn routesIn clear number
+long-read = (refl, refl, refl)
+
+-- Read as records of 8 bytes it is refused: the second is the prefix of the first, 0.0.0.0/0.
+pub long-misread : lookupReply byDefault long (ip 32 1 13 184) ≡ refuses 8 1
+unfolding judge tableRulesIn rulesFromIn recordRulesIn rawIn routeIn clear number
+long-misread = refl
 
 -- ---- Host bits.
 

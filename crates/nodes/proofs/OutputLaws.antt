@@ -106,7 +106,8 @@ module _ {size : ℕ} (is : IsSize size) where
       → (a : ℕ) → a / 2 ≡ half → Wrote size (route a len hop ∷ []) 0 1 o o′
   unfolding bytesIn
   wrote-record half len hop o o′ e a at =
-      wrote-from refl (λ fits. rw (zero-mul size, narrow-half size is a half at, append-nil (recordIn size (route (half / 2 ^ (64 - widthIn size)) len hop))) (e (omega arith)))
+      let bytes = recordIn size (route (half / 2 ^ (64 - widthIn size)) len hop) in
+      wrote-from refl (λ fits. rw (zero-mul size, narrow-half size is a half at, append-nil bytes) (e (omega arith)))
 
 -- All that is written, where it fits: the routes' bytes, and what stood after them.
 pub wrote-whole : {size : ℕ} {rs : List Route} {k : ℕ} {o o′ : List ℕ} → Wrote size rs 0 k o o′ → k * size ≤ length o
@@ -168,7 +169,8 @@ slots-past entry slot c none own = rw (add-one c, none, own) (append-nil (slots 
 -- One slot more: the entries that begin there, and then its own.
 pub slots-more : {size : ℕ} → IsSize size → (entries : ℕ) (hops : List ℕ) (depth key : ℕ) (slot : ℕ → List Route) (c : ℕ) {n e k : ℕ}
     {o o₁ o₂ o₃ : List ℕ} → Wrote size (slots (entryAt entries hops depth key) slot c) 0 n o o₁ → length o₁ ≡ length o
-    → Wrote size (slotHeads entries hops depth (placeAt (slotSize depth) key 5 c) c 5) n e o₁ o₂ → length o₂ ≡ length o₁ → Wrote size (slot c) e k o₂ o₃
+    → Wrote size (slotHeads entries hops depth (placeAt (slotSize depth) key 5 c) c 5) n e o₁ o₂ → length o₂ ≡ length o₁
+    → Wrote size (slot c) e k o₂ o₃
     → Wrote size (slots (entryAt entries hops depth key) slot (c + 1)) 0 k o o₃
 unfolding slotsOf
 slots-more is entries hops depth key slot c p same q same′ r =

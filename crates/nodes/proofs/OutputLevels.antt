@@ -121,7 +121,8 @@ module _ (entries : ℕ) (hops : List ℕ) (depth addr c : ℕ) where
       go l false q = rw q
 
   -- One level more.
-  pub heads-more : {size : ℕ} → IsSize size → (l : ℕ) {n k : ℕ} {o o₁ o₂ : List ℕ} → Wrote size (slotHeads entries hops depth addr c l) 0 n o o₁ → length o₁ ≡ length o
+  pub heads-more : {size : ℕ} → IsSize size → (l : ℕ) {n k : ℕ} {o o₁ o₂ : List ℕ} → Wrote size (slotHeads entries hops depth addr c l) 0 n o o₁
+      → length o₁ ≡ length o
       → Wrote size (slotHead entries hops depth addr c l) n k o₁ o₂ → Wrote size (slotHeads entries hops depth addr c (l + 1)) 0 k o o₂
   unfolding slotHeads
   heads-more is l p same q = rw (add-one l) (wrote-then is p q same)

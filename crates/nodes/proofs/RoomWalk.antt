@@ -78,10 +78,12 @@ own-first deeper own {size} {t} {lo} {hi} {depth} {key} top o n ws b i =
     let q = parts-ahead (BlockBy deeper own (nodesDeep (depth + 5))) (slotSize depth) key (deeper (slotSize depth) key (run size t lo hi)) (p .0) (p .1) 0 top (p .2) i refl (p .4) in
     (p .0, p .3, q .0, q .1)
 
-module _ {deeper : ℕ → ℕ → List Route → List Route} {own : ℕ → ℕ → List Route → List ℕ → Type 0} {size : ℕ} {t : List ℕ} {lo hi depth key top : ℕ} {o : List ℕ}
+module _ {deeper : ℕ → ℕ → List Route → List Route} {own : ℕ → ℕ → List Route → List ℕ → Type 0} {size : ℕ} {t : List ℕ} {lo hi depth key top : ℕ}
+    {o : List ℕ}
     (n : Node size t lo hi depth key) where
   -- Of a node that is stored they are read there.
-  pub own-stored : StoredBy deeper own (nodesDeep depth) key (run size t lo hi) top o → (u : List ℕ) × own (slotSize depth) key (run size t lo hi) u × Begins u top o
+  pub own-stored : StoredBy deeper own (nodesDeep depth) key (run size t lo hi) top o
+      → (u : List ℕ) × own (slotSize depth) key (run size t lo hi) u × Begins u top o
   own-stored s = let p = own-first deeper own top o n (s .words) (s .block) (s .begins) in (p .0, p .1, p .2)
 
   -- Where they end the blocks of the slots stand.

@@ -18,7 +18,7 @@ use Rattle.table.specs.Conditions.{Accepted}
 use Rattle.table.specs.TableRules.{recordRules, rulesFrom, tableRules}
 use Rattle.table.proofs.AtEight.{accepted}
 use Rattle.table.proofs.AtEight.{accepted-table}
-use Rattle.records.specs.Sized.{bytesIn, clear, number, rawIn, routeIn, routesFromIn, routesIn}
+use Rattle.records.specs.Sized.{octetsOf, recordIn, bytesIn, clear, number, rawIn, routeIn, routesFromIn, routesIn}
 use Rattle.table.specs.SizedRules.{recordRulesIn, rulesFromIn, tableRulesIn}
 use Rattle.special.specs.Calls.{rangesReply, specialRules, specialReply}
 use Rattle.special.specs.Editions.{rfc5735, rfc6890, isEdition, Edition, rangesOf}
@@ -33,7 +33,7 @@ Sound ranges =
     × (routes (bytesOf ranges) ≡ ranges)
 
 tested : Sound rfc5735 × Sound rfc6890
-unfolding judge tableRulesIn rulesFromIn recordRulesIn rawIn routeIn routesFromIn routesIn bytesIn rfc5735 rfc6890 clear number
+unfolding judge tableRulesIn rulesFromIn recordRulesIn rawIn routeIn routesFromIn routesIn bytesIn recordIn octetsOf rfc5735 rfc6890 clear number
 tested = ((refl, refl, refl), (refl, refl, refl))
 
 -- ---- The editions.

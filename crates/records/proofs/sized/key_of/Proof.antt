@@ -1,6 +1,5 @@
 -- `records::sized::key_of` shifts an address of 32 bits up, and takes one of 64 as it is. Assumes nothing.
 use mathlib.Core.Path.{_≡_}
-use Prim.Native.Nat.{_*_, _%_, _^_}
 use native.Mathlib.Omega.{arith}
 use borrow.Author.Needs.{needs}
 use Rattle.records.proofs.SizedKeys.{size-long}

@@ -90,7 +90,7 @@ fn most(long: bool) -> usize
 }
 
 // Reads a table, at most 1,025 records of it, and says how many bytes it has.
-pub fn read_table(table: &mut [u8], long: bool) -> usize
+fn read_table(table: &mut [u8], long: bool) -> usize
     requires { ⌜ 16400 ≤ length (now table) ⌝ }
     ensures { λ r. ⌜ r ≤ 16400 ⌝ }
 {

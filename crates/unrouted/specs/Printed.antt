@@ -1,4 +1,4 @@
--- What a program prints for the table that it read: the text of the right reply. Programs mask host bits.
+-- What the program prints for the table that it read: the text of the right reply. Host bits are masked.
 use Prim.Native.Nat.{ℕ, _*_}
 use mathlib.Core.Bool.{Bool, false}
 use mathlib.Core.List.{List}
@@ -8,10 +8,10 @@ use Rattle.records.specs.Forms.{sizeOf, masking}
 use Rattle.holes.specs.Listing.{holesOf, unroutedRules}
 use Rattle.text.specs.Answers.{listText}
 
--- Read by a form, with an output of `room` bytes: a prefix a line and nothing else, or the refusal.
+-- A prefix a line and nothing else, or the refusal, of a table that is read by a form, with an output of so many bytes.
 unfoldable pub printedIn : Form → ℕ → List ℕ → List ℕ
 printedIn form room t = listText (sizeOf form) false false (judge (unroutedRules form t room) (holesOf (sizeOf form) t))
 
--- By the program for records of 8 bytes or of 16: the output has room for 8,192 records.
+-- The same with an output of 8,192 records.
 unfoldable pub printed : Bool → List ℕ → List ℕ
 printed long t = printedIn (masking long) (8192 * sizeOf (masking long)) t

@@ -1,2 +1,0 @@
--- What the programs print.
-pub mod Printed

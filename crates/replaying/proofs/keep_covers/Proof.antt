@@ -1,4 +1,4 @@
--- `cases::keep_covers` meets its contract: the query leaves the room zero, so that no line about it is kept. Assumes nothing.
+-- `keep_covers` meets its contract: the query leaves the room zero, so that no line about it is kept. Assumes nothing.
 use mathlib.Core.Path.{ap, _∙_}
 use Prim.Native.Nat.{ℕ}
 use lib.ListN.{length, length-replicate}

@@ -1,4 +1,4 @@
--- `cases::keep_held` meets its contract. Assumes nothing.
+-- `keep_held` meets its contract. Assumes nothing.
 use mathlib.Core.Path.{refl}
 use Rattle.text.proofs.Puts.{put-as}
 use Rattle.kept.proofs.KeptLaws.{put-at}
@@ -21,8 +21,9 @@ same-length c = search needs
 
 returns : tie.Need-returns
 returns c =
+    let s = c .before .before .before .before .before .before .before .before .before .args in
     put-at (c .before .before .before .before .before .room-for .ensures .0) refl refl
-    (put-as (held-kept _ _ _ (c .before .before .before .before .addresses-held .ensures)) (c .before .before .put-held .ensures))
+    (put-as (held-kept _ (s .form) (s .table .now) (c .before .before .before .before .addresses-held .ensures)) (c .before .before .put-held .ensures))
 
 pub keep-held-spec : {M : Type 1} → statement M
 keep-held-spec = tie.close (tie.spec room-for-requires addresses-held-requires put-held-requires same-length returns)

@@ -1,4 +1,4 @@
--- `cases::keep_lookup` meets its contract. Assumes nothing.
+-- `keep_lookup` meets its contract. Assumes nothing.
 use mathlib.Core.Path.{refl}
 use Rattle.text.proofs.Puts.{put-as}
 use Rattle.kept.proofs.KeptLaws.{put-at}
@@ -21,8 +21,9 @@ same-length c = search needs
 
 returns : tie.Need-returns
 returns c =
+    let s = c .before .before .before .before .before .before .before .before .before .args in
     put-at (c .before .before .before .before .before .room-for .ensures .0) refl refl
-    (put-as (lookup-kept _ _ _ _ (c .before .before .before .before .lookup .ensures)) (c .before .before .put-lookup .ensures))
+    (put-as (lookup-kept _ (s .form) (s .table .now) (s .address) (c .before .before .before .before .lookup .ensures)) (c .before .before .put-lookup .ensures))
 
 pub keep-lookup-spec : {M : Type 1} → statement M
 keep-lookup-spec = tie.close (tie.spec room-for-requires lookup-requires put-lookup-requires same-length returns)

@@ -1,4 +1,4 @@
--- `cases::plain_turn` meets its contract: what is read of the 16 bytes is what the case says. Assumes nothing.
+-- `plain_turn` meets its contract: what is read of the 16 bytes is what the case says. Assumes nothing.
 use mathlib.Core.Path.{ap₂, _∙_}
 use Prim.Native.Nat.{ℕ}
 use native.Mathlib.Omega.{arith}

@@ -9,7 +9,8 @@ use Rattle.special.specs.declared.Special.{Special}
 use Rattle.special.specs.declared.Special.the-variants.{At, Nothing, Refused}
 use Rattle.text.specs.Text.{refusedLine}
 use Rattle.kept.specs.Lines.{countedLine}
-use Rattle.kept.specs.Kept.{byte, formBy, addressOf}
+use Rattle.records.specs.Wire.{join}
+use Rattle.kept.specs.Kept.{byte, formBy}
 
 -- Of an answer: `special at I`, `none special` or the refusal.
 unfoldable pub specialText : Special → List ℕ
@@ -29,4 +30,4 @@ specialAnswer form t edition = specialText (specialOf (specialReply form t editi
 
 -- Of a case: the edition stands where another case has its address.
 abbrev pub specialCase : List ℕ → List ℕ → List ℕ
-specialCase head t = specialAnswer (formBy (byte head 0)) t (addressOf head)
+specialCase head t = specialAnswer (formBy (byte head 0)) t (join (byte head 4) (byte head 5) (byte head 6) (byte head 7))

@@ -4,6 +4,7 @@ use native.Mathlib.Omega.{arith}
 use lib.ListN.{length-take}
 use Rattle.text.proofs.Puts.{put-then, put-length}
 use borrow.Author.Needs.{needs}
+use Rattle.records.proofs.Reading.{eight}
 use Rattle.replaying_more.proofs.chip_cases.put_slots.Statement.{statement}
 use Rattle.replaying_more.proofs.chip_cases.put_slots.Tie as tie
 
@@ -18,7 +19,7 @@ slice-aggregate-put-records c =
 put-records-requires : tie.Need-put-records-requires
 put-records-requires c κs =
     let pre = c .before .before .before .before .pre in
-    simp length-take (omega arith)
+    (eight, simp length-take (omega (arith, pre .0, pre .1)))
 
 slice-aggregate-put-counted : tie.Need-slice-aggregate-put-counted
 slice-aggregate-put-counted c = search needs

@@ -4,7 +4,7 @@ use Rattle.replaying_more.proofs.plan_cases.check_turn.Statement.{state
 use Rattle.replaying_more.proofs.plan_cases.check_turn.Tie as tie
 use Rattle.replaying_more.proofs.plan_cases.check_turn.Reads as reads
 use Rattle.replaying_more.proofs.plan_cases.check_turn.Lts as lts
-use Rattle.replaying_more.proofs.form_of.Reads as form-of-reads
+use Rattle.kept.proofs.form_of.Reads as form-of-reads
 use Rattle.replaying_more.proofs.plan_cases.keep_checked.Reads as keep-checked-reads
 
 -- src/plan_cases.rt:47:42

@@ -6,7 +6,7 @@ use Rattle.replaying_more.proofs.plan_cases.keep_checked.Statement.{sta
 use Rattle.replaying_more.proofs.plan_cases.keep_checked.Tie as tie
 use Rattle.replaying_more.proofs.plan_cases.keep_checked.Reads as reads
 use Rattle.replaying_more.proofs.plan_cases.keep_checked.Lts as lts
-use Rattle.replaying_more.proofs.room_for.Reads as room-for-reads
+use Rattle.kept.proofs.room_for.Reads as room-for-reads
 use Rattle.steplines.proofs.put_judged.Reads as put-judged-reads
 use Rattle.steprooms.proofs.check_steps.Reads as check-steps-reads
 

@@ -4,7 +4,7 @@ use Rattle.replaying_more.proofs.plan_cases.keep_planned.Statement.{sta
 use Rattle.replaying_more.proofs.plan_cases.keep_planned.Tie as tie
 use Rattle.replaying_more.proofs.plan_cases.keep_planned.Reads as reads
 use Rattle.replaying_more.proofs.plan_cases.keep_planned.Lts as lts
-use Rattle.replaying_more.proofs.room_for.Reads as room-for-reads
+use Rattle.kept.proofs.room_for.Reads as room-for-reads
 use Rattle.steplines.proofs.plan_text.Reads as plan-text-reads
 use Rattle.steprooms.proofs.empty_room.Reads as empty-room-reads
 

@@ -33,33 +33,84 @@ ghost use Prim.Native.Nat.{_≤_};
 ghost use lib.ListN.{length};
 ghost use Rattle.kept.specs.Kept.{wordsOf};
 
+// Rooms of zeros. Made by a call, each is to the caller an array of that length and no list of that many zeros.
+fn table_room() -> [u8; 65535] {
+    [0; 65535]
+}
+
+fn kept_room() -> [u8; 262144] {
+    [0; 262144]
+}
+
+fn live_room() -> [u8; 524288] {
+    [0; 524288]
+}
+
+fn list_room() -> [u8; 1048576] {
+    [0; 1048576]
+}
+
+fn list_text_room() -> [u8; 3145764] {
+    [0; 3145764]
+}
+
+fn small_work() -> [u32; 32768] {
+    [0; 32768]
+}
+
+fn middle_work() -> [u32; 824480] {
+    [0; 824480]
+}
+
+fn large_work() -> [u32; 1807520] {
+    [0; 1807520]
+}
+
 // Reads what stands behind the installed table in a case with call 7 or 8, the new table and, with call 7, so many bytes of steps, and keeps its answer, or
 // the line that ends the run.
-fn steps_turn(head: &[u8; 16], installed: &[u8], size: usize, at: usize, kept: &mut [u8]) -> Turn
+fn steps_turn(
+    head: &[u8; 16],
+    installed: &[u8],
+    new: &mut [u8],
+    steps: &mut [u8],
+    at: usize,
+    kept: &mut [u8],
+) -> Turn
+    requires { ⌜ 65535 ≡ length (now new) ⌝ }
+    requires { ⌜ length (now steps) ≤ 262144 ⌝ }
+    requires { ⌜ at ≤ length (now kept) ⌝ }
+    requires { ⌜ 262144 ≤ length (now kept) ⌝ }
+    ensures { λ r. ⌜ r .at ≤ length (now (kept .entry)) ⌝ }
+{
+    let size = join2(head[8], head[9]);
+    if io::read_full(STDIN_FILENO, &mut new[..size]) < size {
+        return last_line(b"case cut short\n", at, kept);
+    }
+    if call_of(head[0]) == 8 {
+        return Turn {
+            at: plan_turn(head, installed, &new[..size], at, kept),
+            more: true,
+        };
+    }
+    if io::read_full(STDIN_FILENO, steps) < steps.len() {
+        return last_line(b"case cut short\n", at, kept);
+    }
+    Turn {
+        at: check_turn(head, installed, &new[..size], steps, at, kept),
+        more: true,
+    }
+}
+
+// The same with rooms of its own.
+fn plan_case(head: &[u8; 16], installed: &[u8], size: usize, at: usize, kept: &mut [u8]) -> Turn
     requires { ⌜ size ≤ 262144 ⌝ }
     requires { ⌜ at ≤ length (now kept) ⌝ }
     requires { ⌜ 262144 ≤ length (now kept) ⌝ }
     ensures { λ r. ⌜ r .at ≤ length (now (kept .entry)) ⌝ }
 {
-    let mut new = [0u8; 65535];
-    let bytes = join2(head[8], head[9]);
-    if io::read_full(STDIN_FILENO, &mut new[..bytes]) < bytes {
-        return last_line(b"case cut short\n", at, kept);
-    }
-    if call_of(head[0]) == 8 {
-        return Turn {
-            at: plan_turn(head, installed, &new[..bytes], at, kept),
-            more: true,
-        };
-    }
-    let mut steps = [0u8; 262144];
-    if io::read_full(STDIN_FILENO, &mut steps[..size]) < size {
-        return last_line(b"case cut short\n", at, kept);
-    }
-    Turn {
-        at: check_turn(head, installed, &new[..bytes], &steps[..size], at, kept),
-        more: true,
-    }
+    let mut new = table_room();
+    let mut steps = kept_room();
+    steps_turn(head, installed, &mut new, &mut steps[..size], at, kept)
 }
 
 // Writes what is kept, and then the lines of commands on a live map of so many words.
@@ -73,7 +124,7 @@ fn live_turn(words: usize, commands: &[u8], at: usize, kept: &mut [u8]) -> Turn
         return last_line(b"work room too large\n", at, kept);
     }
     send(kept, at);
-    let mut text = [0u8; 524288];
+    let mut text = live_room();
     let end = live_text(commands, words, &mut text);
     send(&text, end);
     Turn { at: 0, more: true }
@@ -96,8 +147,8 @@ fn list_turn(first: u8, bytes: usize, table: &[u8], at: usize, kept: &mut [u8]) 
         return last_line(b"output too large\n", at, kept);
     }
     send(kept, at);
-    let mut output = [0u8; 1048576];
-    let mut text = [0u8; 3145764];
+    let mut output = list_room();
+    let mut text = list_text_room();
     let end = list_text(table, form_of(first), &mut output[..bytes], &mut text);
     send(&text, end);
     Turn { at: 0, more: true }
@@ -120,7 +171,7 @@ fn small_turn(
     requires { ⌜ 262144 ≤ length (now kept) ⌝ }
     ensures { λ r. ⌜ r ≤ length (now (kept .entry)) ⌝ }
 {
-    let mut work = [0u32; 32768];
+    let mut work = small_work();
     keep_answer(head, query, table, ranks, output, &mut work, at, kept)
 }
 
@@ -140,7 +191,7 @@ fn middle_turn(
     requires { ⌜ 262144 ≤ length (now kept) ⌝ }
     ensures { λ r. ⌜ r ≤ length (now (kept .entry)) ⌝ }
 {
-    let mut work = [0u32; 824480];
+    let mut work = middle_work();
     keep_answer(head, query, table, ranks, output, &mut work, at, kept)
 }
 
@@ -160,7 +211,7 @@ fn large_turn(
     requires { ⌜ 262144 ≤ length (now kept) ⌝ }
     ensures { λ r. ⌜ r ≤ length (now (kept .entry)) ⌝ }
 {
-    let mut work = [0u32; 1807520];
+    let mut work = large_work();
     keep_answer(head, query, table, ranks, output, &mut work, at, kept)
 }
 
@@ -252,7 +303,7 @@ fn case_turn(
             more: true,
         };
     }
-    let mut output = [0u8; 65535];
+    let mut output = table_room();
     if call == 5 {
         return Turn {
             at: plain_turn(head, table, ranks, &mut output, at, kept),
@@ -322,7 +373,7 @@ fn turn(table: &mut [u8], at: usize, kept: &mut [u8]) -> Turn
     if 6 < call {
         if call < 9 {
             if !is_long(head[0]) {
-                return steps_turn(&head, &table[..size], steps, at, kept);
+                return plan_case(&head, &table[..size], steps, at, kept);
             }
         }
     }
@@ -331,8 +382,8 @@ fn turn(table: &mut [u8], at: usize, kept: &mut [u8]) -> Turn
 
 // A proved loop has to end, so the turns are counted down from a number that no input uses up.
 fn main() {
-    let mut table = [0u8; 65535];
-    let mut kept = [0u8; 262144];
+    let mut table = table_room();
+    let mut kept = kept_room();
     let mut at: usize = 0;
     let mut turns = u64::MAX;
     while turns > 0 {

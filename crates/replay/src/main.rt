@@ -4,6 +4,7 @@
 // it is safe and ends: no contract can say what was read and what was written, which runs show.
 //
 // There is no memory but the stack, 8 MiB where nobody says otherwise: each kind of case has rooms of its own, which are there only while it is answered.
+// A function with large rooms is called in two places, so that the compiler does not make its rooms those of `main`.
 
 use kept::Turn;
 use kept::bytes_behind;
@@ -58,10 +59,6 @@ fn small_work() -> [u32; 32768] {
     [0; 32768]
 }
 
-fn middle_work() -> [u32; 824480] {
-    [0; 824480]
-}
-
 fn large_work() -> [u32; 1807520] {
     [0; 1807520]
 }
@@ -102,7 +99,7 @@ fn steps_turn(
 }
 
 // The same with rooms of its own.
-fn plan_case(head: &[u8; 16], installed: &[u8], size: usize, at: usize, kept: &mut [u8]) -> Turn
+fn plan_rooms(head: &[u8; 16], installed: &[u8], size: usize, at: usize, kept: &mut [u8]) -> Turn
     requires { ⌜ size ≤ 262144 ⌝ }
     requires { ⌜ at ≤ length (now kept) ⌝ }
     requires { ⌜ 262144 ≤ length (now kept) ⌝ }
@@ -113,7 +110,17 @@ fn plan_case(head: &[u8; 16], installed: &[u8], size: usize, at: usize, kept: &m
     steps_turn(head, installed, &mut new, &mut steps[..size], at, kept)
 }
 
-// Writes what is kept, and then the lines of commands on a live map of so many words.
+// Writes the lines of commands on a live map of so many words.
+fn live_lines_out(words: usize, commands: &[u8])
+    requires { ⌜ words ≤ 412240 ⌝ }
+    requires { ⌜ length (now commands) ≤ 65535 ⌝ }
+{
+    let mut text = live_room();
+    let end = live_text(commands, words, &mut text);
+    send(&text, end);
+}
+
+// Writes what is kept, and then these.
 fn live_turn(words: usize, commands: &[u8], at: usize, kept: &mut [u8]) -> Turn
     requires { ⌜ length (now commands) ≤ 65535 ⌝ }
     requires { ⌜ at ≤ length (now kept) ⌝ }
@@ -124,34 +131,67 @@ fn live_turn(words: usize, commands: &[u8], at: usize, kept: &mut [u8]) -> Turn
         return last_line(b"work room too large\n", at, kept);
     }
     send(kept, at);
-    let mut text = live_room();
-    let end = live_text(commands, words, &mut text);
-    send(&text, end);
+    live_lines_out(words, commands);
     Turn { at: 0, more: true }
 }
 
-// The most bytes of output that are lent to a list.
-fn most_list(first: u8) -> usize
-    ensures { λ r. ⌜ r ≤ 1048576 ⌝ }
+// Writes the text of a list of what has no route, in an output of so many bytes.
+fn list_out(first: u8, bytes: usize, table: &[u8])
+    requires { ⌜ bytes ≤ 1048576 ⌝ }
 {
-    if is_long(first) { 1048576 } else { 262144 }
+    let mut output = list_room();
+    let mut text = list_text_room();
+    let end = list_text(table, form_of(first), &mut output[..bytes], &mut text);
+    send(&text, end);
 }
 
-// Writes what is kept, and then the text of a list of what has no route.
+// Writes what is kept, and then this.
 fn list_turn(first: u8, bytes: usize, table: &[u8], at: usize, kept: &mut [u8]) -> Turn
     requires { ⌜ at ≤ length (now kept) ⌝ }
     requires { ⌜ 262144 ≤ length (now kept) ⌝ }
     ensures { λ r. ⌜ r .at ≤ length (now (kept .entry)) ⌝ }
 {
-    if most_list(first) < bytes {
+    if is_long(first) {
+        if 1048576 < bytes {
+            return last_line(b"output too large\n", at, kept);
+        }
+        send(kept, at);
+        list_out(first, bytes, table);
+        return Turn { at: 0, more: true };
+    }
+    if 262144 < bytes {
         return last_line(b"output too large\n", at, kept);
     }
     send(kept, at);
-    let mut output = list_room();
-    let mut text = list_text_room();
-    let end = list_text(table, form_of(first), &mut output[..bytes], &mut text);
-    send(&text, end);
+    list_out(first, bytes, table);
     Turn { at: 0, more: true }
+}
+
+// Keeps or writes the answer of a case with call 7, 8 or 10, with so many bytes of steps; or the line that ends the run.
+fn apart_turn(head: &[u8; 16], table: &[u8], size: usize, at: usize, kept: &mut [u8]) -> Turn
+    requires { ⌜ size ≤ 262144 ⌝ }
+    requires { ⌜ at ≤ length (now kept) ⌝ }
+    requires { ⌜ 262144 ≤ length (now kept) ⌝ }
+    ensures { λ r. ⌜ r .at ≤ length (now (kept .entry)) ⌝ }
+{
+    let call = call_of(head[0]);
+    let asked = join4(head[8], head[9], head[10], head[11]) as usize;
+    if call == 10 {
+        if table.len() <= 65535 {
+            return live_turn(asked, table, at, kept);
+        }
+    }
+    plan_rooms(head, table, size, at, kept)
+}
+
+// Of a plan.
+fn plan_case(head: &[u8; 16], installed: &[u8], size: usize, at: usize, kept: &mut [u8]) -> Turn
+    requires { ⌜ size ≤ 262144 ⌝ }
+    requires { ⌜ at ≤ length (now kept) ⌝ }
+    requires { ⌜ 262144 ≤ length (now kept) ⌝ }
+    ensures { λ r. ⌜ r .at ≤ length (now (kept .entry)) ⌝ }
+{
+    apart_turn(head, installed, size, at, kept)
 }
 
 // Keeps the answer of a case with call 0 to 3, with a work room that holds what it asks for.
@@ -175,46 +215,6 @@ fn small_turn(
     keep_answer(head, query, table, ranks, output, &mut work, at, kept)
 }
 
-fn middle_turn(
-    head: &[u8; 16],
-    query: &[u8],
-    table: &[u8],
-    ranks: &[u16],
-    output: &mut [u8],
-    at: usize,
-    kept: &mut [u8],
-) -> usize
-    requires { ⌜ 8 ≡ length (now query) ⌝ }
-    requires { ⌜ 65535 ≡ length (now output) ⌝ }
-    requires { ⌜ wordsOf (now head) ≤ 824480 ⌝ }
-    requires { ⌜ at ≤ length (now kept) ⌝ }
-    requires { ⌜ 262144 ≤ length (now kept) ⌝ }
-    ensures { λ r. ⌜ r ≤ length (now (kept .entry)) ⌝ }
-{
-    let mut work = middle_work();
-    keep_answer(head, query, table, ranks, output, &mut work, at, kept)
-}
-
-fn large_turn(
-    head: &[u8; 16],
-    query: &[u8],
-    table: &[u8],
-    ranks: &[u16],
-    output: &mut [u8],
-    at: usize,
-    kept: &mut [u8],
-) -> usize
-    requires { ⌜ 8 ≡ length (now query) ⌝ }
-    requires { ⌜ 65535 ≡ length (now output) ⌝ }
-    requires { ⌜ wordsOf (now head) ≤ 1807520 ⌝ }
-    requires { ⌜ at ≤ length (now kept) ⌝ }
-    requires { ⌜ 262144 ≤ length (now kept) ⌝ }
-    ensures { λ r. ⌜ r ≤ length (now (kept .entry)) ⌝ }
-{
-    let mut work = large_work();
-    keep_answer(head, query, table, ranks, output, &mut work, at, kept)
-}
-
 // The most words of work room that are lent.
 fn most_words(first: u8) -> usize
     ensures { λ r. ⌜ r ≤ 1807520 ⌝ }
@@ -222,8 +222,8 @@ fn most_words(first: u8) -> usize
     if is_long(first) { 1807520 } else { 824480 }
 }
 
-// Keeps the answer of a case with call 0 to 3, or the line that ends the run.
-fn answer_turn(
+// Keeps the answer of a case with call 6, or of one with call 0 to 3 and a work room of any size that is lent; or the line that ends the run.
+fn roomy_turn(
     head: &[u8; 16],
     query: &[u8],
     table: &[u8],
@@ -238,24 +238,19 @@ fn answer_turn(
     requires { ⌜ 262144 ≤ length (now kept) ⌝ }
     ensures { λ r. ⌜ r .at ≤ length (now (kept .entry)) ⌝ }
 {
+    if call_of(head[0]) == 6 {
+        return Turn {
+            at: chip_turn(head, table, output, at, kept),
+            more: true,
+        };
+    }
     let words = join4(head[8], head[9], head[10], head[11]) as usize;
     if most_words(head[0]) < words {
         return last_line(b"work room too large\n", at, kept);
     }
-    if words <= 32768 {
-        return Turn {
-            at: small_turn(head, query, table, ranks, output, at, kept),
-            more: true,
-        };
-    }
-    if words <= 824480 {
-        return Turn {
-            at: middle_turn(head, query, table, ranks, output, at, kept),
-            more: true,
-        };
-    }
+    let mut work = large_work();
     Turn {
-        at: large_turn(head, query, table, ranks, output, at, kept),
+        at: keep_answer(head, query, table, ranks, output, &mut work, at, kept),
         more: true,
     }
 }
@@ -295,7 +290,7 @@ fn case_turn(
         return list_turn(head[0], asked, table, at, kept);
     }
     if call == 10 {
-        return live_turn(asked, table, at, kept);
+        return apart_turn(head, table, 0, at, kept);
     }
     if call == 9 {
         return Turn {
@@ -311,12 +306,15 @@ fn case_turn(
         };
     }
     if call == 6 {
+        return roomy_turn(head, query, table, ranks, &mut output, at, kept);
+    }
+    if asked <= 32768 {
         return Turn {
-            at: chip_turn(head, table, &mut output, at, kept),
+            at: small_turn(head, query, table, ranks, &mut output, at, kept),
             more: true,
         };
     }
-    answer_turn(head, query, table, ranks, &mut output, at, kept)
+    roomy_turn(head, query, table, ranks, &mut output, at, kept)
 }
 
 // Reads the query of a case, where addresses have 64 bits. Says whether it is there.

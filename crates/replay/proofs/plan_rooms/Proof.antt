@@ -1,9 +1,9 @@
--- `plan_case` is safe and ends. Assumes nothing.
+-- `plan_rooms` is safe and ends. Assumes nothing.
 use native.Mathlib.Omega.{arith}
 use lib.ListN.{length-take}
 use borrow.Author.Needs.{needs}
-use Rattle.replay.proofs.plan_case.Statement.{statement}
-use Rattle.replay.proofs.plan_case.Tie as tie
+use Rattle.replay.proofs.plan_rooms.Statement.{statement}
+use Rattle.replay.proofs.plan_rooms.Tie as tie
 
 table-room-requires : tie.Need-table-room-requires
 table-room-requires c κs = search needs
@@ -29,8 +29,8 @@ same-length c = search needs
 returns : tie.Need-returns
 returns c = search needs
 
-pub plan-case-spec : {M : Type 1} → statement M
-plan-case-spec =
+pub plan-rooms-spec : {M : Type 1} → statement M
+plan-rooms-spec =
     tie.close
     (tie.spec
     table-room-requires

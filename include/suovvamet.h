@@ -1,5 +1,5 @@
 /*
- * Suovvamet for C: a table of IPv4 routes made shorter without changing where any routed address is sent.
+ * Suovvamet for C: a table of IPv4 or IPv6 routes made shorter without changing where any routed address is sent.
  *
  * What is said here of the functions of the library is proved of them for every input (crates/suovvamet; docs/C.md has the theorems' names
  * and how to build and link). They take no memory of their own but stack, keep nothing between calls and never fail to return. The header is
@@ -9,6 +9,10 @@
  * 63 in a map, 0 in a set), and two bytes 0; strictly ascending by address, then length; at most 1,024 records. Bits of an address past the
  * length are masked: 10.1.2.3/8 is 10.0.0.0/8, and the order is that of the masked addresses. Under the strict choice (SUOVVAMET_STRICT) a
  * record that has such bits is refused instead.
+ *
+ * A long table (SUOVVAMET_LONG) has records of 16 bytes: eight octets, the upper half of an IPv6 address, then the length (0 to 64), the hop, and six
+ * bytes 0; all else is as above. The rewrites, the cover query, the lookup, the list of what has no route and the work words take both; every other
+ * call reads records of 8 bytes, whatever this flag says.
  *
  * What the caller owes, in every call:
  *   - a pointer that is followed by a length points to that many elements (bytes of a table, an output or an image, ranks, 32-bit words of a
@@ -40,13 +44,15 @@ extern "C" {
 #endif
 
 /* One more whenever something that is declared or promised here changes. */
-#define SUOVVAMET_VERSION 10
+#define SUOVVAMET_VERSION 11
 
 /*
- * How a table is read, in every call: 0, or SUOVVAMET_STRICT for the strict choice. The other bits of the flags are kept for later and ignored;
- * leave them 0. What is not refused by SUOVVAMET_HOST_BITS under the strict choice is answered, set and written as without it.
+ * How a table is read, in every call: 0, or the sum of SUOVVAMET_STRICT for the strict choice and SUOVVAMET_LONG for a long table. The other bits of
+ * the flags are kept for later and ignored; leave them 0. What is not refused by SUOVVAMET_HOST_BITS under the strict choice is answered, set and written
+ * as without it.
  */
 #define SUOVVAMET_STRICT 1u
+#define SUOVVAMET_LONG 2u
 
 /* The refusals, in the order in which they are checked, but that 5 to 8 go record by record: the first bad record, its lowest number. */
 enum suovvamet_refusal {
@@ -57,16 +63,16 @@ enum suovvamet_refusal {
     SUOVVAMET_RETIRED = 16,       /* the mode is 2, which is retired: use SUOVVAMET_SET, which serves the tables that it wrote */
     SUOVVAMET_DEFAULT = 2,        /* the mode is 5 and the default is above 63 */
     SUOVVAMET_RANKS = 15,         /* the mode is 4 or 5, and ranks are lent that are not the numbers 0 to 63 each once */
-    SUOVVAMET_TABLE_LENGTH = 3,   /* the table's length is not a multiple of 8 */
+    SUOVVAMET_TABLE_LENGTH = 3,   /* the table's length is not a multiple of 8; of a long table, of 16 */
     SUOVVAMET_RECORDS = 4,        /* the table has more than 1,024 records */
-    SUOVVAMET_PREFIX_LENGTH = 5,  /* a record's length is above 32 */
+    SUOVVAMET_PREFIX_LENGTH = 5,  /* a record's length is above 32; of a long table, above 64 */
     SUOVVAMET_HOST_BITS = 6,      /* a record has bits of the address set past its length, and the choice is strict */
-    SUOVVAMET_HOP = 7,            /* a record's hop is above 63, or not 0 in a set, or one of its last two bytes is not 0 */
+    SUOVVAMET_HOP = 7,            /* a record's hop is above 63, or not 0 in a set, or a byte behind it is not 0 */
     SUOVVAMET_ORDER = 8,          /* a record is not strictly after the one before it, both masked */
-    SUOVVAMET_QUERY_LENGTH = 9,   /* the cover query's length is above 32 */
+    SUOVVAMET_QUERY_LENGTH = 9,   /* the cover query's length is above 32; of a long table, above 64 */
     SUOVVAMET_MAP_RECORDS = 17,   /* the live map would have more than 1,024 records */
     SUOVVAMET_WORK_ROOM = 10,     /* the room has fewer than 160 words for each node of the table, or of the live map as it would be */
-    SUOVVAMET_OUTPUT = 11,        /* the output has fewer than 8 bytes for each record of the result or the list */
+    SUOVVAMET_OUTPUT = 11,        /* the output has fewer than 8 bytes, or 16, for each record of the result or the list */
     SUOVVAMET_IMAGE = 12,         /* the chip's image has not 8,192 bytes */
     SUOVVAMET_NEW_TABLE = 20,     /* 23 to 28: the faults 3 to 8 in the new table of a plan, each by 20 higher */
     SUOVVAMET_STEP = 13           /* a step's length is above 32, its host bits are set under the strict choice, or a put's hop is above 63 */
@@ -88,8 +94,13 @@ enum suovvamet_mode {
 #define SUOVVAMET_MOST_WORK 824480u /* words: 160 for each of 5,153 nodes */
 #define SUOVVAMET_MOST_OUTPUT 8200u /* bytes: 8 for each of 1,025 records */
 
-/* An output for every list of what has no route: of a table of n records it has at most 21 * n + 1,024 prefixes. */
-#define SUOVVAMET_MOST_UNROUTED 180224u /* bytes: 8 for each of 22,528 prefixes */
+/* The same for long tables, which have 11,297 nodes at most. */
+#define SUOVVAMET_MOST_LONG_WORK 1807520u  /* words: 160 for each of 11,297 nodes */
+#define SUOVVAMET_MOST_LONG_OUTPUT 16400u  /* bytes: 16 for each of 1,025 records */
+
+/* An output for every list of what has no route: of a table of n records it has at most 21 * n + 1,024 prefixes, of a long one 53 * n + 1,024. */
+#define SUOVVAMET_MOST_UNROUTED 180224u      /* bytes: 8 for each of 22,528 prefixes */
+#define SUOVVAMET_MOST_LONG_UNROUTED 884736u /* bytes: 16 for each of 55,296 prefixes */
 
 /* The image of a chip of 1,024 slots of 8 bytes. */
 #define SUOVVAMET_IMAGE_SIZE 8192u /* bytes */
@@ -120,16 +131,17 @@ uint32_t suovvamet_rewrite_plain(const uint8_t *table, uint64_t table_length, ui
 
 /*
  * Does the set cover the prefix of this address and length, each of its addresses lying under some member? Then *covered is 1, else 0.
- * The first octet of the address is the most significant; bits past the length are ignored. Refusals 3 to 10.
+ * The first octet of the address is the most significant, of the lower 32 bits where the table is not long, and then the upper ones are ignored; so are
+ * bits past the length. Refusals 3 to 10.
  */
-uint32_t suovvamet_covers(const uint8_t *table, uint64_t table_length, uint32_t flags, uint32_t address, uint32_t length, uint32_t *work,
+uint32_t suovvamet_covers(const uint8_t *table, uint64_t table_length, uint32_t flags, uint64_t address, uint32_t length, uint32_t *work,
                           uint64_t work_length, uint32_t *covered, uint64_t *index);
 
 /*
  * The longest match of the address in a map: *found is 1 and *hop and *length are those of the record, or, where no record matches, all
- * three are 0. Refusals 3 to 8.
+ * three are 0. The address is as in the cover query. Refusals 3 to 8.
  */
-uint32_t suovvamet_lookup(const uint8_t *table, uint64_t table_length, uint32_t flags, uint32_t address, uint32_t *found, uint32_t *hop,
+uint32_t suovvamet_lookup(const uint8_t *table, uint64_t table_length, uint32_t flags, uint64_t address, uint32_t *found, uint32_t *hop,
                           uint32_t *length, uint64_t *index);
 
 /* The number of addresses with a longest match in a map, 0 to 4294967296, in *addresses. Refusals 3 to 8. */
@@ -224,13 +236,13 @@ static inline const char *suovvamet_refusal_text(uint32_t refusal)
     case SUOVVAMET_RETIRED: return "mode 2 is retired; mode 1 serves its tables";
     case SUOVVAMET_DEFAULT: return "the default hop is above 63";
     case SUOVVAMET_RANKS: return "the ranks are not the numbers 0 to 63 each once";
-    case SUOVVAMET_TABLE_LENGTH: return "the table is not made of whole records of 8 bytes";
+    case SUOVVAMET_TABLE_LENGTH: return "the table is not made of whole records of 8 bytes, or of 16 where it is long";
     case SUOVVAMET_RECORDS: return "the table has more than 1,024 records";
-    case SUOVVAMET_PREFIX_LENGTH: return "the record's length is above 32";
+    case SUOVVAMET_PREFIX_LENGTH: return "the record's length is above 32, or above 64 in a long table";
     case SUOVVAMET_HOST_BITS: return "the record's address has bits set past its length";
-    case SUOVVAMET_HOP: return "the record's hop is above 63, or not 0 in a set, or one of its last two bytes is not 0";
+    case SUOVVAMET_HOP: return "the record's hop is above 63, or not 0 in a set, or a byte behind it is not 0";
     case SUOVVAMET_ORDER: return "the record does not stand strictly after the one before it";
-    case SUOVVAMET_QUERY_LENGTH: return "the query's length is above 32";
+    case SUOVVAMET_QUERY_LENGTH: return "the query's length is above 32, or above 64 of a long table";
     case SUOVVAMET_WORK_ROOM: return "the work room is shorter than the table needs";
     case SUOVVAMET_OUTPUT: return "the output is shorter than the result or the list";
     case SUOVVAMET_IMAGE: return "the image has not 8,192 bytes";

@@ -50,15 +50,16 @@ fn main() {
         _ => Stage::Written,
     };
     let mut input = Vec::new();
-    std::io::stdin().take(8 + 8_200).read_to_end(&mut input).expect("standard input can be read");
+    std::io::stdin().take(8 + 16_400).read_to_end(&mut input).expect("standard input can be read");
     let (head, records) = input.split_at(8);
     let times = u32::from_be_bytes([0, head[0], head[1], head[2]]);
-    let mut output = [0u8; 8_200];
+    let (long, mode) = (head[3] & 32 != 0, head[3] % 32);
+    let mut output = [0u8; 16_400];
     let mut count = 0;
     #[cfg(counted)]
     counted::begin();
     for _ in 0..times {
-        count = oracle::rewrite_records(false, head[3], head[4], black_box(records), &mut output, stage);
+        count = oracle::rewrite_records(long, mode, head[4], black_box(records), &mut output, stage);
         black_box(&output);
     }
     #[cfg(counted)]
@@ -66,7 +67,7 @@ fn main() {
     #[cfg(not(counted))]
     match times {
         0 => println!("not run"),
-        _ => println!("records {count} change {}", count as i64 - records.len() as i64 / 8),
+        _ => println!("records {count} change {}", count as i64 - (records.len() / if long { 16 } else { 8 }) as i64),
     }
     let _ = count;
 }

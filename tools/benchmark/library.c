@@ -6,14 +6,14 @@
 #include "platform.h"
 #include "suovvamet.h"
 
-/* What byte 3 holds for a list of what has no route, and what is added to the mode for the plain engine. */
-enum { LIST = 0, LIVE_LOOKUP = 64, LIVE_OLD = 65, LIVE_NEW = 66, PLAIN = 128 };
+/* What byte 3 holds for a list of what has no route, and what is added to the mode for records of 16 bytes and for the plain engine. */
+enum { LIST = 0, LONG = 32, LIVE_LOOKUP = 64, LIVE_OLD = 65, LIVE_NEW = 66, PLAIN = 128 };
 
 /* No ranks are lent. */
 static const uint16_t no_ranks[1];
 
-static uint8_t table[SUOVVAMET_MOST_OUTPUT], output[SUOVVAMET_MOST_UNROUTED];
-static uint32_t work[SUOVVAMET_MOST_WORK];
+static uint8_t table[SUOVVAMET_MOST_LONG_OUTPUT], output[SUOVVAMET_MOST_UNROUTED];
+static uint32_t work[SUOVVAMET_MOST_LONG_WORK];
 
 static void print(const char *text)
 {
@@ -68,8 +68,8 @@ int main(void)
     platform_read(head, sizeof head);
     size_t length = platform_read(table, sizeof table);
     uint32_t times = join3(head), words = join3(head + 5);
-    if (words > SUOVVAMET_MOST_WORK)
-        words = SUOVVAMET_MOST_WORK;
+    if (words > SUOVVAMET_MOST_LONG_WORK)
+        words = SUOVVAMET_MOST_LONG_WORK;
     if (times == 0) {
         print("not run\n");
         return 0;
@@ -77,19 +77,21 @@ int main(void)
     uint32_t refusal = 0;
     uint64_t count = 0, index = 0;
     int64_t change = 0;
+    uint32_t mode = head[3] % LONG;
     if (head[3] >= LIVE_LOOKUP && head[3] <= LIVE_NEW) {
         refusal = live(head[3], times, length, words);
         count = length / 8;
         times = 0;
     }
+    uint32_t flags = head[3] & LONG ? SUOVVAMET_LONG : 0;
     for (; times > 0; times--)
         if (head[3] == LIST)
             refusal = suovvamet_unrouted(table, length, 0, output, SUOVVAMET_MOST_UNROUTED, &count, &index);
         else if (head[3] >= PLAIN)
-            refusal = suovvamet_rewrite_plain(table, length, 0, head[3] - PLAIN, head[4], no_ranks, 0, output, SUOVVAMET_MOST_OUTPUT, &count, &change, &index);
+            refusal = suovvamet_rewrite_plain(table, length, flags, mode, head[4], no_ranks, 0, output, sizeof table, &count, &change, &index);
         else
             refusal =
-                suovvamet_rewrite(table, length, 0, head[3], head[4], no_ranks, 0, output, SUOVVAMET_MOST_OUTPUT, work, words, &count, &change, &index);
+                suovvamet_rewrite(table, length, flags, mode, head[4], no_ranks, 0, output, sizeof table, work, words, &count, &change, &index);
     if (refusal != SUOVVAMET_ANSWERED) {
         print("refused ");
         print_number(refusal);

@@ -10,7 +10,8 @@ use std::fs;
 use std::io::Write;
 use std::process::{exit, Command, Stdio};
 
-type Route = (u32, u8, u8);
+/// An address with its first bit on top, a length, a hop.
+type Route = (u64, u8, u8);
 
 /// The modes of a rewrite; 2 is retired.
 const MODES: [u8; 4] = [1, 3, 4, 5];
@@ -20,6 +21,9 @@ const LIST: u8 = 0;
 
 /// What is added to the mode there for the plain engine.
 const PLAIN: u8 = 128;
+
+/// And for addresses of 64 bits in records of 16 bytes, which library.c alone takes.
+const LONG: u8 = 32;
 
 /// And for calls on a live map, which library.c alone makes: a lookup, a put of a prefix that is present, a put of a new one with its take.
 const LIVE: [(u8, &str); 3] = [(64, "lookup"), (65, "put, present"), (66, "put, new, and its take")];
@@ -35,27 +39,31 @@ struct Random(u64);
 
 impl Random {
     fn next(&mut self) -> u32 {
+        self.wide() as u32
+    }
+
+    fn wide(&mut self) -> u64 {
         self.0 = self.0.wrapping_add(0x9E37_79B9_7F4A_7C15);
         let mut z = self.0;
         z = (z ^ z >> 30).wrapping_mul(0xBF58_476D_1CE4_E5B9);
         z = (z ^ z >> 27).wrapping_mul(0x94D0_49BB_1331_11EB);
-        (z ^ z >> 31) as u32
+        z ^ z >> 31
     }
 }
 
-fn mask(length: u8) -> u32 {
-    u32::MAX.checked_shl(32 - length as u32).unwrap_or(0)
+fn mask(length: u8) -> u64 {
+    u64::MAX.checked_shl(64 - length as u32).unwrap_or(0)
 }
 
 fn routes_of(bytes: &[u8]) -> Vec<Route> {
-    bytes.chunks_exact(8).map(|r| (u32::from_be_bytes([r[0], r[1], r[2], r[3]]), r[4], r[5])).collect()
+    bytes.chunks_exact(8).map(|r| ((u32::from_be_bytes([r[0], r[1], r[2], r[3]]) as u64) << 32, r[4], r[5])).collect()
 }
 
 /// The example's own yard, 10.20.0.0/16, again and again in the /16s from there on, up to 1,024 records.
 fn yards(yard: &[Route]) -> Vec<Route> {
-    let own: Vec<Route> = yard.iter().copied().filter(|r| r.0 >> 16 == 0x0A14).collect();
+    let own: Vec<Route> = yard.iter().copied().filter(|r| r.0 >> 48 == 0x0A14).collect();
     let mut routes: Vec<Route> =
-        (0..64u32).flat_map(|k| own.iter().map(move |&(a, l, h)| (a + (k << 16), l, h))).take(1_024).collect();
+        (0..64u64).flat_map(|k| own.iter().map(move |&(a, l, h)| (a + (k << 48), l, h))).take(1_024).collect();
     routes.sort();
     routes
 }
@@ -67,7 +75,7 @@ fn mixed(count: usize) -> Vec<Route> {
     let mut routes = Vec::new();
     while routes.len() < count {
         let length = (8 + random.next() % 25) as u8;
-        let address = random.next() & mask(length);
+        let address = (random.next() as u64) << 32 & mask(length);
         if prefixes.insert((address, length)) {
             routes.push((address, length, (random.next() % 16) as u8));
         }
@@ -83,16 +91,40 @@ fn tables(yard: &[Route]) -> Vec<Table> {
         table("yard (the example)", yard.to_vec()),
         table("yards side by side", yards(yard)),
         table("mixed lengths", mixed(1_024)),
-        table("host routes", (0..1_024u32).map(|i| (0x0A14_0000 + i, 32, (1 + random.next() % 4) as u8)).collect()),
-        table("most nodes", (0..1_024u32).map(|part| (part << 22, 32, (1 + part % 63) as u8)).collect()),
+        table("host routes", (0..1_024u64).map(|i| (0x0A14_0000 + i << 32, 32, (1 + random.next() % 4) as u8)).collect()),
+        table("most nodes", (0..1_024u64).map(|part| (part << 54, 32, (1 + part % 63) as u8)).collect()),
     ]
 }
 
-/// The nodes of a table: the root, and one for each depth 5, 10, .. 30 that a record reaches.
+/// The same kinds of tables with addresses of 64 bits: the yards below 2001:db8::/32.
+fn long_tables(yard: &[Route]) -> Vec<Table> {
+    let table = |name, routes| Table { name, routes };
+    let below = |routes: Vec<Route>| routes.into_iter().map(|(a, l, h)| (0x2001_0DB8 << 32 | a >> 32, 32 + l, h)).collect::<Vec<Route>>();
+    let mut random = Random(13);
+    let mut prefixes = BTreeSet::new();
+    let mut mixed = Vec::new();
+    while mixed.len() < 1_024 {
+        let length = (8 + random.next() % 57) as u8;
+        let address = random.wide() & mask(length);
+        if prefixes.insert((address, length)) {
+            mixed.push((address, length, (random.next() % 16) as u8));
+        }
+    }
+    mixed.sort();
+    vec![
+        table("yard, 64 bits", below(yard.to_vec())),
+        table("yards side by side, 64 bits", below(yards(yard))),
+        table("mixed lengths, 64 bits", mixed),
+        table("host routes, 64 bits", (0..1_024u64).map(|i| ((0x2001_0DB8 << 32) + i, 64, (1 + random.next() % 4) as u8)).collect()),
+        table("most nodes, 64 bits", (0..1_024u64).map(|part| (part << 54, 64, (1 + part % 63) as u8)).collect()),
+    ]
+}
+
+/// The nodes of a table: the root, and one for each depth 5, 10, .. that a record reaches.
 fn nodes(routes: &[Route]) -> usize {
     let mut seen = BTreeSet::from([(0, 0)]);
     for &(address, length, _) in routes {
-        for depth in (5..=length.min(30)).step_by(5) {
+        for depth in (5..=length).step_by(5) {
             seen.insert((depth, address & mask(depth)));
         }
     }
@@ -105,8 +137,10 @@ fn input(times: u32, mode: u8, words: usize, routes: &[Route]) -> Vec<u8> {
     bytes.extend([mode, 0]);
     bytes.extend(&(words as u32).to_be_bytes()[1..]);
     for &(address, length, hop) in routes {
-        bytes.extend(address.to_be_bytes());
-        bytes.extend([length, if mode % PLAIN == 1 { 0 } else { hop }, 0, 0]);
+        let octets = if mode & LONG != 0 { 8 } else { 4 };
+        bytes.extend(&address.to_be_bytes()[..octets]);
+        bytes.extend([length, if mode % LONG == 1 && !(64..PLAIN).contains(&mode) { 0 } else { hop }]);
+        bytes.extend(&[0; 6][..octets - 2]);
     }
     bytes
 }
@@ -219,9 +253,10 @@ impl Bench {
         let result = one.split_whitespace().nth(1).unwrap_or("").to_string();
         let (ours, theirs) = (self.time(&self.ours, mode, room, routes), self.time(&self.theirs, mode, room, routes));
         print!(
-            "| {name} | {} | {} | {mode} | {result} | {} | {} | **{:.2}** |",
+            "| {name} | {} | {} | {} | {result} | {} | {} | **{:.2}** |",
             thousands_of(routes.len() as i64),
             thousands_of(nodes as i64),
+            mode % LONG,
             microseconds(ours),
             microseconds(theirs),
             ours / theirs
@@ -457,9 +492,19 @@ fn main() {
             bench.line(table.name, mode, &table.routes);
         }
     }
+    let by_c = bench.ours.last().is_some_and(|word| word.ends_with("/library"));
+    if by_c {
+        println!("\nAddresses of 64 bits.\n");
+        bench.head();
+        for table in &long_tables(&yard) {
+            for mode in MODES {
+                bench.line(table.name, LONG + mode, &table.routes);
+            }
+        }
+    }
     println!("\nThe list of what has no route, in an output of 180,224 bytes: the holes are not counted first.");
     bench.lists(&tables);
-    if bench.ours.last().is_some_and(|word| word.ends_with("/library")) {
+    if by_c {
         println!("\nThe live map, beside a rewrite of its records.");
         bench.live(&bench.ours, true);
     }

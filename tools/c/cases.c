@@ -6,13 +6,13 @@
 #include "platform.h"
 #include "suovvamet.h"
 
-/* A case's first byte is its call, so much more where it lends ranks, and so much more under the strict choice. */
-enum { RANKS_CASE = 64, STRICT_CASE = 128 };
+/* A case's first byte is its call, so much more where addresses have 64 bits, where it lends ranks, and under the strict choice. */
+enum { LONG_CASE = 32, RANKS_CASE = 64, STRICT_CASE = 128 };
 
-enum { HEADER = 16, MOST_BYTES = 65535, MOST_LIST = 262144, MOST_RANKS = 255, MOST_STEPS = 65535, MOST_LIVE = 412240, CHECKED_STEPS = 32768, EDGE = 64, SHIFTS = 4 };
+enum { HEADER = 16, MOST_BYTES = 65535, MOST_LIST = 262144, MOST_LONG_LIST = 1048576, MOST_RANKS = 255, MOST_STEPS = 65535, MOST_LIVE = 412240, CHECKED_STEPS = 32768, EDGE = 64, SHIFTS = 4 };
 
-static uint8_t table_room[EDGE + SHIFTS + MOST_BYTES + EDGE], kept[sizeof table_room], output_room[EDGE + SHIFTS + MOST_LIST + EDGE];
-static uint32_t work_room[EDGE + SHIFTS + SUOVVAMET_MOST_WORK + EDGE];
+static uint8_t table_room[EDGE + SHIFTS + MOST_BYTES + EDGE], kept[sizeof table_room], output_room[EDGE + SHIFTS + MOST_LONG_LIST + EDGE];
+static uint32_t work_room[EDGE + SHIFTS + SUOVVAMET_MOST_LONG_WORK + EDGE];
 static uint16_t rank_room[EDGE + SHIFTS + MOST_RANKS + EDGE], kept_ranks[sizeof rank_room / sizeof rank_room[0]];
 
 /* What stood in the room of a live map before a call. */
@@ -20,6 +20,9 @@ static uint32_t room_before[MOST_LIVE];
 
 static uint8_t new_room[MOST_BYTES], step_bytes[8];
 static struct suovvamet_step step_room[MOST_STEPS];
+
+/* The bytes of a record of this case. */
+static size_t size;
 
 /* Where the rooms of this case begin. */
 static uint8_t *table, *output;
@@ -116,6 +119,8 @@ static int answered(uint32_t refusal, const struct guarded *index, int values_ze
     return 0;
 }
 
+static uint32_t most_work(void) { return size == 8 ? SUOVVAMET_MOST_WORK : SUOVVAMET_MOST_LONG_WORK; }
+
 /*
  * Holds the words that the library says the table needs to what a call said that was lent so many: number 10 is due below them alone, and a
  * refused table is refused alike.
@@ -134,7 +139,7 @@ static void promise_words(size_t length, uint32_t flags, int is_set, size_t word
         return;
     }
     promise(index.value == 0, "index of an answer");
-    promise(needed.value >= 160 && needed.value <= SUOVVAMET_MOST_WORK && (uint32_t)needed.value % 160 == 0, "words that no table needs");
+    promise(needed.value >= 160 && needed.value <= most_work() && (uint32_t)needed.value % 160 == 0, "words that no table needs");
     promise(refusal < SUOVVAMET_TABLE_LENGTH || refusal > SUOVVAMET_ORDER, "words of a refused table");
     if (refusal == SUOVVAMET_WORK_ROOM)
         promise(words < needed.value, "fewer words needed than were too few");
@@ -150,28 +155,43 @@ static void fill_output(size_t room)
         output_room[i] = pattern(i);
 }
 
+/* Four octets are printed as decimal numbers, eight as hex digits. */
+static void print_address(const uint8_t *octets)
+{
+    static const char hex[] = "0123456789abcdef";
+    for (size_t i = 0; i < size / 2; i++)
+        if (size == 8) {
+            print_number(octets[i]);
+            print(i < 3 ? "." : "");
+        } else {
+            char two[3] = {hex[octets[i] / 16], hex[octets[i] % 16], 0};
+            print(two);
+        }
+}
+
 static void print_records(size_t count, int hops)
 {
     for (size_t i = 0; i < count; i++) {
-        const uint8_t *record = output + 8 * i;
-        for (int octet = 0; octet < 4; octet++) {
-            print_number(record[octet]);
-            print(octet < 3 ? "." : "/");
-        }
-        print_number(record[4]);
+        const uint8_t *record = output + size * i, *behind = record + size / 2;
+        print_address(record);
+        print("/");
+        print_number(behind[0]);
         if (hops) {
             print(" ");
-            print_number(record[5]);
+            print_number(behind[1]);
         } else
-            promise(record[5] == 0, " and a hop");
-        print(record[6] == 0 && record[7] == 0 ? "\n" : " and bytes that are not zero\n");
+            promise(behind[1] == 0, " and a hop");
+        int clear = 1;
+        for (const uint8_t *byte = behind + 2; byte < record + size; byte++)
+            clear &= *byte == 0;
+        print(clear ? "\n" : " and bytes that are not zero\n");
     }
 }
 
 static void promise_output(size_t count, size_t room)
 {
     int touched = 0;
-    const uint8_t *end = output + 8 * count;
+    const uint8_t *end = output + size * count;
     size_t all = (size_t)(output - output_room) + room + EDGE;
     for (size_t i = 0; i < all; i++)
         if (output_room + i < output || output_room + i >= end)
@@ -202,7 +222,7 @@ static void rewrite(int plain, size_t length, uint32_t flags, uint32_t mode, uin
     promise_output((size_t)count.value, room);
 }
 
-static void covers(size_t length, uint32_t flags, uint32_t address, uint32_t query, size_t words)
+static void covers(size_t length, uint32_t flags, uint64_t address, uint32_t query, size_t words)
 {
     struct guarded32 covered = unset32;
     struct guarded index = unset;
@@ -215,7 +235,7 @@ static void covers(size_t length, uint32_t flags, uint32_t address, uint32_t que
     }
 }
 
-static void lookup(size_t length, uint32_t flags, uint32_t address)
+static void lookup(size_t length, uint32_t flags, uint64_t address)
 {
     struct guarded32 found = unset32, hop = unset32, matched = unset32;
     struct guarded index = unset;
@@ -468,10 +488,10 @@ static void plan(size_t length, size_t new_length, uint32_t flags, size_t room)
 }
 
 /* ---- The cases. */
-static uint32_t number(const uint8_t *bytes, int size)
+static uint32_t number(const uint8_t *bytes, int count)
 {
     uint32_t n = 0;
-    for (int i = 0; i < size; i++)
+    for (int i = 0; i < count; i++)
         n = n << 8 | bytes[i];
     return n;
 }
@@ -504,7 +524,7 @@ static int ranks_kept(void)
 static const char *run(void)
 {
     for (size_t at = 0;; at++) {
-        uint8_t header[HEADER];
+        uint8_t header[HEADER], query[8];
         size_t got = platform_read(header, HEADER);
         if (got == 0)
             return NULL;
@@ -512,10 +532,12 @@ static const char *run(void)
         output = output_room + EDGE + (at + 1) % SHIFTS;
         work = work_room + EDGE + at % SHIFTS;
         ranks = rank_room + EDGE + at % SHIFTS;
-        uint32_t call = header[0] % RANKS_CASE;
+        uint32_t call = header[0] % LONG_CASE;
+        int is_long = header[0] % RANKS_CASE >= LONG_CASE;
         size_t lent = 0;
-        if (got < HEADER || !read_ranks(header[0], &lent))
+        if (got < HEADER || (is_long && platform_read(query, sizeof query) < sizeof query) || !read_ranks(header[0], &lent))
             return "case cut short";
+        size = is_long ? 16 : 8;
         size_t length = call == 10 ? COMMAND * (size_t)number(header + 12, 2) : number(header + 14, 2);
         if (length > MOST_BYTES)
             return "too many commands";
@@ -526,17 +548,21 @@ static const char *run(void)
             table_room[i] = pattern(i);
         if (platform_read(table, length) < length)
             return "case cut short";
-        if (call > 10)
+        int widths = call <= 2 || call == 4 || call == 5; /* both are taken */
+        if (call > 10 || (is_long && !widths))
             return "no such call";
         size_t new_length = number(header + 8, 2), steps = number(header + 10, 2);
         if ((call == 7 || call == 8) && (!read_new(new_length) || (call == 7 && !read_steps(steps))))
             return "case cut short";
         uint32_t flags = header[0] < STRICT_CASE ? 0 : SUOVVAMET_STRICT;
-        flags |= filler(at) & ~(uint32_t)SUOVVAMET_STRICT; /* bits that are ignored */
+        flags |= is_long ? SUOVVAMET_LONG : 0;
+        /* Bits that are ignored, and of an address of 32 bits those above them. */
+        flags |= filler(at) & ~(uint32_t)(widths ? SUOVVAMET_STRICT | SUOVVAMET_LONG : SUOVVAMET_STRICT);
+        uint64_t address = is_long ? (uint64_t)number(query, 4) << 32 | number(query + 4, 4) : (uint64_t)filler(at) << 32 | number(header + 4, 4);
         size_t words = number(header + 8, 4), room = number(header + 12, 2);
-        if (call == 4 && words > MOST_LIST)
+        if (call == 4 && words > (is_long ? MOST_LONG_LIST : MOST_LIST))
             return "output too large";
-        if ((call < 4 && words > SUOVVAMET_MOST_WORK) || (call == 10 && words > MOST_LIVE))
+        if ((call < 4 && words > most_work()) || (call == 10 && words > MOST_LIVE))
             return "work room too large";
         for (size_t i = 0; i < around; i++)
             kept[i] = table_room[i];
@@ -546,8 +572,8 @@ static const char *run(void)
             work_room[i] = filler(i);
         switch (call) {
         case 0: rewrite(0, length, flags, header[1], header[2], lent, room, words); break;
-        case 1: covers(length, flags, number(header + 4, 4), header[3], words); break;
-        case 2: lookup(length, flags, number(header + 4, 4)); break;
+        case 1: covers(length, flags, address, header[3], words); break;
+        case 2: lookup(length, flags, address); break;
         case 3: addresses_held(length, flags); break;
         case 4: unrouted(length, flags, words); break;
         case 5: rewrite(1, length, flags, header[1], header[2], lent, room, 0); break;

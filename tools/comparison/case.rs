@@ -148,6 +148,7 @@ impl Case {
         }
         let length = if call == LIVE { 0 } else { (word(12) & 0xFFFF) as usize };
         let more = match call {
+            _ if long && call != LIVE => 0,
             CHECK => (word(8) >> 16) as usize + 8 * (word(8) & 0xFFFF) as usize,
             PLAN => (word(8) >> 16) as usize,
             LIVE => 8 * (word(12) >> 16) as usize,

@@ -989,6 +989,9 @@ pub fn fixed() -> Vec<Made> {
             }
         }
     }
+    // Addresses of 64 bits: every mode and call on every shape, and on those at lengths above 32; the refusals, and their pairs; 1,024 records with the most
+    // nodes in exactly the rooms for fill, one byte less and one word less; the rooms of a /5, a /59, a /60 and a /64; the edges of query lengths; host bits.
+    list.extend(fixed_long(random));
     // Plans, and checks of plans as they are proposed and damaged.
     list.extend(plans::fixed(random));
     // Sequences of commands to a live map.
@@ -996,6 +999,87 @@ pub fn fixed() -> Vec<Made> {
     // Every rewrite of the list by the plain engine.
     let again: Vec<Made> = list.iter().filter_map(plain).collect();
     list.extend(again);
+    list
+}
+
+/// The part of the fixed list with addresses of 64 bits.
+fn fixed_long(random: &mut Random) -> Vec<Made> {
+    let mut list = Vec::new();
+    let small = |random: &mut Random, call, mode, shape, rooms| loop {
+        let made = whole(random, call, true, mode, shape, rooms);
+        if made.case.table.len() <= 2_080 || (LARGE..SHAPES.len()).contains(&shape) {
+            return made;
+        }
+    };
+    for shape in (0..LARGE).chain(SHAPES.len()..SHAPES.len() + LONG_SHAPES.len()) {
+        for mode in MODES {
+            let rooms = random.below(4);
+            list.push(small(random, REWRITE, mode, shape, rooms));
+        }
+        for call in [COVER, LOOKUP, UNROUTED] {
+            let rooms = random.pick(&[0, 0, 1, 3]);
+            list.push(small(random, call, 0, shape, rooms));
+        }
+    }
+    for (mode, shape, rooms) in [(1, 21, 0), (3, 23, 0), (4, 20, 2), (5, 22, 3)] {
+        list.push(small(random, REWRITE, mode, shape, rooms));
+    }
+    list.push(small(random, UNROUTED, 0, 20, 0));
+    let routes: Vec<Route> = (0..1024u64).map(|part| (part << 54 | part, 64, 1 + (part % 63) as u8)).collect();
+    for (rooms, work, room) in [
+        ("exact", most_work(true), 16_400),
+        ("one byte short", most_work(true), 16_399),
+        ("one word short", most_work(true) - 1, 16_400),
+    ] {
+        let mut case = blank(REWRITE, 5);
+        (case.long, case.work, case.room, case.table) = (true, work, room, table_of(&routes, true));
+        list.push(Made { case, shape: "1,024: most nodes", rooms, damage: None });
+    }
+    for (length, words) in [(5, 320), (59, 1_920), (60, 2_080), (64, 2_080)] {
+        for (call, mode) in [(REWRITE, 1), (REWRITE, 4), (COVER, 0)] {
+            for short in [0, 1] {
+                let mut case = blank(call, mode);
+                (case.long, case.work, case.room, case.table) = (true, words - short, 16, table_of(&[(0, length, 0)], true));
+                list.push(Made { case, shape: "one record", rooms: ["exact", "one word short"][short as usize], damage: None });
+            }
+        }
+    }
+    for call in [REWRITE, COVER, LOOKUP, UNROUTED] {
+        for &number in numbers(call) {
+            let size = if number == 4 { Size::Over } else { Size::Few };
+            list.push(damaged(random, call, true, number, 0, Order::Same, size));
+        }
+        for (first, second, order) in pairs(call) {
+            if first != 4 && second != 4 && (call == REWRITE || second >= 9) {
+                list.push(damaged(random, call, true, first, second, order, Size::Few));
+            }
+        }
+    }
+    let long = |mut made: Made, query: u64| {
+        (made.case.long, made.case.query) = (true, query);
+        made
+    };
+    let halves = table_of(&[(0, 1, 0), (1 << 63, 1, 0)], true);
+    for length in [0, 1, 32, 33, 63, 64, 65, 255] {
+        list.push(long(edge(COVER, 0, 0, length, &halves), 0x2001_0DB8_0000_0001));
+    }
+    // 2001:db8::/32 as it stands and with its octets reversed; two records that mask to one prefix; every bit past the length set.
+    let texts: [&[Route]; 4] = [
+        &[(0x2001_0DB8_0000_0000, 32, 1)],
+        &[(0x0000_0000_B80D_0120, 32, 1)],
+        &[(0x2001_0DB8_0000_0001, 32, 1), (0x2001_0DB8_FFFF_0000, 32, 2)],
+        &[(u64::MAX, 0, 1), (u64::MAX, 1, 2), (u64::MAX, 63, 3), (u64::MAX, 64, 4)],
+    ];
+    for routes in texts {
+        for call in [REWRITE, COVER, LOOKUP, UNROUTED] {
+            for strict in [false, true] {
+                let routes = if call == COVER { without_hops(routes.to_vec()) } else { routes.to_vec() };
+                let mut made = long(edge(call, 4, 0, 8, &table_of(&routes, true)), 0x2001_0DB8_1234_5678);
+                made.case.strict = strict;
+                list.push(made);
+            }
+        }
+    }
     list
 }
 

@@ -415,11 +415,8 @@ fn run(cases: u64, seed: u64, command: Option<&str>, by_replay: u64) {
             } else {
                 seen += 1;
             }
-            // No call of the library takes 64 bits: there the crate and the model are alone.
-            if !one.case.long {
-                made.push(one);
-                texts.push(text);
-            }
+            made.push(one);
+            texts.push(text);
             if seen <= by_replay {
                 count = made.len();
             }

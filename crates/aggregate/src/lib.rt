@@ -12,19 +12,21 @@ use calls::engine::no_ranks;
 use cover::query::covers_in_aggregate;
 use nodecount::count_nodes;
 use records::Form;
+use records::size_of;
+use records::sized::key_of;
 use table::Checked;
-use table::check_table;
+use table::check_sized;
 use walks::prepare;
 use walks::write;
-use words::prefix::masked;
+use words::key::masked_key;
 ghost use mathlib.Core.Path.{_≡_};
 ghost use mathlib.Core.Bool.{not, _&&_};
-ghost use Prim.Native.Nat.{_-_, _*_, _^_, _≤_};
+ghost use Prim.Native.Nat.{_-_, _*_, _%_, _^_, _≤_};
 ghost use lib.Dec.{leb};
 ghost use lib.ListN.{length, replicate};
 ghost use Rattle.theory.specs.Results.{startOf};
 ghost use Rattle.theory.specs.Routes.{Table};
-ghost use Rattle.records.specs.Wire.{records, routes};
+ghost use Rattle.records.specs.Sized.{IsSize, widthIn, recordsIn, routesIn};
 ghost use Rattle.nodes.specs.Node.{spare};
 ghost use Rattle.nodes.specs.Room.{nodesBelow};
 ghost use Rattle.calls.specs.Ending.{Fills, Finished};
@@ -53,6 +55,7 @@ fn no_mode(mode: u32) -> bool
 // first walk into nothing counts the result's records.
 fn rewrite_checked(
     table: &[u8],
+    size: usize,
     mode: u32,
     fill: u8,
     ranks: &[u16],
@@ -61,25 +64,25 @@ fn rewrite_checked(
     work: &mut [u32],
 ) -> Rewritten
     requires { ⌜ InUse mode ⌝ }
-    requires { ⌜ Table 32 (routes (now table)) ⌝ }
-    requires { ⌜ Ready (now table) mode ⌝ }
+    requires { ⌜ IsSize size × Table (widthIn size) (routesIn size (now table)) ⌝ }
+    requires { ⌜ Ready size (now table) mode ⌝ }
     requires { ⌜ Fills mode fill ⌝ }
-    requires { ⌜ before ≡ records (now table) ⌝ }
-    requires { ⌜ 160 * nodesBelow 13 0 (whole (now table)) ≤ length (now work) ⌝ }
-    ensures { λ r. ⌜ Finished (now (table .entry)) mode fill (now (ranks .entry)) (now (output .entry)) r (now (output .exit)) ⌝ }
+    requires { ⌜ before ≡ recordsIn size (now table) ⌝ }
+    requires { ⌜ 160 * nodesBelow 13 0 (whole size (now table)) ≤ length (now work) ⌝ }
+    ensures { λ r. ⌜ Finished size (now (table .entry)) mode fill (now (ranks .entry)) (now (output .entry)) r (now (output .exit)) ⌝ }
 {
-    let top = prepare(table, mode, fill, work);
-    if output.len() / 8 < most_records(mode, before) {
+    let top = prepare(table, size, mode, fill, work);
+    if output.len() / size < most_records(mode, before) {
         let mut nothing = [0u8; 0];
-        let count = write(table, mode, fill, ranks, work, top, &mut nothing);
-        if output.len() / 8 < count {
+        let count = write(table, size, mode, fill, ranks, work, top, &mut nothing);
+        if output.len() / size < count {
             return Rewritten::Refused {
                 number: 11,
                 index: 0,
             };
         }
     }
-    let written = write(table, mode, fill, ranks, work, top, output);
+    let written = write(table, size, mode, fill, ranks, work, top, output);
     Rewritten::Records {
         count: written,
         change: (written as i64) - (before as i64),
@@ -122,10 +125,12 @@ fn rewrite_in(
             index: 0,
         };
     }
-    match check_table(table, form, mode == 1) {
+    let size = size_of(form);
+    let strict = form.strict;
+    match check_sized(table, size, strict, mode == 1) {
         Checked::Refused { number, index } => Rewritten::Refused { number, index },
         Checked::Valid(records) => {
-            if work.len() / 160 < count_nodes(table) {
+            if work.len() / 160 < count_nodes(table, size) {
                 return Rewritten::Refused {
                     number: 10,
                     index: 0,
@@ -133,6 +138,7 @@ fn rewrite_in(
             }
             rewrite_checked(
                 table,
+                size,
                 mode,
                 fill_of(mode, default),
                 ranks,
@@ -163,34 +169,37 @@ pub fn rewrite(
 }
 
 // The query's address, its first bit on top, without the bits past its length: half of its wide address.
-fn half_query(address: u32, len: usize) -> u64
-    requires { ⌜ len ≤ 32 ⌝ }
-    ensures { λ r. ⌜ r * 2 ≡ startOf (32 - len) address * 2 ^ spare ⌝ }
+fn half_query(address: u64, size: usize, len: usize) -> u64
+    requires { ⌜ IsSize size × (len ≤ widthIn size) ⌝ }
+    ensures { λ r. ⌜ r * 2 ≡ startOf (widthIn size - len) (address % 2 ^ widthIn size) * 2 ^ spare size ⌝ }
 {
-    (masked(address, len as u8) as u64) * 4294967296
+    masked_key(key_of(address, size), len as u8)
 }
 
 // The cover query, for a room of so many words.
-fn covers_in(table: &[u8], form: Form, address: u32, len: u32, room: usize) -> Covers
+fn covers_in(table: &[u8], form: Form, address: u64, len: u32, room: usize) -> Covers
     ensures { λ r. ⌜ coversSays r ≡ coverReply form (now (table .entry)) address len room ⌝ }
 {
-    match check_table(table, form, true) {
+    let size = size_of(form);
+    let strict = form.strict;
+    match check_sized(table, size, strict, true) {
         Checked::Refused { number, index } => Covers::Refused { number, index },
         Checked::Valid(records) => {
-            if 32 < len {
+            let n = len as usize;
+            if 4 * size < n {
                 return Covers::Refused {
                     number: 9,
                     index: 0,
                 };
             }
-            if room / 160 < count_nodes(table) {
+            if room / 160 < count_nodes(table, size) {
                 return Covers::Refused {
                     number: 10,
                     index: 0,
                 };
             }
-            let n = len as usize;
-            if covers_in_aggregate(table, 0, records as u16, 0, 0, half_query(address, n), n) {
+            let query = half_query(address, size, n);
+            if covers_in_aggregate(table, size, 0, records as u16, 0, 0, query, n) {
                 Covers::Covered
             } else {
                 Covers::Uncovered
@@ -199,8 +208,9 @@ fn covers_in(table: &[u8], form: Form, address: u32, len: u32, room: usize) -> C
     }
 }
 
-// Does the set, read by the form, cover every address of the prefix? Bits of the address past the length are ignored. The room is zero throughout afterwards.
-pub fn covers(table: &[u8], form: Form, address: u32, len: u32, work: &mut [u32]) -> Covers
+// Does the set, read by the form, cover every address of the prefix? Of the address its lowest bits count, as many as the records' addresses have; bits past
+// the length are ignored. The room is zero throughout afterwards.
+pub fn covers(table: &[u8], form: Form, address: u64, len: u32, work: &mut [u32]) -> Covers
     ensures { λ r. ⌜ Queried form (now (table .entry)) address len (length (now (work .entry))) r (now (work .exit)) ⌝ }
 {
     let answer = covers_in(table, form, address, len, work.len());

@@ -1,4 +1,4 @@
 // Mode 3: reads a table from standard input and prints its records and the change. It is run on document 01's case 9.
 fn main() {
-    program::run(3);
+    program::run(false, 3);
 }

@@ -1,4 +1,4 @@
 // Mode 4: reads a table from standard input and prints its records and the change. It is run on document 01's case 11.
 fn main() {
-    program::run(4);
+    program::run(false, 4);
 }

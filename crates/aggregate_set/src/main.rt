@@ -1,4 +1,4 @@
 // Mode 1: reads a table from standard input and prints its records and the change. It is run on document 01's case 2.
 fn main() {
-    program::run(1);
+    program::run(false, 1);
 }

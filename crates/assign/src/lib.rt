@@ -23,6 +23,7 @@ ghost use lib.ListN.{length, getD};
 ghost use Rattle.theory.specs.Routes.{Answer};
 ghost use Rattle.theory.specs.Results.{leaf, sets};
 ghost use Rattle.theory.specs.Ranks.{lowest};
+ghost use Rattle.records.specs.Sized.{IsSize};
 ghost use Rattle.words.specs.Bits.{bit};
 ghost use Rattle.words.specs.Positions.{position};
 ghost use Rattle.positions.specs.Runs.{noHop, hopOf, orElse, placeAt};
@@ -198,15 +199,15 @@ pub fn leaf_slots(covering: &[u8; 31], hops: &[u8; 31], fill: u8) -> u32
 }
 
 // Writes one record, if it is by a hop and not by the one above, and says how many it wrote: that of each wide address whose half is in hand.
-pub fn emit(out: &mut [u8], addr: u64, len: usize, hop: u8, above: u8) -> usize
-    requires { ⌜ len < 256 ⌝ }
-    ensures { λ r. ⌜ ((a : ℕ) → a / 2 ≡ addr → Wrote (entryOver a len hop above) 0 r (now (out .entry)) (now (out .exit))) ⌝ }
+pub fn emit(size: usize, out: &mut [u8], addr: u64, len: usize, hop: u8, above: u8) -> usize
+    requires { ⌜ (len < 256) × IsSize size ⌝ }
+    ensures { λ r. ⌜ ((a : ℕ) → a / 2 ≡ addr → Wrote size (entryOver a len hop above) 0 r (now (out .entry)) (now (out .exit))) ⌝ }
 {
     if hop == above {
         return 0;
     }
     if hop < NO_HOP {
-        put(out, addr, len, hop);
+        put(size, out, addr, len, hop);
         return 1;
     }
     0

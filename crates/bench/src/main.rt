@@ -75,7 +75,10 @@ fn repeat(
     while 0 < left {
         rewrite(
             table,
-            Form { strict: false },
+            Form {
+                strict: false,
+                long: false,
+            },
             mode,
             default,
             ranks,
@@ -86,7 +89,10 @@ fn repeat(
     }
     rewrite(
         table,
-        Form { strict: false },
+        Form {
+            strict: false,
+            long: false,
+        },
         mode,
         default,
         ranks,
@@ -106,10 +112,30 @@ fn repeat_plain(
 ) -> Rewritten {
     let mut left = more;
     while 0 < left {
-        plain::rewrite(table, Form { strict: false }, mode, default, ranks, output);
+        plain::rewrite(
+            table,
+            Form {
+                strict: false,
+                long: false,
+            },
+            mode,
+            default,
+            ranks,
+            output,
+        );
         left -= 1;
     }
-    plain::rewrite(table, Form { strict: false }, mode, default, ranks, output)
+    plain::rewrite(
+        table,
+        Form {
+            strict: false,
+            long: false,
+        },
+        mode,
+        default,
+        ranks,
+        output,
+    )
 }
 
 // How many words are lent of those asked for, where there are so many.
@@ -147,10 +173,24 @@ fn repeat_in(
 fn repeat_list(more: u32, table: &[u8], output: &mut [u8]) -> Listed {
     let mut left = more;
     while 0 < left {
-        unrouted(table, Form { strict: false }, output);
+        unrouted(
+            table,
+            Form {
+                strict: false,
+                long: false,
+            },
+            output,
+        );
         left -= 1;
     }
-    unrouted(table, Form { strict: false }, output)
+    unrouted(
+        table,
+        Form {
+            strict: false,
+            long: false,
+        },
+        output,
+    )
 }
 
 // The same in an output of its own, and the last answer as a line.

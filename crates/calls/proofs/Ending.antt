@@ -1,9 +1,10 @@
 -- Laws for the proof of any engine's rewrite: the rules 1, 2, 15 and 3 to 8 judged one after the other, the mode and the default, what a table that was checked is good
 -- for, the most records of a result, and the end of a rewrite. Assumes nothing.
 use Prim.Native.Nat.{ℕ, zero, suc, _+_, _-_, _*_, _/_, _^_, _≤_, _<_}
-use mathlib.Core.Path.{_≡_, refl, sym, ap, _∙_}
+use mathlib.Core.Path.{_≡_, refl, sym, ap, subst, _∙_}
 use mathlib.Core.Bool.{Bool, true, false, not, cond, _||_}
 use mathlib.Core.List.{List, _∷_, _++_}
+use mathlib.Core.Logic.{inl, inr}
 use native.Mathlib.Nat.{le-trans}
 use native.Mathlib.Omega.{arith}
 use lib.Dec.{eqb, leb, ltb}
@@ -21,14 +22,15 @@ use Rattle.theory.proofs.Ranks.{lowest-chooses}
 use Rattle.theory.proofs.Lengths.{mostOf, result-length}
 use Rattle.refusals.specs.Rules.{Rule, rule, gives, refuses, judge}
 use Rattle.refusals.proofs.Judged.{gives-any, kept-next, broken-here, all-next, some-here}
-use Rattle.records.specs.Wire.{records, routes, Bytes, bytesOf, laid}
-use Rattle.records.proofs.Reading.{length-routes}
-use Rattle.records.proofs.Written.{length-bytes}
+use Rattle.records.specs.Sized.{IsSize, widthIn, recordsIn, routesIn, bytesIn, Bytes, laid}
+use Rattle.records.proofs.SizedReading.{form-size, in-length-routes}
+use Rattle.records.proofs.SizedWritten.{in-length-bytes}
 use Rattle.records.specs.declared.Form.{Form}
-use Rattle.table.specs.Checking.{checkReply}
-use Rattle.table.specs.Conditions.{Lawful}
-use Rattle.table.specs.TableRules.{tableRules}
-use Rattle.table.proofs.Tables.{accepted-table}
+use Rattle.records.specs.Forms.{sizeOf}
+use Rattle.table.specs.Checking.{checkReplyIn}
+use Rattle.table.specs.SizedConditions.{LawfulIn}
+use Rattle.table.specs.TableRules.{formRules}
+use Rattle.table.proofs.SizedTables.{in-accepted-table}
 use Rattle.calls.specs.declared.Rewritten.{Rewritten}
 use Rattle.calls.specs.declared.Rewritten.the-variants.{Records, Refused}
 use Rattle.calls.specs.Ending.{lastReply, Finished}
@@ -52,7 +54,7 @@ module _ (known : Bool) (form : Form) (t : List ℕ) (mode default : ℕ) (ranks
       past-mode : judge (rulesWith known form t mode default ranks last) a
           ≡ judge (rule 2 0 (not (eqb mode 5) || leb default 63)
           ∷ rule 15 0 (not (leb 4 mode) || isRanking 64 ranks)
-          ∷ tableRules form (takesSet mode) t
+          ∷ formRules form (takesSet mode) t
           ++ last) a
       past-mode = kept-next a 1 0 _ is ∙ kept-next a 16 0 _ (ap not (ne-eqb mode 2 used))
 
@@ -67,27 +69,32 @@ module _ (known : Bool) (form : Form) (t : List ℕ) (mode default : ℕ) (ranks
 
         module _ (ranked : (not (leb 4 mode) || isRanking 64 ranks) ≡ true) where
           -- Numbers 3 to 8.
-          pub refused-table : {n i : ℕ} → checkReply form (takesSet mode) t ≡ refuses n i
+          pub refused-table : {n i : ℕ} → checkReplyIn (sizeOf form) (form .strict) (takesSet mode) t ≡ refuses n i
               → judge (rulesWith known form t mode default ranks last) a ≡ refuses n i
           refused-table {n} {i} e =
-              past-mode ∙ kept-next a 2 0 _ ok ∙ kept-next a 15 0 _ ranked ∙ some-here a (records t) n i (tableRules form (takesSet mode) t) last e
+              past-mode ∙ kept-next a 2 0 _ ok ∙ kept-next a 15 0 _ ranked ∙ some-here a (recordsIn (sizeOf form) t) n i (formRules form (takesSet mode) t) last e
 
           -- Past the table's rules the last decide.
-          pub last-decide : {k : ℕ} → checkReply form (takesSet mode) t ≡ gives k
+          pub last-decide : {k : ℕ} → checkReplyIn (sizeOf form) (form .strict) (takesSet mode) t ≡ gives k
               → judge (rulesWith known form t mode default ranks last) a ≡ judge last a
           last-decide valid =
-              past-mode ∙ kept-next a 2 0 _ ok ∙ kept-next a 15 0 _ ranked ∙ all-next a (records t) (tableRules form (takesSet mode) t) last valid
+              past-mode ∙ kept-next a 2 0 _ ok ∙ kept-next a 15 0 _ ranked ∙ all-next a (recordsIn (sizeOf form) t) (formRules form (takesSet mode) t) last valid
 
-module _ (rules : List Rule) (t : List ℕ) (mode default : ℕ) (ranks o : List ℕ) where
+module _ (size : ℕ) (rules : List Rule) (t : List ℕ) (mode default : ℕ) (ranks o : List ℕ) where
   -- A refusal leaves the output.
-  pub refused-by : {n i : ℕ} → replyBy rules t mode default ranks ≡ refuses n i → RewritesBy rules t mode default ranks o (Refused n i) o
-  refused-by e = record { answer = sym (ap (writtenOf (records t)) e); output = sym (ap (outputOf o) e) }
+  pub refused-by : {n i : ℕ} → replyBy size rules t mode default ranks ≡ refuses n i → RewritesBy size rules t mode default ranks o (Refused n i) o
+  refused-by e = record { answer = sym (ap (writtenOf (recordsIn size t)) e); output = sym (ap (outputOf size o) e) }
 
   -- What is finished by the last rule is what the whole statement asks.
-  pub finished-by : {fill : ℕ} {r : Rewritten} {o′ : List ℕ} → replyBy rules t mode default ranks ≡ lastReply t mode fill ranks (length o)
-      → Finished t mode fill ranks o r o′ → RewritesBy rules t mode default ranks o r o′
+  pub finished-by : {fill : ℕ} {r : Rewritten} {o′ : List ℕ} → replyBy size rules t mode default ranks ≡ lastReply size t mode fill ranks (length o)
+      → Finished size t mode fill ranks o r o′ → RewritesBy size rules t mode default ranks o r o′
   finished-by e f =
-      record { answer = f .answer ∙ sym (ap (writtenOf (records t)) e); output = f .output ∙ sym (ap (outputOf o) e) }
+      record { answer = f .answer ∙ sym (ap (writtenOf (recordsIn size t)) e); output = f .output ∙ sym (ap (outputOf size o) e) }
+
+-- What is finished at a size that is the form's is finished at the form's.
+pub finished-in : {size n : ℕ} {t : List ℕ} {mode fill : ℕ} {ranks o : List ℕ} {r : Rewritten} {o′ : List ℕ} → size ≡ n → Finished size t mode fill ranks o r o′
+    → Finished n t mode fill ranks o r o′
+finished-in {t = t} {mode} {fill} {ranks} {o} {r} {o′} e = subst (λ (k : ℕ). Finished k t mode fill ranks o r o′) e
 
 -- ---- The mode and the default.
 
@@ -114,10 +121,10 @@ same-mode mode fill default used same =
     mode-is (λ m. m ≡ modeOf mode default) mode fill used (λ e. rw e) (λ e. rw e) (λ e. rw e) (λ e. rw (e, same e))
 
 -- So a fill that is the default in mode 5 has the default's result.
-pub same-last : (t : List ℕ) (mode fill default : ℕ) (ranks : List ℕ) (room : ℕ) → InUse mode → (mode ≡ 5 → fill ≡ default)
-    → lastReply t mode default ranks room ≡ lastReply t mode fill ranks room
+pub same-last : (size : ℕ) (t : List ℕ) (mode fill default : ℕ) (ranks : List ℕ) (room : ℕ) → InUse mode → (mode ≡ 5 → fill ≡ default)
+    → lastReply size t mode default ranks room ≡ lastReply size t mode fill ranks room
 unfolding resultOf
-same-last t mode fill default ranks room used same = rw (same-mode mode fill default used same)
+same-last size t mode fill default ranks room used same = rw (same-mode mode fill default used same)
 
 -- Above is not at most.
 pub above-not : (m n : ℕ) → ltb m n ≡ not (leb n m)
@@ -132,32 +139,33 @@ pub default-hop : (mode default : ℕ) → (not (eqb mode 5) || leb default 63) 
 default-hop mode default e five = leb-true default 63 (rw (eq-eqb mode 5 five) at e)
 
 -- ---- What a table that keeps the rules is good for.
-module _ (form : Form) (s : Bool) (t : List ℕ) (k : ℕ) (valid : checkReply form s t ≡ gives k) where
+module _ (form : Form) (s : Bool) (t : List ℕ) (k : ℕ) (valid : checkReplyIn (sizeOf form) (form .strict) s t ≡ gives k) where
   -- The check counts its records.
-  pub checked-count : k ≡ records t
-  checked-count = let e = gives-any (tableRules form s t) (records t) k (records t) valid in cc
+  pub checked-count : k ≡ recordsIn (sizeOf form) t
+  checked-count = let e = gives-any (formRules form s t) (recordsIn (sizeOf form) t) k (recordsIn (sizeOf form) t) valid in cc
 
   -- Its routes are lawful.
-  pub checked-lawful : Bytes t → Lawful s (routes t)
-  checked-lawful bytes = accepted-table (records t) k form s t bytes valid .0
+  pub checked-lawful : Bytes t → LawfulIn (sizeOf form) s (routesIn (sizeOf form) t)
+  checked-lawful bytes = in-accepted-table (sizeOf form) (form-size form) (form .strict) s t bytes (recordsIn (sizeOf form) t) k valid .0
 
   -- They are at most 1,024.
   pub checked-few : Bytes t → k ≤ 1024
-  checked-few bytes = omega (arith, checked-count, checked-lawful bytes .few, length-routes t)
+  checked-few bytes = omega (arith, checked-count, checked-lawful bytes .few, in-length-routes (sizeOf form) t)
 
 -- ---- The end of a rewrite.
 
 -- The result has no more records than the table, in mode 5 no more than one more.
-pub result-most : (t : List ℕ) (mode fill : ℕ) (ranks : List ℕ) {before most : ℕ} → InUse mode → Table 32 (routes t) → before ≡ records t
-    → (mode ≡ 5 → most ≡ before + 1) × ((mode ≡ 5 → ⊥) → most ≡ before) → length (resultOf t mode fill ranks) ≤ most
+pub result-most : (size : ℕ) (t : List ℕ) (mode fill : ℕ) (ranks : List ℕ) {before most : ℕ} → InUse mode → Table (widthIn size) (routesIn size t)
+    → before ≡ recordsIn size t
+    → (mode ≡ 5 → most ≡ before + 1) × ((mode ≡ 5 → ⊥) → most ≡ before) → length (resultOf size t mode fill ranks) ≤ most
 unfolding resultOf
-result-most t mode fill ranks {most = most} used table count at =
-    le-trans (result-length (lowest ranks) (lowest-chooses ranks) 32 (modeOf mode fill) table)
-    (mode-is (λ m. mostOf m (length (routes t)) ≤ most) mode fill used (λ e. as-many (λ five. omega arith)) (λ e. as-many (λ five. omega arith))
-    (λ e. as-many (λ five. omega arith)) (λ e. omega (arith, length-routes t, at .0 e)))
+result-most size t mode fill ranks {most = most} used table count at =
+    le-trans (result-length (lowest ranks) (lowest-chooses ranks) (widthIn size) (modeOf mode fill) table)
+    (mode-is (λ m. mostOf m (length (routesIn size t)) ≤ most) mode fill used (λ e. as-many (λ five. omega arith)) (λ e. as-many (λ five. omega arith))
+    (λ e. as-many (λ five. omega arith)) (λ e. omega (arith, in-length-routes size t, at .0 e)))
   where
-    as-many : (mode ≡ 5 → ⊥) → length (routes t) ≤ most
-    as-many other = omega (arith, length-routes t, at .1 other)
+    as-many : (mode ≡ 5 → ⊥) → length (routesIn size t) ≤ most
+    as-many other = omega (arith, in-length-routes size t, at .1 other)
 
 -- The difference of two small numbers fits,
 change-small : (a b : ℕ) → a < 2 ^ 62 → b < 2 ^ 62 → mag (pos a -ℤ pos b) < 2 ^ 63
@@ -178,27 +186,41 @@ module _ (a b : ℕ) (small : a < 2 ^ 62) (least : b < 2 ^ 62) where
   change-is = toZ-ofZ w64 _ change-fits ∙ rw (toZ-pos w64 a (omega arith), toZ-pos w64 b (omega arith))
 
 -- Records laid at the output's start, and the rest as it was.
-pub laid-output : (rs : List Route) (o : List ℕ) → laid 0 (bytesOf rs) o ≡ outputOf o (gives rs)
+pub laid-output : (size : ℕ) → IsSize size → (rs : List Route) (o : List ℕ) → laid 0 (bytesIn size rs) o ≡ outputOf size o (gives rs)
 unfolding laid
-laid-output rs o =
-    let n = length-bytes rs in
-    let e : 0 + length (bytesOf rs) ≡ 8 * length rs = omega arith in
-    ap (λ (k : ℕ). bytesOf rs ++ drop k o) e
+laid-output size is rs o =
+    let n = in-length-bytes size is rs in
+    let e : 0 + length (bytesIn size rs) ≡ size * length rs = omega arith in
+    ap (λ (k : ℕ). bytesIn size rs ++ drop k o) e
 
-module _ (t : List ℕ) (mode fill : ℕ) (ranks o : List ℕ) where
+-- Too few whole records are too few bytes,
+too-short : (size : ℕ) → IsSize size → (room n : ℕ) → room / size < n → room < size * n
+too-short size (inl e) room n h = let g : room / 8 < n = rw e at h in rw e (omega arith)
+too-short size (inr e) room n h = let g : room / 16 < n = rw e at h in rw e (omega arith)
+
+-- and enough are enough.
+pub long-enough : (size : ℕ) → IsSize size → (room n : ℕ) → n ≤ room / size → size * n ≤ room
+long-enough size (inl e) room n h = let g : n ≤ room / 8 = rw e at h in rw e (omega arith)
+long-enough size (inr e) room n h = let g : n ≤ room / 16 = rw e at h in rw e (omega arith)
+
+module _ (size : ℕ) (is : IsSize size) (t : List ℕ) (mode fill : ℕ) (ranks o : List ℕ) where
   -- Number 11: the output has no room for so many records.
-  pub finished-refused : length o / 8 < length (resultOf t mode fill ranks) → Finished t mode fill ranks o (Refused 11 0) o
+  pub finished-refused : length o / size < length (resultOf size t mode fill ranks) → Finished size t mode fill ranks o (Refused 11 0) o
   finished-refused h =
-      let e : lastReply t mode fill ranks (length o) ≡ refuses 11 0 = broken-here _ 11 0 _ (lt-leb (8 * length (resultOf t mode fill ranks)) (length o) (omega arith)) in
-      record { answer = sym (ap (writtenOf (records t)) e); output = sym (ap (outputOf o) e) }
+      let e : lastReply size t mode fill ranks (length o) ≡ refuses 11 0 =
+      broken-here _ 11 0 _
+      (lt-leb (size * length (resultOf size t mode fill ranks)) (length o) (too-short size is (length o) (length (resultOf size t mode fill ranks)) h)) in
+      record { answer = sym (ap (writtenOf (recordsIn size t)) e); output = sym (ap (outputOf size o) e) }
 
   -- It has, and they are written.
-  pub finished-written : {k : ℕ} {change : ℤ} {o′ : List ℕ} → k ≡ length (resultOf t mode fill ranks) → k ≤ length o / 8 → change ≡ pos k -ℤ pos (records t)
-      → o′ ≡ bytesOf (resultOf t mode fill ranks) ++ drop (8 * k) o → Finished t mode fill ranks o (Records k change) o′
+  pub finished-written : {k : ℕ} {change : ℤ} {o′ : List ℕ} → k ≡ length (resultOf size t mode fill ranks) → k ≤ length o / size
+      → change ≡ pos k -ℤ pos (recordsIn size t)
+      → o′ ≡ bytesIn size (resultOf size t mode fill ranks) ++ drop (size * k) o → Finished size t mode fill ranks o (Records k change) o′
   unfolding judge
   finished-written {k} {change} {o′} count fits differ wrote =
-      let e : lastReply t mode fill ranks (length o) ≡ gives (resultOf t mode fill ranks) = rw (le-leb (8 * length (resultOf t mode fill ranks)) (length o) (omega arith)) in
+      let e : lastReply size t mode fill ranks (length o) ≡ gives (resultOf size t mode fill ranks) =
+      rw (le-leb (size * length (resultOf size t mode fill ranks)) (length o) (long-enough size is (length o) (length (resultOf size t mode fill ranks)) (omega arith))) in
       record {
-        answer = rw (differ, count) (sym (ap (writtenOf (records t)) e));
-        output = wrote ∙ rw count (sym (ap (outputOf o) e));
+        answer = rw (differ, count) (sym (ap (writtenOf (recordsIn size t)) e));
+        output = wrote ∙ rw count (sym (ap (outputOf size o) e));
       }

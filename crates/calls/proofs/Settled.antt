@@ -6,8 +6,9 @@ use Prim.Native.Nat.{ℕ}
 use native.Mathlib.Omega.{arith}
 use lib.ListN.{length, replicate}
 use Rattle.refusals.specs.Rules.{Rule, Reply, gives, refuses}
-use Rattle.records.specs.Wire.{records}
+use Rattle.records.specs.Sized.{recordsIn}
 use Rattle.records.specs.declared.Form.{Form}
+use Rattle.records.specs.Forms.{sizeOf}
 use Rattle.calls.specs.declared.Rewritten.{Rewritten}
 use Rattle.calls.specs.declared.Rewritten.the-variants.{Records, Refused}
 use Rattle.calls.specs.declared.Covers.{Covers}
@@ -37,15 +38,15 @@ covers-same (NotAnswered n i) Uncovered e = let z : _≡_ {A = ℕ} 0 1 = cc in 
 covers-same (NotAnswered m i) (NotAnswered n j) e = cc
 
 -- The statement of any engine's rewrite settles the answer and the output.
-pub rewrite-by-settled : (rules : List Rule) (t : List ℕ) (mode default : ℕ) (ranks o : List ℕ) (r r₁ : Rewritten) (o′ o₁ : List ℕ)
-    → RewritesBy rules t mode default ranks o r o′ → RewritesBy rules t mode default ranks o r₁ o₁ → (r ≡ r₁) × (o′ ≡ o₁)
-rewrite-by-settled rules t mode default ranks o r r₁ o′ o₁ a b = (rewritten-same r r₁ (a .answer ∙ sym (b .answer)), a .output ∙ sym (b .output))
+pub rewrite-by-settled : (size : ℕ) (rules : List Rule) (t : List ℕ) (mode default : ℕ) (ranks o : List ℕ) (r r₁ : Rewritten) (o′ o₁ : List ℕ)
+    → RewritesBy size rules t mode default ranks o r o′ → RewritesBy size rules t mode default ranks o r₁ o₁ → (r ≡ r₁) × (o′ ≡ o₁)
+rewrite-by-settled size rules t mode default ranks o r r₁ o′ o₁ a b = (rewritten-same r r₁ (a .answer ∙ sym (b .answer)), a .output ∙ sym (b .output))
 
 -- The statement of a rewrite settles the answer, the output and the room.
 pub rewrite-settled : (form : Form) (t : List ℕ) (mode default : ℕ) (ranks o : List ℕ) (words : ℕ) (r r₁ : Rewritten) (o′ o₁ w′ w₁ : List ℕ)
     → Rewrites form t mode default ranks o words r o′ w′ → Rewrites form t mode default ranks o words r₁ o₁ w₁ → (r ≡ r₁) × (o′ ≡ o₁) × (w′ ≡ w₁)
 rewrite-settled form t mode default ranks o words r r₁ o′ o₁ w′ w₁ a b =
-    let s = rewrite-by-settled (rewriteRules form t mode default ranks (length o) words) t mode default ranks o r r₁ o′ o₁ (a .inner) (b .inner) in
+    let s = rewrite-by-settled (sizeOf form) (rewriteRules form t mode default ranks (length o) words) t mode default ranks o r r₁ o′ o₁ (a .inner) (b .inner) in
     (s .0, s .1, a .zero ∙ sym (b .zero))
 
 -- The statement of the cover query settles the answer and the room.
@@ -63,8 +64,8 @@ pub rewrite-met : (form : Form) (t : List ℕ) (mode default : ℕ) (ranks o : L
     → (r : Rewritten) × ((o′ : List ℕ) × ((w′ : List ℕ) × Rewrites form t mode default ranks o words r o′ w′))
 rewrite-met form t mode default ranks o words =
     let reply = rewriteReply form t mode default ranks (length o) words in
-    let a = rewritten-of (writtenOf (records t) reply) in
-    (a .0, (outputOf o reply, (replicate words 0, record { inner = record { answer = a .1; output = refl }; zero = refl })))
+    let a = rewritten-of (writtenOf (recordsIn (sizeOf form) t) reply) in
+    (a .0, (outputOf (sizeOf form) o reply, (replicate words 0, record { inner = record { answer = a .1; output = refl }; zero = refl })))
 
 covers-of : (q : Reply Bool) → (r : Covers) × (coversSays r ≡ q)
 covers-of (gives true) = (Covered, refl)

@@ -22,13 +22,13 @@ use Rattle.theory.proofs.OnlyShortest.{set-prefixes, set-only}
 use Rattle.theory.proofs.Routed.{unhopped-bare}
 use Rattle.theory.proofs.Shortest.{result-shortest}
 use Rattle.refusals.specs.Rules.{Rule}
-use Rattle.records.specs.Wire.{records, routes, bytesOf, Bytes}
+use Rattle.records.specs.Sized.{widthIn, recordsIn, routesIn, bytesIn, Bytes}
 use Rattle.records.specs.declared.Form.{Form}
-use Rattle.records.specs.Forms.{strictly}
-use Rattle.records.proofs.Reading.{length-routes}
-use Rattle.table.specs.Conditions.{Accepted, Lawful}
-use Rattle.table.proofs.Accepted.{not-refused}
-use Rattle.table.proofs.Tables.{accepted-table, bytes-routes, set-hops}
+use Rattle.records.specs.Forms.{sizeOf}
+use Rattle.records.proofs.SizedReading.{form-size, in-length-routes}
+use Rattle.table.specs.SizedConditions.{AcceptedIn}
+use Rattle.table.proofs.SizedAccepted.{in-not-refused}
+use Rattle.table.proofs.SizedTables.{set-hops, in-lawful, in-bytes-routes}
 use Rattle.calls.specs.declared.Rewritten.{Rewritten}
 use Rattle.calls.specs.declared.Rewritten.the-variants.{Records, Refused}
 use Rattle.calls.specs.Conditions.{Guarded}
@@ -36,14 +36,6 @@ use Rattle.calls.specs.Rewriting.{modeOf, resultOf, changeOf, rewriteRul
 use Rattle.calls.specs.Shortest.{NoneShorter, mostChange}
 use Rattle.calls.proofs.Engines.{by-records, by-counted, by-written, by-lawful, by-reads}
 use Rattle.calls.proofs.Refusals.{rewrite-guarded}
-
--- The routes of an accepted table are lawful.
-lawful-routes : (form : Form) (s : Bool) (u : List ℕ) → Bytes u → Accepted form s u → Lawful s (routes u)
-lawful-routes form s u bytes accepted = accepted-table (records u) (records u) form s u bytes (not-refused form s u (records u) accepted) .0
-
--- A form with the strict choice is that one.
-is-strict : (form : Form) → form .strict ≡ true → form ≡ strictly
-is-strict form e = rw e
 
 -- ---- The change.
 
@@ -64,8 +56,9 @@ most-change aggregateMapDrop a b le = difference a b (omega arith)
 most-change (aggregateMapFill d) a b le = difference a b (omega arith)
 
 -- Answered or refused, the change of a rewrite is at most its mode's most: 0 in modes 1 to 4, and 1 in mode 5.
-pub change-by : (form : Form) (rules : List Rule) (t : List ℕ) (mode default : ℕ) (ranks o : List ℕ) → Guarded form rules t mode default ranks (length o) → (r : Rewritten) (o′ : List ℕ)
-    → RewritesBy rules t mode default ranks o r o′ → Bytes t → changeOf r ≤ℤ mostChange (modeOf mode default)
+pub change-by : (form : Form) (rules : List Rule) (t : List ℕ) (mode default : ℕ) (ranks o : List ℕ) → Guarded form rules t mode default ranks (length o)
+    → (r : Rewritten) (o′ : List ℕ)
+    → RewritesBy (sizeOf form) rules t mode default ranks o r o′ → Bytes t → changeOf r ≤ℤ mostChange (modeOf mode default)
 unfolding resultOf
 change-by form rules t mode default ranks o guarded r o′ ok bytes = go r refl
   where
@@ -74,65 +67,69 @@ change-by form rules t mode default ranks o guarded r o′ ok bytes = go r refl
     go (Records count change) e =
         let f = by-records form rules t mode default ranks o guarded r o′ ok count change e in
         let table = by-lawful form rules t mode default ranks o guarded r o′ ok count change e bytes .table in
-        rw (f .2) (most-change (modeOf mode default) _ (records t) (rw length-routes at (result-length (lowest ranks) (lowest-chooses ranks) 32 (modeOf mode default) table)))
+        rw (f .2) (most-change (modeOf mode default) _ (recordsIn (sizeOf form) t) (rw (in-length-routes (sizeOf form)) at (result-length (lowest ranks) (lowest-chooses ranks) (widthIn (sizeOf form)) (modeOf mode default) table)))
 
 -- ---- A table t, rewritten by an engine without refusal.
 module _ (form : Form) (rules : List Rule) (t : List ℕ) (mode default : ℕ) (ranks o : List ℕ) (guarded : Guarded form rules t mode default ranks (length o))
-    (count : ℕ) (change : ℤ) (o′ : List ℕ) (ok : RewritesBy rules t mode default ranks o (Records count change) o′) (short : Shortens (modeOf mode default)) where
+    (count : ℕ) (change : ℤ) (o′ : List ℕ) (ok : RewritesBy (sizeOf form) rules t mode default ranks o (Records count change) o′) (short : Shortens (modeOf mode default)) where
   -- No valid routes that say of each address what the result must are fewer than the records written.
-  pub shortest-by : NoFewer 32 (modeOf mode default) (routes t) count
+  pub shortest-by : NoFewer (widthIn (sizeOf form)) (modeOf mode default) (routesIn (sizeOf form) t) count
   unfolding resultOf
   shortest-by u serves =
       omega (
         arith,
         by-counted form rules t mode default ranks o guarded (Records count change) o′ ok count change refl,
-        result-shortest (lowest ranks) (lowest-chooses ranks) 32 short (routes t) u serves,
+        result-shortest (lowest ranks) (lowest-chooses ranks) (widthIn (sizeOf form)) short (routesIn (sizeOf form) t) u serves,
       )
 
   -- So no accepted table that does has fewer records.
-  pub none-shorter-by : NoneShorter mode default t count
+  pub none-shorter-by : NoneShorter (sizeOf form) mode default t count
   none-shorter-by u replaces =
       omega (
         arith,
-        shortest-by (routes u)
-            (record { valid = lawful-routes (replaces .form) (replaces .isSet) u (replaces .bytes) (replaces .accepted) .table .valid; keeps = replaces .keeps }),
-        length-routes u,
+        shortest-by (routesIn (sizeOf form) u)
+            (record { valid = in-lawful (sizeOf form) (form-size form) (replaces .strict) (replaces .isSet) u (replaces .bytes) (replaces .accepted) .table .valid; keeps = replaces .keeps }),
+        in-length-routes (sizeOf form) u,
       )
 
 -- ---- A set's table t, rewritten by an engine in mode 1 without refusal: no other set table is as short.
 module _ (form : Form) (rules : List Rule) (t : List ℕ) (d : ℕ) (ranks o : List ℕ) (guarded : Guarded form rules t 1 d ranks (length o))
-    (count : ℕ) (change : ℤ) (o′ : List ℕ) (ok : RewritesBy rules t 1 d ranks o (Records count change) o′) where
-  few-enough : (u : List Route) → length u ≤ count → length u ≤ length (resultOf t 1 d ranks)
+    (count : ℕ) (change : ℤ) (o′ : List ℕ) (ok : RewritesBy (sizeOf form) rules t 1 d ranks o (Records count change) o′) where
+  few-enough : (u : List Route) → length u ≤ count → length u ≤ length (resultOf (sizeOf form) t 1 d ranks)
   few-enough u few = omega (arith, by-counted form rules t 1 d ranks o guarded (Records count change) o′ ok count change refl)
 
   -- Routes of the same addresses, in any order and with any hops, that are as few as the records written have just their prefixes.
-  pub only-by : Bytes t → (u : List Route) → Serves 32 aggregateSet (routes t) u → length u ≤ count
-      → (r : Route) → Member r (unhopped u) ↔ Member r (routes (take (8 * count) o′))
+  pub only-by : Bytes t → (u : List Route) → Serves (widthIn (sizeOf form)) aggregateSet (routesIn (sizeOf form) t) u → length u ≤ count
+      → (r : Route) → Member r (unhopped u) ↔ Member r (routesIn (sizeOf form) (take (sizeOf form * count) o′))
   unfolding resultOf
   only-by bytes u serves few r =
       rw (by-reads form rules t 1 d ranks o guarded (Records count change) o′ ok count change refl bytes)
-      (set-prefixes (lowest ranks) 32 (routes t) serves (unfold resultOf in few-enough u few) r)
+      (set-prefixes (lowest ranks) (widthIn (sizeOf form)) (routesIn (sizeOf form) t) serves (unfold resultOf in few-enough u few) r)
 
   -- A table of them has these prefixes in the same order.
-  only-result : (u : List Route) → Table 32 u → ((x : ℕ) → x < 2 ^ 32 → held 32 u x ≡ held 32 (routes t) x) → length u ≤ count
-      → unhopped u ≡ resultOf t 1 d ranks
+  only-result : (u : List Route) → Table (widthIn (sizeOf form)) u
+      → ((x : ℕ) → x < 2 ^ widthIn (sizeOf form) → held (widthIn (sizeOf form)) u x ≡ held (widthIn (sizeOf form)) (routesIn (sizeOf form) t) x) → length u ≤ count
+      → unhopped u ≡ resultOf (sizeOf form) t 1 d ranks
   unfolding resultOf
-  only-result u table same few = set-only (lowest ranks) 32 (routes t) table same (unfold resultOf in few-enough u few)
+  only-result u table same few = set-only (lowest ranks) (widthIn (sizeOf form)) (routesIn (sizeOf form) t) table same (unfold resultOf in few-enough u few)
 
-  module _ (other : Form) (u : List ℕ) (small : Bytes u) (accepted : Accepted other true u) (same : (x : ℕ) → x < 2 ^ 32 → held 32 (routes u) x ≡ held 32 (routes t) x)
-      (few : records u ≤ count) where
+  module _ (strict : Bool) (u : List ℕ) (small : Bytes u) (accepted : AcceptedIn (sizeOf form) strict true u)
+      (same : (x : ℕ) → x < 2 ^ widthIn (sizeOf form) → held (widthIn (sizeOf form)) (routesIn (sizeOf form) u) x ≡ held (widthIn (sizeOf form)) (routesIn (sizeOf form) t) x)
+      (few : recordsIn (sizeOf form) u ≤ count) where
     -- So an accepted set of the same addresses that has no more records is the one written, but for host bits: its routes, put down as records, are the
     -- bytes written,
-    pub only-written-by : bytesOf (routes u) ≡ take (8 * count) o′
+    pub only-written-by : bytesIn (sizeOf form) (routesIn (sizeOf form) u) ≡ take (sizeOf form * count) o′
     only-written-by =
-        let lawful = lawful-routes other true u small accepted in
-        ap bytesOf (sym (unhopped-bare (set-hops (lawful .hops))) ∙ only-result (routes u) (lawful .table) same (omega (arith, length-routes u)))
+        let lawful = in-lawful (sizeOf form) (form-size form) strict true u small accepted in
+        ap (bytesIn (sizeOf form)) (sym (unhopped-bare (set-hops (lawful .hops))) ∙ only-result (routesIn (sizeOf form) u) (lawful .table) same (omega (arith, in-length-routes (sizeOf form) u)))
         ∙ sym (by-written form rules t 1 d ranks o guarded (Records count change) o′ ok count change refl)
 
     -- and these are its own bytes where the strict choice accepts it.
-    pub only-bytes-by : other .strict ≡ true → u ≡ take (8 * count) o′
-    only-bytes-by strict =
-        sym (bytes-routes (records u) (records u) true u small (not-refused strictly true u (records u) (subst (λ (f : Form). Accepted f true u) (is-strict other strict) accepted)))
+    pub only-bytes-by : strict ≡ true → u ≡ take (sizeOf form * count) o′
+    only-bytes-by e =
+        sym
+        (in-bytes-routes (sizeOf form) (form-size form) {A = ℕ} 0 0 true u small
+        (in-not-refused (sizeOf form) (form-size form) true true u 0 (subst (λ (b : Bool). AcceptedIn (sizeOf form) b true u) e accepted)))
         ∙ only-written-by
 
 -- ---- The engine over nodes: a table t, rewritten under whatever ranks, in whatever output and room.
@@ -153,35 +150,41 @@ module _ (form : Form) (t : List ℕ) (bytes : Bytes t) (ranks o : List ℕ) (wo
   module _ (count : ℕ) (change : ℤ) where
     -- Modes 1, 4 and 5: no valid routes that say of each address what the result must are fewer than the records written.
     pub rewrite-shortest : (mode default : ℕ) → Rewrites form t mode default ranks o words (Records count change) o′ w′ → Shortens (modeOf mode default)
-        → NoFewer 32 (modeOf mode default) (routes t) count
+        → NoFewer (widthIn (sizeOf form)) (modeOf mode default) (routesIn (sizeOf form) t) count
     rewrite-shortest mode default ok =
         shortest-by form (rewriteRules form t mode default ranks (length o) words) t mode default ranks o (rewrite-guarded form t mode default ranks (length o) words) count change o′
         (ok .inner)
 
     none-shorter : (mode default : ℕ) → Rewrites form t mode default ranks o words (Records count change) o′ w′ → Shortens (modeOf mode default)
-        → NoneShorter mode default t count
+        → NoneShorter (sizeOf form) mode default t count
     none-shorter mode default ok =
         none-shorter-by form (rewriteRules form t mode default ranks (length o) words) t mode default ranks o (rewrite-guarded form t mode default ranks (length o) words) count change o′
         (ok .inner)
 
-    -- ---- The same of tables u that are accepted by some form, of a set or of a map.
-    module _ (other : Form) (isSet : Bool) (u : List ℕ) (small : Bytes u) (accepted : Accepted other isSet u) (d : ℕ) where
+    -- ---- The same of tables u that are accepted under either choice on host bits, of a set or of a map.
+    module _ (strict isSet : Bool) (u : List ℕ) (small : Bytes u) (accepted : AcceptedIn (sizeOf form) strict isSet u) (d : ℕ) where
       -- Mode 4: none with the same answer at every address, no route included, has fewer records.
-      pub drop-shortest : Rewrites form t 4 d ranks o words (Records count change) o′ w′ → Alike 32 (answer 32 (routes u)) (answer 32 (routes t)) → count ≤ records u
-      drop-shortest ok same = none-shorter 4 d ok of-drop u (record { bytes = small; form = other; isSet = isSet; accepted = accepted; keeps = same })
+      pub drop-shortest : Rewrites form t 4 d ranks o words (Records count change) o′ w′
+          → Alike (widthIn (sizeOf form)) (answer (widthIn (sizeOf form)) (routesIn (sizeOf form) u)) (answer (widthIn (sizeOf form)) (routesIn (sizeOf form) t))
+          → count ≤ recordsIn (sizeOf form) u
+      drop-shortest ok same = none-shorter 4 d ok of-drop u (record { bytes = small; strict = strict; isSet = isSet; accepted = accepted; keeps = same })
 
       -- Mode 5: none that itself routes every address as the filled input does has fewer.
-      pub fill-shortest : Rewrites form t 5 d ranks o words (Records count change) o′ w′ → Alike 32 (answer 32 (routes u)) (filled d (answer 32 (routes t)))
-          → count ≤ records u
-      fill-shortest ok same = none-shorter 5 d ok (of-fill d) u (record { bytes = small; form = other; isSet = isSet; accepted = accepted; keeps = same })
+      pub fill-shortest : Rewrites form t 5 d ranks o words (Records count change) o′ w′
+          → Alike (widthIn (sizeOf form)) (answer (widthIn (sizeOf form)) (routesIn (sizeOf form) u)) (filled d (answer (widthIn (sizeOf form)) (routesIn (sizeOf form) t)))
+          → count ≤ recordsIn (sizeOf form) u
+      fill-shortest ok same = none-shorter 5 d ok (of-fill d) u (record { bytes = small; strict = strict; isSet = isSet; accepted = accepted; keeps = same })
 
       -- Mode 1: none that holds the same addresses has fewer.
-      pub set-shortest : Rewrites form t 1 d ranks o words (Records count change) o′ w′ → ((x : ℕ) → x < 2 ^ 32 → held 32 (routes u) x ≡ held 32 (routes t) x)
-          → count ≤ records u
-      set-shortest ok same = none-shorter 1 d ok of-set u (record { bytes = small; form = other; isSet = isSet; accepted = accepted; keeps = same })
+      pub set-shortest : Rewrites form t 1 d ranks o words (Records count change) o′ w′
+          → ((x : ℕ) → x < 2 ^ widthIn (sizeOf form) → held (widthIn (sizeOf form)) (routesIn (sizeOf form) u) x ≡ held (widthIn (sizeOf form)) (routesIn (sizeOf form) t) x)
+          → count ≤ recordsIn (sizeOf form) u
+      set-shortest ok same = none-shorter 1 d ok of-set u (record { bytes = small; strict = strict; isSet = isSet; accepted = accepted; keeps = same })
 
     -- Mode 1: and a set that has as many is the one written: its records without host bits are the bytes written, byte for byte.
-    pub set-alone : (d : ℕ) → Rewrites form t 1 d ranks o words (Records count change) o′ w′ → (other : Form) (u : List ℕ) → Bytes u → Accepted other true u
-        → ((x : ℕ) → x < 2 ^ 32 → held 32 (routes u) x ≡ held 32 (routes t) x) → records u ≤ count → bytesOf (routes u) ≡ take (8 * count) o′
+    pub set-alone : (d : ℕ) → Rewrites form t 1 d ranks o words (Records count change) o′ w′ → (strict : Bool) (u : List ℕ) → Bytes u
+        → AcceptedIn (sizeOf form) strict true u
+        → ((x : ℕ) → x < 2 ^ widthIn (sizeOf form) → held (widthIn (sizeOf form)) (routesIn (sizeOf form) u) x ≡ held (widthIn (sizeOf form)) (routesIn (sizeOf form) t) x)
+        → recordsIn (sizeOf form) u ≤ count → bytesIn (sizeOf form) (routesIn (sizeOf form) u) ≡ take (sizeOf form * count) o′
     set-alone d ok =
         only-written-by form (rewriteRules form t 1 d ranks (length o) words) t d ranks o (rewrite-guarded form t 1 d ranks (length o) words) count change o′ (ok .inner)

@@ -15,11 +15,13 @@ use Rattle.refusals.specs.Rules.{Rule, rule}
 use Rattle.refusals.specs.Order.{rank, Earlier}
 use Rattle.refusals.proofs.Judged.{Broken}
 use Rattle.refusals.proofs.Ranked.{broken-left, broken-right, sound-each, sound-append, Ranked, ranked-append, singles}
-use Rattle.records.specs.Wire.{routes}
+use Rattle.records.specs.Sized.{widthIn, routesIn}
 use Rattle.records.specs.declared.Form.{Form}
-use Rattle.table.specs.Conditions.{TableCondition}
-use Rattle.table.specs.TableRules.{tableRules}
-use Rattle.table.proofs.Tested.{table-tests, table-ranked}
+use Rattle.records.specs.Forms.{sizeOf}
+use Rattle.records.proofs.SizedReading.{form-size}
+use Rattle.table.specs.Conditions.{FormCondition}
+use Rattle.table.specs.TableRules.{formRules}
+use Rattle.table.proofs.SizedTested.{in-table-tests, in-table-ranked}
 use Rattle.nodecount.specs.Nodes.{nodes}
 use Rattle.calls.specs.Conditions.{RewriteCondition, no-mode, retired, large-default, bad-ranks, of-table, short-work, short-output, CoverCondition, of-set, long-query, short-room}
 use Rattle.calls.specs.Covering.{coverRules}
@@ -74,12 +76,12 @@ rulesWith known form t mode default ranks last =
     ∷ rule 16 0 (not (eqb mode 2))
     ∷ rule 2 0 (not (eqb mode 5) || leb default 63)
     ∷ rule 15 0 (not (leb 4 mode) || isRanking 64 ranks)
-    ∷ tableRules form (takesSet mode) t
+    ∷ formRules form (takesSet mode) t
     ++ last
 
 module _ (known : Bool) (form : Form) (t : List ℕ) (mode default : ℕ) (ranks : List ℕ) (last : List Rule) where
   abbrev table : List Rule
-  table = tableRules form (takesSet mode) t
+  table = formRules form (takesSet mode) t
 
   -- Those of the mode, which have one place, and those of the default and the ranks.
   abbrev front : List Rule
@@ -103,12 +105,12 @@ module _ (known : Bool) (form : Form) (t : List ℕ) (mode default : ℕ) (ranks
   ranked-with q le ranked =
       ranked-append 1 2 q front (second ++ (table ++ last)) (omega arith) (omega arith) front-ranked
       (ranked-append 2 4 q second (table ++ last) (omega arith) (omega arith) (singles 2 4 second refl .1)
-      (ranked-append 4 7 q table last (omega arith) le (table-ranked form (takesSet mode) t) ranked))
+      (ranked-append 4 7 q table last (omega arith) le (in-table-ranked (sizeOf form) (form-size form) (form .strict) (takesSet mode) t) ranked))
 
   -- What each that is broken stands for.
   pub broken-with : (Holds : ℕ → ℕ → Type 0) → (known ≡ false → Holds 1 0) → (mode ≡ 2 → Holds 16 0) → (mode ≡ 5 → 63 < default → Holds 2 0)
       → (4 ≤ mode → (Ranking 64 ranks → ⊥) → Holds 15 0)
-      → ((n i : ℕ) → TableCondition form (takesSet mode) t n i → Holds n i) → ((n i : ℕ) → Broken last n i → Holds n i)
+      → ((n i : ℕ) → FormCondition form (takesSet mode) t n i → Holds n i) → ((n i : ℕ) → Broken last n i → Holds n i)
       → (n i : ℕ) → Broken (rulesWith known form t mode default ranks last) n i → Holds n i
   broken-with Holds one sixteen two fifteen of-records behind =
       sound-append Holds (front ++ second) (table ++ last)
@@ -122,7 +124,7 @@ module _ (known : Bool) (form : Form) (t : List ℕ) (mode default : ℕ) (ranks
           ),
         ),
       ))
-      (sound-append Holds table last (λ n i b. of-records n i (table-tests form (takesSet mode) t n i .0 b)) behind)
+      (sound-append Holds table last (λ n i b. of-records n i (in-table-tests (sizeOf form) (form-size form) (form .strict) (takesSet mode) t n i .0 b)) behind)
 
   -- And back.
   pub breaks-mode : known ≡ false → Broken (rulesWith known form t mode default ranks last) 1 0
@@ -137,8 +139,8 @@ module _ (known : Bool) (form : Form) (t : List ℕ) (mode default : ℕ) (ranks
   pub breaks-ranks : 4 ≤ mode → (Ranking 64 ranks → ⊥) → Broken (rulesWith known form t mode default ranks last) 15 0
   breaks-ranks h f = inr (inr (inr (inl (ranks-failed mode ranks h f, refl, refl))))
 
-  pub breaks-table : (n i : ℕ) → TableCondition form (takesSet mode) t n i → Broken (rulesWith known form t mode default ranks last) n i
-  breaks-table n i c = inr (inr (inr (inr (broken-left table last n i (table-tests form (takesSet mode) t n i .1 c)))))
+  pub breaks-table : (n i : ℕ) → FormCondition form (takesSet mode) t n i → Broken (rulesWith known form t mode default ranks last) n i
+  breaks-table n i c = inr (inr (inr (inr (broken-left table last n i (in-table-tests (sizeOf form) (form-size form) (form .strict) (takesSet mode) t n i .1 c)))))
 
   pub breaks-last : (n i : ℕ) → Broken last n i → Broken (rulesWith known form t mode default ranks last) n i
   breaks-last n i b = inr (inr (inr (inr (broken-right table last n i b))))
@@ -152,7 +154,7 @@ module _ (form : Form) (t : List ℕ) (mode default : ℕ) (ranks : List ℕ) (r
   known = leb 1 mode && leb mode 5
 
   abbrev behind : List Rule
-  behind = rule 10 0 (leb (160 * nodes 32 (routes t)) words) ∷ rule 11 0 (leb (8 * length (resultOf t mode default ranks)) room) ∷ []
+  behind = rule 10 0 (leb (160 * nodes (widthIn (sizeOf form)) (routesIn (sizeOf form) t)) words) ∷ rule 11 0 (leb (sizeOf form * length (resultOf (sizeOf form) t mode default ranks)) room) ∷ []
 
   -- They stand in the order of the checks.
   pub rewrite-ranked : Ranked 1 11 (rewriteRules form t mode default ranks room words)
@@ -164,8 +166,8 @@ module _ (form : Form) (t : List ℕ) (mode default : ℕ) (ranks : List ℕ) (r
   rewrite-broken =
       broken-with known form t mode default ranks behind Holds (λ e. no-mode (mode-refuted mode e)) retired large-default bad-ranks (λ n i c. of-table c)
       (sound-each Holds behind (
-        λ e. short-work (leb-false (160 * nodes 32 (routes t)) words e),
-        (λ e. short-output (leb-false (8 * length (resultOf t mode default ranks)) room e), tt),
+        λ e. short-work (leb-false (160 * nodes (widthIn (sizeOf form)) (routesIn (sizeOf form) t)) words e),
+        (λ e. short-output (leb-false (sizeOf form * length (resultOf (sizeOf form) t mode default ranks)) room e), tt),
       ))
 
   rewrite-breaks : (n i : ℕ) → Holds n i → Broken (rewriteRules form t mode default ranks room words) n i
@@ -175,9 +177,9 @@ module _ (form : Form) (t : List ℕ) (mode default : ℕ) (ranks : List ℕ) (r
   rewrite-breaks n i (large-default e h) = breaks-default known form t mode default ranks behind e h
   rewrite-breaks n i (bad-ranks h f) = breaks-ranks known form t mode default ranks behind h f
   rewrite-breaks n i (of-table c) = breaks-table known form t mode default ranks behind n i c
-  rewrite-breaks n i (short-work h) = breaks-last known form t mode default ranks behind n i (inl (lt-leb (160 * nodes 32 (routes t)) words h, refl, refl))
+  rewrite-breaks n i (short-work h) = breaks-last known form t mode default ranks behind n i (inl (lt-leb (160 * nodes (widthIn (sizeOf form)) (routesIn (sizeOf form) t)) words h, refl, refl))
   rewrite-breaks n i (short-output h) =
-      breaks-last known form t mode default ranks behind n i (inr (inl (lt-leb (8 * length (resultOf t mode default ranks)) room h, refl, refl)))
+      breaks-last known form t mode default ranks behind n i (inr (inl (lt-leb (sizeOf form * length (resultOf (sizeOf form) t mode default ranks)) room h, refl, refl)))
 
   -- They test the conditions of a rewrite.
   pub rewrite-tests : (n i : ℕ) → Broken (rewriteRules form t mode default ranks room words) n i ↔ RewriteCondition form t mode default ranks room words n i
@@ -186,25 +188,25 @@ module _ (form : Form) (t : List ℕ) (mode default : ℕ) (ranks : List ℕ) (r
 -- ---- The rules of the cover query.
 module _ (form : Form) (t : List ℕ) (len words : ℕ) where
   abbrev last : List Rule
-  last = rule 9 0 (leb len 32) ∷ rule 10 0 (leb (160 * nodes 32 (routes t)) words) ∷ []
+  last = rule 9 0 (leb len (widthIn (sizeOf form))) ∷ rule 10 0 (leb (160 * nodes (widthIn (sizeOf form)) (routesIn (sizeOf form) t)) words) ∷ []
 
   -- They stand in the order of the checks.
   pub cover-ranked : Ranked 4 10 (coverRules form t len words)
   unfolding coverRules rank
-  cover-ranked = ranked-append 4 7 10 (tableRules form true t) last (omega arith) (omega arith) (table-ranked form true t) (singles 7 10 last refl .1)
+  cover-ranked = ranked-append 4 7 10 (formRules form true t) last (omega arith) (omega arith) (in-table-ranked (sizeOf form) (form-size form) (form .strict) true t) (singles 7 10 last refl .1)
 
   cover-broken : (n i : ℕ) → Broken (coverRules form t len words) n i → CoverCondition form t len words n i
   unfolding coverRules
   cover-broken =
-      sound-append (CoverCondition form t len words) (tableRules form true t) last (λ n i b. of-set (table-tests form true t n i .0 b))
+      sound-append (CoverCondition form t len words) (formRules form true t) last (λ n i b. of-set (in-table-tests (sizeOf form) (form-size form) (form .strict) true t n i .0 b))
       (sound-each (CoverCondition form t len words) last
-      (λ e. long-query (leb-false len 32 e), (λ e. short-room (leb-false (160 * nodes 32 (routes t)) words e), tt)))
+      (λ e. long-query (leb-false len (widthIn (sizeOf form)) e), (λ e. short-room (leb-false (160 * nodes (widthIn (sizeOf form)) (routesIn (sizeOf form) t)) words e), tt)))
 
   cover-breaks : (n i : ℕ) → CoverCondition form t len words n i → Broken (coverRules form t len words) n i
   unfolding coverRules
-  cover-breaks n i (of-set c) = broken-left (tableRules form true t) last n i (table-tests form true t n i .1 c)
-  cover-breaks n i (long-query h) = broken-right (tableRules form true t) last n i (inl (lt-leb len 32 h, refl, refl))
-  cover-breaks n i (short-room h) = broken-right (tableRules form true t) last n i (inr (inl (lt-leb (160 * nodes 32 (routes t)) words h, refl, refl)))
+  cover-breaks n i (of-set c) = broken-left (formRules form true t) last n i (in-table-tests (sizeOf form) (form-size form) (form .strict) true t n i .1 c)
+  cover-breaks n i (long-query h) = broken-right (formRules form true t) last n i (inl (lt-leb len (widthIn (sizeOf form)) h, refl, refl))
+  cover-breaks n i (short-room h) = broken-right (formRules form true t) last n i (inr (inl (lt-leb (160 * nodes (widthIn (sizeOf form)) (routesIn (sizeOf form) t)) words h, refl, refl)))
 
   -- They test the conditions of the cover query.
   pub cover-tests : (n i : ℕ) → Broken (coverRules form t len words) n i ↔ CoverCondition form t len words n i

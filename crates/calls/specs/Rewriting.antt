@@ -11,9 +11,10 @@ use Rattle.theory.specs.Routes.{Route}
 use Rattle.theory.specs.Results.{Mode, aggregateSet, aggregateConsistentMap, aggregateMapDrop, aggregateMapFill, result}
 use Rattle.theory.specs.Ranks.{lowest, isRanking}
 use Rattle.refusals.specs.Rules.{Rule, rule, Reply, gives, refuses, judge}
-use Rattle.records.specs.Wire.{records, routes, bytesOf}
+use Rattle.records.specs.Sized.{widthIn, recordsIn, routesIn, bytesIn}
 use Rattle.records.specs.declared.Form.{Form}
-use Rattle.table.specs.TableRules.{tableRules}
+use Rattle.records.specs.Forms.{sizeOf}
+use Rattle.table.specs.TableRules.{formRules}
 use Rattle.nodecount.specs.Nodes.{nodes}
 use Rattle.calls.specs.declared.Rewritten.{Rewritten}
 use Rattle.calls.specs.declared.Rewritten.the-variants.{Records, Refused}
@@ -30,9 +31,9 @@ modeOf mode default =
     (cond (eqb mode 4) aggregateMapDrop
     (aggregateMapFill default)))
 
--- The routes that the mode makes of a table's bytes, the hop of lowest rank chosen; without ranks they are the hop numbers.
-unfoldable pub resultOf : List ℕ → ℕ → ℕ → List ℕ → List Route
-resultOf t mode default ranks = result (lowest ranks) 32 (modeOf mode default) (routes t)
+-- The routes that the mode makes of a table's bytes, records of this size, the hop of lowest rank chosen; without ranks they are the hop numbers.
+unfoldable pub resultOf : ℕ → List ℕ → ℕ → ℕ → List ℕ → List Route
+resultOf size t mode default ranks = result (lowest ranks) (widthIn size) (modeOf mode default) (routesIn size t)
 
 -- Mode 1 takes sets.
 abbrev pub takesSet : ℕ → Bool
@@ -45,8 +46,8 @@ rewriteRules form t mode default ranks room words =
     ∷ rule 16 0 (not (eqb mode 2))
     ∷ rule 2 0 (not (eqb mode 5) || leb default 63)
     ∷ rule 15 0 (not (leb 4 mode) || isRanking 64 ranks)
-    ∷ tableRules form (takesSet mode) t
-    ++ (rule 10 0 (leb (160 * nodes 32 (routes t)) words) ∷ rule 11 0 (leb (8 * length (resultOf t mode default ranks)) room) ∷ [])
+    ∷ formRules form (takesSet mode) t
+    ++ (rule 10 0 (leb (160 * nodes (widthIn (sizeOf form)) (routesIn (sizeOf form) t)) words) ∷ rule 11 0 (leb (sizeOf form * length (resultOf (sizeOf form) t mode default ranks)) room) ∷ [])
 
 -- What a rewrite gives: the number of records, and the change, records out minus records in.
 pub record Written : Type 0 where
@@ -54,12 +55,12 @@ pub record Written : Type 0 where
   pub change : ℤ
 
 -- The right reply of an engine with these rules: the routes of the result, or the refusal of the first rule that is broken.
-unfoldable pub replyBy : List Rule → List ℕ → ℕ → ℕ → List ℕ → Reply (List Route)
-replyBy rules t mode default ranks = judge rules (resultOf t mode default ranks)
+unfoldable pub replyBy : ℕ → List Rule → List ℕ → ℕ → ℕ → List ℕ → Reply (List Route)
+replyBy size rules t mode default ranks = judge rules (resultOf size t mode default ranks)
 
 -- That of the engine over nodes.
 abbrev pub rewriteReply : Form → List ℕ → ℕ → ℕ → List ℕ → ℕ → ℕ → Reply (List Route)
-rewriteReply form t mode default ranks room words = replyBy (rewriteRules form t mode default ranks room words) t mode default ranks
+rewriteReply form t mode default ranks room words = replyBy (sizeOf form) (rewriteRules form t mode default ranks room words) t mode default ranks
 
 -- What it is to say, of a table with so many records.
 abbrev pub writtenOf : ℕ → Reply (List Route) → Reply Written
@@ -67,9 +68,9 @@ writtenOf before (gives rs) = gives (record { count = length rs; change = pos (l
 writtenOf before (refuses number index) = refuses number index
 
 -- What the output holds afterwards: the result's records from its start and the rest as it was, or all as it was.
-abbrev pub outputOf : List ℕ → Reply (List Route) → List ℕ
-outputOf o (gives rs) = bytesOf rs ++ drop (8 * length rs) o
-outputOf o (refuses number index) = o
+abbrev pub outputOf : ℕ → List ℕ → Reply (List Route) → List ℕ
+outputOf size o (gives rs) = bytesIn size rs ++ drop (size * length rs) o
+outputOf size o (refuses number index) = o
 
 -- What an answer says.
 abbrev pub rewrittenSays : Rewritten → Reply Written
@@ -85,14 +86,15 @@ abbrev pub changeOf : Rewritten → ℤ
 changeOf (Records count change) = change
 changeOf (Refused number index) = pos 0
 
--- The statement of any engine's rewrite, by its rules: the table t, the ranks and the output o were lent, r was answered, and the output is o′ then.
-pub record RewritesBy (rules : List Rule) (t : List ℕ) (mode default : ℕ) (ranks o : List ℕ) (r : Rewritten) (o′ : List ℕ) : Type 0 where
-  pub answer : rewrittenSays r ≡ writtenOf (records t) (replyBy rules t mode default ranks)
-  pub output : o′ ≡ outputOf o (replyBy rules t mode default ranks)
+-- The statement of any engine's rewrite, by its rules: the table t with records of this size, the ranks and the output o were lent, r was answered, and the
+-- output is o′ then.
+pub record RewritesBy (size : ℕ) (rules : List Rule) (t : List ℕ) (mode default : ℕ) (ranks o : List ℕ) (r : Rewritten) (o′ : List ℕ) : Type 0 where
+  pub answer : rewrittenSays r ≡ writtenOf (recordsIn size t) (replyBy size rules t mode default ranks)
+  pub output : o′ ≡ outputOf size o (replyBy size rules t mode default ranks)
 
 -- That of the engine over nodes, which was lent a room of so many words, but for what becomes of the room.
 abbrev pub RewritesIn : Form → List ℕ → ℕ → ℕ → List ℕ → List ℕ → ℕ → Rewritten → List ℕ → Type 0
-RewritesIn form t mode default ranks o words r o′ = RewritesBy (rewriteRules form t mode default ranks (length o) words) t mode default ranks o r o′
+RewritesIn form t mode default ranks o words r o′ = RewritesBy (sizeOf form) (rewriteRules form t mode default ranks (length o) words) t mode default ranks o r o′
 
 -- The whole statement: and the room is zero throughout.
 pub record Rewrites (form : Form) (t : List ℕ) (mode default : ℕ) (ranks o : List ℕ) (words : ℕ) (r : Rewritten) (o′ work′ : List ℕ) : Type 0 where

@@ -6,22 +6,22 @@ use mathlib.Core.List.{List}
 use lib.IntN.{ℤ, pos}
 use Rattle.theory.specs.Results.{Mode, aggregateSet, aggregateConsistentMap, aggregateMapDrop, aggregateMapFill}
 use Rattle.theory.specs.Demands.{Keeps}
-use Rattle.records.specs.Wire.{records, routes, Bytes}
-use Rattle.records.specs.declared.Form.{Form}
-use Rattle.table.specs.Conditions.{Accepted}
+use Rattle.records.specs.Sized.{widthIn, recordsIn, routesIn, Bytes}
+use Rattle.table.specs.SizedConditions.{AcceptedIn}
 use Rattle.calls.specs.Rewriting.{modeOf}
 
--- u is a table, accepted by some form, of a set or of a map, that says of each address what the mode's result for the table t must say.
-pub record Replaces (mode default : ℕ) (t u : List ℕ) : Type 0 where
+-- u is a table with records of this size, accepted under either choice on host bits, of a set or of a map, that says of each address what the mode's result
+-- for the table t must say.
+pub record Replaces (size mode default : ℕ) (t u : List ℕ) : Type 0 where
   pub bytes : Bytes u
-  pub form : Form
+  pub strict : Bool
   pub isSet : Bool
-  pub accepted : Accepted form isSet u
-  pub keeps : (x : ℕ) → x < 2 ^ 32 → Keeps 32 (modeOf mode default) (routes t) (routes u) x
+  pub accepted : AcceptedIn size strict isSet u
+  pub keeps : (x : ℕ) → x < 2 ^ widthIn size → Keeps (widthIn size) (modeOf mode default) (routesIn size t) (routesIn size u) x
 
 -- No such table has fewer than n records.
-abbrev pub NoneShorter : ℕ → ℕ → List ℕ → ℕ → Type 0
-NoneShorter mode default t n = (u : List ℕ) → Replaces mode default t u → n ≤ records u
+abbrev pub NoneShorter : ℕ → ℕ → ℕ → List ℕ → ℕ → Type 0
+NoneShorter size mode default t n = (u : List ℕ) → Replaces size mode default t u → n ≤ recordsIn size u
 
 -- The most that the change comes to: 1 in fill, 0 in the other modes.
 abbrev pub mostChange : Mode → ℤ

@@ -29,7 +29,10 @@ fn check(installed: &[u8], new: &[u8]) {
     let mut text = [0u8; 65537];
     let mut out = [0u8; 37];
     let size = io::read_full(STDIN_FILENO, &mut text);
-    let form = Form { strict: false };
+    let form = Form {
+        strict: false,
+        long: false,
+    };
     let end = reply(installed, new, form, &text[..size], &mut out);
     io::write_all(STDOUT_FILENO, &out[..end]);
 }

@@ -18,8 +18,8 @@ use Rattle.refusals.specs.Rules.{refuses}
 use Rattle.records.specs.Wire.{records, routeAt, routes}
 use Rattle.records.specs.declared.Form.{Form}
 use Rattle.table.specs.Checking.{checkReply}
-use Rattle.table.proofs.Accepted.{refused-exactly}
-use Rattle.table.proofs.Tested.{table-numbers}
+use Rattle.table.proofs.AtEight.{refused-exactly}
+use Rattle.table.proofs.AtEight.{table-numbers}
 use Rattle.runs.proofs.Halves.{whole-run, record-within}
 use Rattle.rungs.specs.Rungs.{topFrom}
 use Rattle.checking.specs.declared.Stage.{Stage}
@@ -80,7 +80,7 @@ passed-is p put len hop v k top b e q f g = rw (g, f, q, e)
 
 -- A record of a table is of length at most 32.
 pub short-at : (t : List ℕ) (i : ℕ) → Table 32 (routes t) → i < records t → routeAt t i .len ≤ 32
-short-at t i table lt = record-within (whole-run 32 table) i (omega arith) lt .short
+short-at t i table lt = record-within (whole-run 8 32 table) i (omega arith) lt .short
 
 -- A refusal's number by 20 higher is a byte.
 pub number-small : (form : Form) (t : List ℕ) (n i : ℕ) → refuses n i ≡ checkReply form false t → n ≤ 8

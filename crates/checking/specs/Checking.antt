@@ -11,7 +11,8 @@ use Rattle.theory.specs.Routes.{Answer}
 use Rattle.words.specs.Prefix.{hostClear}
 use Rattle.positions.specs.Runs.{noHop}
 use Rattle.refusals.specs.Rules.{Reply, gives, refuses}
-use Rattle.records.specs.Wire.{records, routeAt, routes, Bytes}
+use Rattle.records.specs.Wire.{records, routeAt, routes}
+use Rattle.records.specs.Sized.{Bytes}
 use Rattle.records.specs.declared.Form.{Form}
 use Rattle.table.specs.Checking.{checkReply}
 use Rattle.steps.specs.Views.{rung}

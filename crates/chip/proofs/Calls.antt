@@ -21,14 +21,15 @@ use Rattle.refusals.proofs.Answered.{given-exactly, refused-exactly}
 use Rattle.refusals.proofs.Judged.{Broken, gives-any, refuses-any}
 use Rattle.refusals.proofs.Ranked.{broken-left, broken-right, sound-each, sound-append, singles, ranked-append, Ranked}
 use Rattle.refusals.proofs.Shown.{shown, decided}
-use Rattle.records.specs.Wire.{records, routes, Bytes, bytesOf, maskedBytes}
+use Rattle.records.specs.Wire.{records, routes, bytesOf, maskedBytes}
+use Rattle.records.specs.Sized.{Bytes}
 use Rattle.records.specs.declared.Form.{Form}
 use Rattle.records.specs.Forms.{strictly}
 use Rattle.table.specs.Conditions.{Accepted, Lawful}
 use Rattle.table.specs.TableRules.{tableRules}
-use Rattle.table.proofs.Accepted.{accepted-exactly, not-refused}
-use Rattle.table.proofs.Tables.{accepted-table, bytes-routes}
-use Rattle.table.proofs.Tested.{table-tests, table-ranked, table-numbers}
+use Rattle.table.proofs.AtEight.{accepted-exactly, not-refused}
+use Rattle.table.proofs.AtEight.{accepted-table, bytes-routes}
+use Rattle.table.proofs.AtEight.{table-tests, table-ranked, table-numbers}
 use Rattle.chip.specs.declared.Loaded.{Loaded}
 use Rattle.chip.specs.declared.Loaded.the-variants.{Slots, Refused}
 use Rattle.chip.specs.Chip.{firstMatch}

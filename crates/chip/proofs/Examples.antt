@@ -7,7 +7,8 @@ use native.Mathlib.Omega.{arith}
 use Rattle.theory.specs.Falling.{falling}
 use Rattle.theory.specs.Routes.{Route, matches, miss, nil}
 use Rattle.theory.proofs.Lists.{all-map}
-use Rattle.records.specs.Wire.{rawAt, routeAt, routesFrom, routes, route}
+use Rattle.records.specs.Wire.{rawAt, routeAt, routesFrom, routes}
+use Rattle.records.specs.Sized.{route, number, rawIn, routeIn, routesFromIn, routesIn}
 use Rattle.chip.specs.Chip.{firstMatch}
 use Rattle.chip.specs.Images.{imageOf, slotsOf, arranged}
 use Rattle.chip.specs.Loading.{loadOrder}
@@ -25,12 +26,12 @@ nested =
 
 -- Its slots: the /24, the two /16s without host bits by rising address, the /8.
 pub nested-slots : loadOrder nested ≡ route 3221225984 24 4 ∷ route 167837696 16 2 ∷ route 167903232 16 3 ∷ route 167772160 8 1 ∷ []
-unfolding loadOrder falling routes routesFrom routeAt rawAt
+unfolding loadOrder falling routesIn routesFromIn routeIn rawIn number
 nested-slots = refl
 
 -- Put into table order they are the table's routes.
 pub nested-back : arranged (loadOrder nested) ≡ routes nested
-unfolding loadOrder falling routes routesFrom routeAt rawAt
+unfolding loadOrder falling routesIn routesFromIn routeIn rawIn number
 nested-back = refl
 
 -- As a record an unused slot would match 255.255.255.255,

@@ -10,9 +10,10 @@ use Rattle.theory.specs.Routes.{Route, Valid, All, nil, cons}
 use Rattle.theory.proofs.Lists.{all-member}
 use Rattle.theory.proofs.Parts.{part-append, part-whole, part-none}
 use Rattle.records.specs.Wire.{routesFrom, routes, bytesOf}
-use Rattle.records.proofs.HostBits.{route-length}
+use Rattle.records.proofs.Reading.{route-length}
 use Rattle.records.proofs.Laid.{take-laid}
 use Rattle.records.proofs.Written.{length-bytes, routes-front}
+use Rattle.records.specs.Sized.{routesFromIn, routesIn}
 use Rattle.chip.specs.Chip.{isUsed}
 use Rattle.chip.specs.Images.{imageOf, slotsOf, arranged, tableOf}
 use Rattle.chip.specs.Placing.{Placed, unusedFrom}
@@ -43,7 +44,7 @@ abbrev pub unusedSlots : ℕ → List Route
 unusedSlots n = routesFrom (replicate (8 * (1024 - n)) 255) 0 (1024 - n)
 
 unused-from : (n i k : ℕ) → 8 * (i + k) ≤ n → All (λ r. r .len ≡ 255) (routesFrom (replicate n 255) i k)
-unfolding routesFrom
+unfolding routesFromIn
 unused-from n i zero fits = nil
 unused-from n i (suc k) fits = cons (route-length (replicate n 255) i ∙ getD-replicate n (8 * i + 4) 255 0 (omega arith)) (unused-from n (suc i) k (omega arith))
 
@@ -54,7 +55,7 @@ unused-long n = unused-from (8 * (1024 - n)) 0 (1024 - n) (omega arith)
 module _ (rs : List Route) (valid : All (Valid 32) rs) (few : length rs ≤ 1024) where
   -- The slots are the routes, and then unused ones.
   pub image-slots : slotsOf (imageOf rs) ≡ rs ++ unusedSlots (length rs)
-  unfolding imageOf routes
+  unfolding imageOf routesIn
   image-slots =
       let n : length (imageOf rs) ≡ 8192 = image-length rs few in
       ap (routesFrom (imageOf rs) 0) (omega arith) ∙ routes-front rs valid (replicate (8 * (1024 - length rs)) 255) (1024 - length rs)

@@ -11,12 +11,13 @@ use Rattle.theory.specs.Falling.{falling}
 use Rattle.refusals.specs.Rules.{Rule, rule, refuses, judge}
 use Rattle.refusals.proofs.Judged.{refuses-any}
 use Rattle.refusals.proofs.Waived.{waived, waived-append, waived-judge, waived-answer}
-use Rattle.records.specs.Wire.{records, Bytes, maskedBytes}
+use Rattle.records.specs.Wire.{records, maskedBytes}
+use Rattle.records.specs.Sized.{Bytes}
 use Rattle.records.specs.declared.Form.{Form}
 use Rattle.records.specs.Forms.{byDefault, strictly}
 use Rattle.table.specs.Conditions.{Accepted}
 use Rattle.table.specs.TableRules.{tableRules}
-use Rattle.table.proofs.Masking.{strict-waived, masked-routes, masked-length, masked-rules}
+use Rattle.table.proofs.AtEight.{strict-waived, masked-routes, masked-length, masked-rules}
 use Rattle.chip.specs.declared.Loaded.{Loaded}
 use Rattle.chip.specs.declared.Loaded.the-variants.{Refused}
 use Rattle.chip.specs.Loading.{loadRules, loadOrder, loadedSays, imageAfter, Loads}

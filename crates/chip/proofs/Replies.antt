@@ -1,7 +1,7 @@
 -- The call's statement, case by case of the check and of the image's size. Assumes nothing.
 use Prim.Native.Nat.{ℕ, _*_, _≤_}
 use mathlib.Core.Path.{_≡_, sym, ap, _∙_}
-use mathlib.Core.Bool.{false}
+use mathlib.Core.Bool.{Bool, false}
 use mathlib.Core.List.{List, [], _∷_}
 use native.Mathlib.Omega.{arith}
 use lib.Dec.{eqb}
@@ -17,16 +17,16 @@ use Rattle.records.specs.Wire.{records, routeAt, routes}
 use Rattle.records.specs.declared.Form.{Form}
 use Rattle.records.proofs.Reading.{length-routes, routes-numbered}
 use Rattle.table.specs.Checking.{checkReply}
-use Rattle.table.specs.Conditions.{Accepted}
+use Rattle.table.specs.SizedConditions.{AcceptedIn}
 use Rattle.table.specs.TableRules.{tableRules}
-use Rattle.table.proofs.Accepted.{accepted}
+use Rattle.table.proofs.AtEight.{accepted}
 use Rattle.chip.specs.declared.Loaded.the-variants.{Slots, Refused}
 use Rattle.chip.specs.Loading.{loadRules, loadOrder, imageAfter, Loads}
 use Rattle.chip.specs.Placing.{Placed, unusedFrom}
 use Rattle.chip.proofs.Images.{placed-image}
 
 -- ---- The routes of an accepted table by falling length.
-module _ {form : Form} {t : List ℕ} (ok : Accepted form false t) where
+module _ {strict : Bool} {t : List ℕ} (ok : AcceptedIn 8 strict false t) where
   -- No length is above 32,
   pub routes-short : All (λ r. r .len ≤ 32) (routes t)
   routes-short = rw (routes-numbered t) (all-numbered (routeAt t) 0 (records t) (λ i le lt. ok .each i lt .length-kept))

@@ -13,7 +13,8 @@ use Rattle.theory.specs.Falling.{Sooner, Ordered}
 use Rattle.theory.proofs.Lists.{all-member}
 use Rattle.theory.proofs.Numbered.{numbered, member-numbered, numbered-member, ordered-numbered, numbered-once, split-numbered}
 use Rattle.theory.proofs.Ordered.{ascending-ordered, before-one-way, sooner-one-way}
-use Rattle.records.specs.Wire.{records, routeAt, Bytes, bytesOf}
+use Rattle.records.specs.Wire.{records, routeAt, bytesOf}
+use Rattle.records.specs.Sized.{Bytes}
 use Rattle.records.specs.declared.Form.{Form}
 use Rattle.records.proofs.Reading.{length-from, from-counted, routes-numbered}
 use Rattle.records.proofs.Written.{length-bytes}

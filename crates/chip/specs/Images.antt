@@ -6,7 +6,7 @@ use lib.ListN.{length, replicate}
 use Rattle.theory.specs.Results.{part}
 use Rattle.theory.specs.Routes.{Route}
 use Rattle.records.specs.Wire.{routes, bytesOf}
-use Rattle.table.specs.TableRules.{before}
+use Rattle.table.specs.SizedRules.{before}
 use Rattle.chip.specs.Chip.{isUsed}
 
 -- ---- From routes to an image.

@@ -22,7 +22,14 @@ fn answer(table: &[u8], image: &mut [u8; 8192], line: &mut [u8]) -> Written
     requires { ⌜ 36 ≤ length (now line) ⌝ }
     ensures { λ r. ⌜ Answered (now (table .entry)) (now (line .entry)) r (now (image .exit)) (now (line .exit)) ⌝ }
 {
-    match chip::load(table, Form { strict: false }, image) {
+    match chip::load(
+        table,
+        Form {
+            strict: false,
+            long: false,
+        },
+        image,
+    ) {
         Loaded::Slots(_) => Written {
             shown: 8192,
             said: 0,

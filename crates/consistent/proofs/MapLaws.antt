@@ -11,7 +11,7 @@ use lib.ListN.{length, getD}
 use lib.Pow.{pow-pos}
 use borrow.Author.Tests.{lt-ltb, le-ltb, eq-eqb, ne-eqb}
 use Rattle.theory.specs.Routes.{Route, Answer, none, via}
-use Rattle.records.specs.Wire.{route, routeAt}
+use Rattle.records.specs.Sized.{routeIn, route}
 use Rattle.words.specs.Bits.{bit, NextBit}
 use Rattle.words.specs.Positions.{position}
 use Rattle.words.proofs.BitLaws.{if-lt, if-eq}
@@ -77,24 +77,24 @@ hop-same h o lt =
 -- ---- The entries.
 
 -- The entry of a position with the records from..upto, whose own hop is o and which `hop` covers, where `over` covers it from above.
-entry-is : (t : List ℕ) (from upto hop over place size len : ℕ) (o : Answer) → wide - size ≡ len → o ≡ headHop (run t from upto)
+entry-is : (size : ℕ) (t : List ℕ) (from upto hop over place bits-below len : ℕ) (o : Answer) → wide - bits-below ≡ len → o ≡ headHop (run size t from upto)
     → hopOf hop ≡ orElse o (hopOf over)
-    → cond (isEntry from upto hop over) (route place len hop ∷ []) [] ≡ entryUnless wide size place o (hopOf over)
-entry-is t from upto hop over place size len o long own covers = go (decLt from upto)
+    → cond (isEntry from upto hop over) (route place len hop ∷ []) [] ≡ entryUnless wide bits-below place o (hopOf over)
+entry-is size t from upto hop over place bits-below len o long own covers = go (decLt from upto)
   where
     same : (b : Bool) → cond (not b) (route place len hop ∷ []) [] ≡ cond b [] (route place len hop ∷ [])
     same true = refl
     same false = refl
 
     go : Dec (from < upto)
-        → cond (isEntry from upto hop over) (route place len hop ∷ []) [] ≡ entryUnless wide size place o (hopOf over)
+        → cond (isEntry from upto hop over) (route place len hop ∷ []) [] ≡ entryUnless wide bits-below place o (hopOf over)
     go (yes has) =
-        let e : o ≡ via (routeAt t from .hop) = own ∙ ap headHop (run-first t from upto has) in
-        let z = hop-via hop (routeAt t from .hop) (covers ∙ ap (λ (a : Answer). orElse a (hopOf over)) e) in
+        let e : o ≡ via (routeIn size t from .hop) = own ∙ ap headHop (run-first size t from upto has) in
+        let z = hop-via hop (routeIn size t from .hop) (covers ∙ ap (λ (a : Answer). orElse a (hopOf over)) e) in
         rw (e, ← z .0, hop-same hop over (z .1), long, lt-ltb from upto has) (same (eqb hop over))
     go (no ge) =
         let le : upto ≤ from = omega arith in
-        let e : o ≡ none = own ∙ ap headHop (run-none t from upto le) in
+        let e : o ≡ none = own ∙ ap headHop (run-none size t from upto le) in
         rw (e, le-ltb from upto le)
 
 -- ---- The walk.
@@ -104,44 +104,44 @@ abbrev pub mapWalk : List Route → ℕ → ℕ → Answer → List Route
 mapWalk rs n a s = walk (consistentMapOut wide rs) (consistentMapNext wide rs) n a s
 
 -- That of slot c, over its own records, by the hop that covers it.
-abbrev pub mapSlot : List ℕ → List ℕ → List ℕ → List ℕ → ℕ → ℕ → ℕ → List Route
-mapSlot t first end hops depth key c =
-    mapWalk (runAt t first end (31 + c)) (slotSize depth) (placeAt (slotSize depth) key 5 c) (hopOf (getD hops (15 + c / 2) 0))
+abbrev pub mapSlot : ℕ → List ℕ → List ℕ → List ℕ → List ℕ → ℕ → ℕ → ℕ → List Route
+mapSlot size t first end hops depth key c =
+    mapWalk (runAt size t first end (31 + c)) (slotSize depth) (placeAt (slotSize depth) key 5 c) (hopOf (getD hops (15 + c / 2) 0))
 
-module _ {t : List ℕ} {lo hi depth key : ℕ} {first end : List ℕ} {present : ℕ} (g : Gathered t lo hi depth key first end present) where
+module _ {size : ℕ} {t : List ℕ} {lo hi depth key : ℕ} {first end : List ℕ} {present : ℕ} (g : Gathered size t lo hi depth key first end present) where
   -- The walk of a slot reads the records of the slot only.
   slot-reads : (c : ℕ) → c < 32 → (s : Answer)
-      → mapWalk (run t lo hi) (slotSize depth) (placeAt (slotSize depth) key 5 c) s
-      ≡ mapWalk (runAt t first end (31 + c)) (slotSize depth) (placeAt (slotSize depth) key 5 c) s
+      → mapWalk (run size t lo hi) (slotSize depth) (placeAt (slotSize depth) key 5 c) s
+      ≡ mapWalk (runAt size t first end (31 + c)) (slotSize depth) (placeAt (slotSize depth) key 5 c) s
   slot-reads c lt s =
-      kept-walk-inside wide (run t lo hi) (slotSize depth) (placeAt (slotSize depth) key 5 c) s
+      kept-walk-inside wide (run size t lo hi) (slotSize depth) (placeAt (slotSize depth) key 5 c) s
       ∙ ap (λ (rs : List Route). mapWalk rs (slotSize depth) (placeAt (slotSize depth) key 5 c) s) (sym (slot-records g c lt))
 
   -- Where the slot has no records it is empty.
-  pub map-no-child : (hops : List ℕ) (c : ℕ) → c < 32 → getD end (31 + c) 0 ≤ getD first (31 + c) 0 → mapSlot t first end hops depth key c ≡ []
+  pub map-no-child : (hops : List ℕ) (c : ℕ) → c < 32 → getD end (31 + c) 0 ≤ getD first (31 + c) 0 → mapSlot size t first end hops depth key c ≡ []
   map-no-child hops c lt le =
       sym (slot-reads c lt (hopOf (getD hops (15 + c / 2) 0)))
-      ∙ kept-walk-nothing wide (run t lo hi) (slotSize depth) (placeAt (slotSize depth) key 5 c) (hopOf (getD hops (15 + c / 2) 0)) (no-child g c lt le)
+      ∙ kept-walk-nothing wide (run size t lo hi) (slotSize depth) (placeAt (slotSize depth) key 5 c) (hopOf (getD hops (15 + c / 2) 0)) (no-child g c lt le)
 
 -- What the code finds of a node before it writes: the records of each place, the hops that cover the positions, and which have an entry.
-pub record Found (t : List ℕ) (lo hi depth key inherited : ℕ) (first end hops : List ℕ) (entries : ℕ) : Type 0 where
-  pub node : Node t lo hi depth key
+pub record Found (size : ℕ) (t : List ℕ) (lo hi depth key inherited : ℕ) (first end hops : List ℕ) (entries : ℕ) : Type 0 where
+  pub node : Node size t lo hi depth key
   pub known : inherited ≤ noHop
   pub present : ℕ
-  pub gathered : Gathered t lo hi depth key first end present
-  pub covering : (l j : ℕ) → l ≤ 4 → j < 2 ^ l → getD hops (position l j) 0 ≡ coveringAt t first end inherited l j
+  pub gathered : Gathered size t lo hi depth key first end present
+  pub covering : (l j : ℕ) → l ≤ 4 → j < 2 ^ l → getD hops (position l j) 0 ≡ coveringAt size t first end inherited l j
   pub bits : (b : ℕ) → b < 31 → bit entries b ≡ entryBit first end hops inherited b
 
-module _ {t : List ℕ} {lo hi depth key inherited : ℕ} {first end hops : List ℕ} {entries : ℕ}
-    (f : Found t lo hi depth key inherited first end hops entries) where
+module _ {size : ℕ} {t : List ℕ} {lo hi depth key inherited : ℕ} {first end hops : List ℕ} {entries : ℕ}
+    (f : Found size t lo hi depth key inherited first end hops entries) where
   -- The code's hops say what covers the positions,
   hops-cover : (l j : ℕ) → l ≤ 4 → j < 2 ^ l
-      → hopOf (getD hops (position l j) 0) ≡ cover wide (slotSize depth) key (run t lo hi) (hopOf inherited) l j
+      → hopOf (getD hops (position l j) 0) ≡ cover wide (slotSize depth) key (run size t lo hi) (hopOf inherited) l j
   hops-cover l j le lt = rw (f .covering l j le lt) (covering-is (f .node) (f .gathered) inherited l j le lt)
 
   -- what covers them from above,
   hops-over : (l j : ℕ) → l ≤ 4 → j < 2 ^ l
-      → hopOf (overAt hops (position l j) inherited) ≡ coverOver wide (slotSize depth) key (run t lo hi) (hopOf inherited) l j
+      → hopOf (overAt hops (position l j) inherited) ≡ coverOver wide (slotSize depth) key (run size t lo hi) (hopOf inherited) l j
   hops-over zero j le lt = let z : position 0 j ≡ 0 = omega arith in rw (eq-eqb (position 0 j) 0 z)
   hops-over (suc l) j le lt =
       rw (ne-eqb (position (suc l) j) 0 (λ z. omega (arith, pow-suc 2 l, pow-pos l)), above l j) (hops-cover l (j / 2) (omega arith) (above-lt l j lt))
@@ -149,9 +149,9 @@ module _ {t : List ℕ} {lo hi depth key inherited : ℕ} {first end hops : List
   -- and what covers the slots.
   hops-slot : (c : ℕ) → c < 32
       → hopOf (getD hops (15 + c / 2) 0)
-      ≡ stateAt (consistentMapOut wide (run t lo hi)) (consistentMapNext wide (run t lo hi)) (slotSize depth) key (hopOf inherited) 5 c
+      ≡ stateAt (consistentMapOut wide (run size t lo hi)) (consistentMapNext wide (run size t lo hi)) (slotSize depth) key (hopOf inherited) 5 c
   hops-slot c lt =
-      hops-cover 4 (c / 2) (le-refl 4) (omega arith) ∙ sym (consistent-map-state wide (slotSize depth) key (run t lo hi) (hopOf inherited) 5 c)
+      hops-cover 4 (c / 2) (le-refl 4) (omega arith) ∙ sym (consistent-map-state wide (slotSize depth) key (run size t lo hi) (hopOf inherited) 5 c)
 
   -- That of a slot is a hop or none.
   pub slot-le : (c : ℕ) → c < 32 → getD hops (15 + c / 2) 0 ≤ noHop
@@ -161,39 +161,39 @@ module _ {t : List ℕ} {lo hi depth key inherited : ℕ} {first end hops : List
 
   -- A position has the entry that the walk puts out there.
   map-entry : (l j : ℕ) → l ≤ 4 → j < 2 ^ l → entryAt entries hops depth key l j
-      ≡ consistentMapOut wide (run t lo hi) (sizeAt (slotSize depth) l) (placeAt (slotSize depth) key l j)
-      (stateAt (consistentMapOut wide (run t lo hi)) (consistentMapNext wide (run t lo hi)) (slotSize depth) key (hopOf inherited) l j)
+      ≡ consistentMapOut wide (run size t lo hi) (sizeAt (slotSize depth) l) (placeAt (slotSize depth) key l j)
+      (stateAt (consistentMapOut wide (run size t lo hi)) (consistentMapNext wide (run size t lo hi)) (slotSize depth) key (hopOf inherited) l j)
   map-entry l j le lt =
       rw (
         f .bits (position l j) (in-word l j le lt),
-        consistent-map-state wide (slotSize depth) key (run t lo hi) (hopOf inherited) l j,
+        consistent-map-state wide (slotSize depth) key (run size t lo hi) (hopOf inherited) l j,
         ← hops-over l j le lt,
       )
-      (entry-is t (getD first (position l j) 0) (getD end (position l j) 0) (getD hops (position l j) 0) (overAt hops (position l j) inherited)
+      (entry-is size t (getD first (position l j) 0) (getD end (position l j) 0) (getD hops (position l j) 0) (overAt hops (position l j) inherited)
       (placeAt (slotSize depth) key l j) (sizeAt (slotSize depth) l) (depth + l)
-      (own wide (sizeAt (slotSize depth) l) (placeAt (slotSize depth) key l j) (run t lo hi)) (omega (arith, f .node .at .deep))
+      (own wide (sizeAt (slotSize depth) l) (placeAt (slotSize depth) key l j) (run size t lo hi)) (omega (arith, f .node .at .deep))
       (ap headHop (sym (position-run (f .gathered) l j le lt)))
-      (hops-cover l j le lt ∙ cover-own wide (slotSize depth) key (run t lo hi) (hopOf inherited) l j
-      ∙ ap (orElse (own wide (sizeAt (slotSize depth) l) (placeAt (slotSize depth) key l j) (run t lo hi))) (sym (hops-over l j le lt))))
+      (hops-cover l j le lt ∙ cover-own wide (slotSize depth) key (run size t lo hi) (hopOf inherited) l j
+      ∙ ap (orElse (own wide (sizeAt (slotSize depth) l) (placeAt (slotSize depth) key l j) (run size t lo hi))) (sym (hops-over l j le lt))))
 
   -- The walk through the node, by its slots.
-  pub map-slots : mapWalk (run t lo hi) (wide - depth) key (hopOf inherited) ≡ slots (entryAt entries hops depth key) (mapSlot t first end hops depth key) 32
+  pub map-slots : mapWalk (run size t lo hi) (wide - depth) key (hopOf inherited) ≡ slots (entryAt entries hops depth key) (mapSlot size t first end hops depth key) 32
   map-slots =
-      let size : wide - depth ≡ slotSize depth + 5 = omega (arith, f .node .at .deep) in
-      rw size (walk-slots (consistentMapOut wide (run t lo hi)) (consistentMapNext wide (run t lo hi)) (slotSize depth) key (hopOf inherited)
-      ∙ slots-agree 5 _ (entryAt entries hops depth key) (λ l j lt small. sym (map-entry l j (omega arith) small)) _ (mapSlot t first end hops depth key)
+      let bits-below : wide - depth ≡ slotSize depth + 5 = omega (arith, f .node .at .deep) in
+      rw bits-below (walk-slots (consistentMapOut wide (run size t lo hi)) (consistentMapNext wide (run size t lo hi)) (slotSize depth) key (hopOf inherited)
+      ∙ slots-agree 5 _ (entryAt entries hops depth key) (λ l j lt small. sym (map-entry l j (omega arith) small)) _ (mapSlot size t first end hops depth key)
       (λ c lt. slot-reads (f .gathered) c lt _
-      ∙ ap (mapWalk (runAt t first end (31 + c)) (slotSize depth) (placeAt (slotSize depth) key 5 c)) (sym (hops-slot c lt))) 32 (le-refl 32))
+      ∙ ap (mapWalk (runAt size t first end (31 + c)) (slotSize depth) (placeAt (slotSize depth) key 5 c)) (sym (hops-slot c lt))) 32 (le-refl 32))
 
   -- It has no more entries than the node has records.
-  pub map-most : length (slots (entryAt entries hops depth key) (mapSlot t first end hops depth key) 32) ≤ hi - lo
+  pub map-most : length (slots (entryAt entries hops depth key) (mapSlot size t first end hops depth key) 32) ≤ hi - lo
   map-most =
-      let size : wide - depth ≡ slotSize depth + 5 = omega (arith, f .node .at .deep) in
-      rw (← map-slots, size) (omega (arith, kept-few (node-run (f .node)) (hopOf inherited), run-length t lo hi))
+      let bits-below : wide - depth ≡ slotSize depth + 5 = omega (arith, f .node .at .deep) in
+      rw (← map-slots, bits-below) (omega (arith, kept-few (node-run (f .node)) (hopOf inherited), run-length size t lo hi))
 
   -- A slot with records has what the walk of its node has.
   pub map-child : (c place : ℕ) → place ≡ placeAt (slotSize depth) key 5 c
-      → mapWalk (runAt t first end (31 + c)) (wide - (depth + 5)) place (hopOf (getD hops (15 + c / 2) 0)) ≡ mapSlot t first end hops depth key c
+      → mapWalk (runAt size t first end (31 + c)) (wide - (depth + 5)) place (hopOf (getD hops (15 + c / 2) 0)) ≡ mapSlot size t first end hops depth key c
   map-child c place e =
-      let size : wide - (depth + 5) ≡ slotSize depth = omega (arith, f .node .at .deep) in
-      rw (size, e)
+      let bits-below : wide - (depth + 5) ≡ slotSize depth = omega (arith, f .node .at .deep) in
+      rw (bits-below, e)

@@ -6,7 +6,7 @@ use gather::over_at;
 use gather::slot_key;
 use nodes::emit::emit_slot;
 use nodes::emit::head_slots;
-use records::past;
+use records::sized::past_sized;
 use words::bits::next_bit;
 use words::bits::with_bit;
 ghost use mathlib.Core.Path.{_≡_};
@@ -65,6 +65,7 @@ fn entries_of(
 // Writes the kept entries of a node and all below it, where `inherited` covers it from above, and says how many they are.
 pub fn aggregate_consistent_map(
     table: &[u8],
+    size: usize,
     lo: u16,
     hi: u16,
     depth: usize,
@@ -72,30 +73,31 @@ pub fn aggregate_consistent_map(
     inherited: u8,
     out: &mut [u8],
 ) -> usize
-    requires { ⌜ Node (now table) lo hi depth (key * 2) ⌝ }
+    requires { ⌜ Node size (now table) lo hi depth (key * 2) ⌝ }
     requires { ⌜ inherited ≤ noHop ⌝ }
-    ensures { λ r. ⌜ Wrote (walk (consistentMapOut wide (run (now (table .entry)) lo hi)) (consistentMapNext wide (run (now (table .entry)) lo hi)) (wide - depth) (key * 2) (hopOf inherited)) 0 r (now (out .entry)) (now (out .exit)) ⌝ }
+    ensures { λ r. ⌜ Wrote size (walk (consistentMapOut wide (run size (now (table .entry)) lo hi)) (consistentMapNext wide (run size (now (table .entry)) lo hi)) (wide - depth) (key * 2) (hopOf inherited)) 0 r (now (out .entry)) (now (out .exit)) ⌝ }
 {
     let mut first = [0u16; 63];
     let mut end = [0u16; 63];
-    let g = gather_run(table, lo, hi, depth, key, &mut first, &mut end);
-    let hops = covering_hops(table, g.present, &first, &end, inherited);
+    let g = gather_run(table, size, lo, hi, depth, key, &mut first, &mut end);
+    let hops = covering_hops(table, size, g.present, &first, &end, inherited);
     let entries = entries_of(g.present, &first, &end, &hops, inherited);
     let busy = g.occupied | head_slots(entries);
     let mut n: usize = 0;
     let mut c = next_bit(busy, 0);
     while c < 32 {
         let slot = slot_key(key, depth, c);
-        let here = past(n, out.len());
-        n += emit_slot(entries, &hops, c, slot, depth, &mut out[here..]);
+        let here = past_sized(n, size, out.len());
+        n += emit_slot(entries, &hops, c, slot, depth, size, &mut out[here..]);
         let from = first[31 + c];
         let to = end[31 + c];
         let cover = hops[15 + c / 2];
         c = next_bit(busy, c + 1);
         if from < to {
-            let here = past(n, out.len());
+            let here = past_sized(n, size, out.len());
             n += aggregate_consistent_map(
                 table,
+                size,
                 from,
                 to,
                 depth + 5,

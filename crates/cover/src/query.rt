@@ -18,7 +18,8 @@ ghost use Rattle.theory.specs.Results.{In, throughout};
 ghost use Rattle.words.specs.Bits.{bit};
 ghost use Rattle.words.specs.Positions.{position};
 ghost use Rattle.positions.specs.Runs.{sizeAt, placeAt};
-ghost use Rattle.nodes.specs.Node.{bits, wide, run, slotSize, Node};
+ghost use Rattle.records.specs.Sized.{widthIn};
+ghost use Rattle.nodes.specs.Node.{wide, run, slotSize, Node};
 ghost use Rattle.cover.specs.Coverage.{recordOver};
 
 // The covered slots, with slot c if its child is.
@@ -45,14 +46,22 @@ fn child_cover_mask_for_bit(b: usize) -> u32
 }
 
 // Do the node's members cover position b? Only the slots below it are asked, and none below a member.
-pub fn bit_covered(table: &[u8], lo: u16, hi: u16, depth: usize, key: u64, b: usize) -> bool
-    requires { ⌜ Node (now table) lo hi depth (key * 2) ⌝ }
+pub fn bit_covered(
+    table: &[u8],
+    size: usize,
+    lo: u16,
+    hi: u16,
+    depth: usize,
+    key: u64,
+    b: usize,
+) -> bool
+    requires { ⌜ Node size (now table) lo hi depth (key * 2) ⌝ }
     requires { ⌜ b < 31 ⌝ }
-    ensures { λ r. ⌜ ((l j : ℕ) → l ≤ 4 → j < 2 ^ l → b ≡ position l j → r ≡ throughout (held wide (run (now (table .entry)) lo hi)) (sizeAt (slotSize depth) l) (placeAt (slotSize depth) (key * 2) l j)) ⌝ }
+    ensures { λ r. ⌜ ((l j : ℕ) → l ≤ 4 → j < 2 ^ l → b ≡ position l j → r ≡ throughout (held wide (run size (now (table .entry)) lo hi)) (sizeAt (slotSize depth) l) (placeAt (slotSize depth) (key * 2) l j)) ⌝ }
 {
     let mut first = [0u16; 63];
     let mut end = [0u16; 63];
-    let g = gather_run(table, lo, hi, depth, key, &mut first, &mut end);
+    let g = gather_run(table, size, lo, hi, depth, key, &mut first, &mut end);
     if has_bit(g.present, b as u32) {
         return true;
     }
@@ -63,7 +72,7 @@ pub fn bit_covered(table: &[u8], lo: u16, hi: u16, depth: usize, key: u64, b: us
     while next < 32 {
         let c = next;
         let slot = slot_key(key, depth, c);
-        let child = bit_covered(table, first[31 + c], end[31 + c], depth + 5, slot, 0);
+        let child = bit_covered(table, size, first[31 + c], end[31 + c], depth + 5, slot, 0);
         covered = with_slot(covered, c as u32, child);
         next = next_bit(walked, c + 1);
     }
@@ -88,6 +97,7 @@ fn record_over(first: &[u16; 63], end: &[u16; 63], b: usize) -> bool
 // Do the node's members cover every address of the prefix `query`, of length `len`, which lies in the node?
 pub fn covers_in_aggregate(
     table: &[u8],
+    size: usize,
     lo: u16,
     hi: u16,
     depth: usize,
@@ -95,21 +105,21 @@ pub fn covers_in_aggregate(
     query: u64,
     len: usize,
 ) -> bool
-    requires { ⌜ Node (now table) lo hi depth (key * 2) ⌝ }
-    requires { ⌜ (depth ≤ len) × (len ≤ bits) ⌝ }
+    requires { ⌜ Node size (now table) lo hi depth (key * 2) ⌝ }
+    requires { ⌜ (depth ≤ len) × (len ≤ widthIn size) ⌝ }
     requires { ⌜ Aligned (wide - len) (query * 2) ⌝ }
     requires { ⌜ In (wide - depth) (key * 2) (query * 2) ⌝ }
-    ensures { λ r. ⌜ r ≡ throughout (held wide (run (now (table .entry)) lo hi)) (wide - len) (query * 2) ⌝ }
+    ensures { λ r. ⌜ r ≡ throughout (held wide (run size (now (table .entry)) lo hi)) (wide - len) (query * 2) ⌝ }
 {
     let mut first = [0u16; 63];
     let mut end = [0u16; 63];
-    gather_run(table, lo, hi, depth, key, &mut first, &mut end);
+    gather_run(table, size, lo, hi, depth, key, &mut first, &mut end);
     let b = heap_index(query, level_of(len, depth), depth);
     if b < 31 {
         if record_over(&first, &end, b) {
             return true;
         }
-        return bit_covered(table, lo, hi, depth, key, b);
+        return bit_covered(table, size, lo, hi, depth, key, b);
     }
     if record_over(&first, &end, (b - 1) / 2) {
         return true;
@@ -119,6 +129,7 @@ pub fn covers_in_aggregate(
     if from < to {
         return covers_in_aggregate(
             table,
+            size,
             from,
             to,
             depth + 5,

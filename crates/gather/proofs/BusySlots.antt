@@ -47,10 +47,10 @@ pub record Busy (entries : ℕ) (hops : List ℕ) (depth key : ℕ) (slot : ℕ 
       × (inside wide (slotSize depth) (placeAt (slotSize depth) key 5 c) routes ≡ [])
 
 -- It is so of the word of the slots with a record and those at which an entry begins, if a slot without a record has nothing of its own.
-pub busy-slots : {t : List ℕ} {lo hi depth key : ℕ} {first end : List ℕ} {present : ℕ} → Gathered t lo hi depth key first end present
-    → (occupied : ℕ) → Occupied t lo hi depth key occupied → (entries marked : ℕ) → HeadSlots entries marked → (hops : List ℕ)
+pub busy-slots : {size : ℕ} {t : List ℕ} {lo hi depth key : ℕ} {first end : List ℕ} {present : ℕ} → Gathered size t lo hi depth key first end present
+    → (occupied : ℕ) → Occupied size t lo hi depth key occupied → (entries marked : ℕ) → HeadSlots entries marked → (hops : List ℕ)
     → {slot : ℕ → List Route} → ((c : ℕ) → c < 32 → getD end (31 + c) 0 ≤ getD first (31 + c) 0 → slot c ≡ [])
-    → Busy entries hops depth key slot (run t lo hi) (bitOr occupied marked)
+    → Busy entries hops depth key slot (run size t lo hi) (bitOr occupied marked)
 busy-slots {depth = depth} {key} g occupied records entries marked starts hops without =
     record {
       rest = λ c lt off.
@@ -60,11 +60,11 @@ busy-slots {depth = depth} {key} g occupied records entries marked starts hops w
     }
 
 -- What is written up to a slot is written up to the next one whose bit is set,
-pub walked-next : {entries : ℕ} {hops : List ℕ} {depth key : ℕ} {slot : ℕ → List Route} {routes : List Route} {busy c r n : ℕ} {o o′ : List ℕ}
-    → Busy entries hops depth key slot routes busy → NextBit busy c r → Walked entries hops depth key slot c n o o′
-    → Walked entries hops depth key slot r n o o′
-walked-next {entries} {hops} {depth} {key} {slot} {n = n} {o} {o′} b next =
-    next-steps (λ c. Walked entries hops depth key slot c n o o′) next (λ i lt off w. let z = b .rest i lt off in walked-over w lt (z .0) (z .1))
+pub walked-next : {size entries : ℕ} {hops : List ℕ} {depth key : ℕ} {slot : ℕ → List Route} {routes : List Route} {busy c r n : ℕ} {o o′ : List ℕ}
+    → Busy entries hops depth key slot routes busy → NextBit busy c r → Walked size entries hops depth key slot c n o o′
+    → Walked size entries hops depth key slot r n o o′
+walked-next {size} {entries} {hops} {depth} {key} {slot} {n = n} {o} {o′} b next =
+    next-steps (λ c. Walked size entries hops depth key slot c n o o′) next (λ i lt off w. let z = b .rest i lt off in walked-over w lt (z .0) (z .1))
 
 -- and what is read of the blocks of the slots before it is read of those before that one.
 pub ahead-past : {entries : ℕ} {hops : List ℕ} {depth key : ℕ} {slot : ℕ → List Route} {deeper : ℕ → ℕ → List Route → List Route}

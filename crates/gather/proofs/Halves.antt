@@ -7,10 +7,21 @@ use native.Mathlib.Nat.{pow-suc, mul-comm, mul-assoc, add-mul, mul-div-mul-right
 use native.Mathlib.Omega.{arith}
 use lib.Pow.{pow-pos, pow-add, low, high, shr-shr, shr-lt, shl-exact, shl-shr, ones-split}
 use Rattle.theory.specs.Results.{In}
+use Rattle.words.specs.Keys.{keyOf}
+use Rattle.records.specs.Sized.{IsSize, widthIn}
+use Rattle.records.proofs.SizedReading.{width-most}
 use Rattle.positions.specs.Runs.{sizeAt, placeAt}
 use Rattle.positions.proofs.RunsNode.{size-slot}
-use Rattle.nodes.specs.Node.{wide, slotSize, At}
+use Rattle.nodes.specs.Node.{wide, spare, slotSize, At}
 use Rattle.nodes.proofs.OutputLaws.{slot-within}
+
+-- ---- The address of a record.
+
+-- Twice a key is the wide address.
+pub key-wide : (size : ℕ) → IsSize size → (a : ℕ) → keyOf (widthIn size) a * 2 ≡ a * 2 ^ spare size
+key-wide size is a =
+    let e : spare size ≡ suc (64 - widthIn size) = omega (arith, width-most size is) in
+    mul-assoc a (2 ^ (64 - widthIn size)) 2 ∙ ap (λ (k : ℕ). a * k) (sym (pow-suc 2 (64 - widthIn size)) ∙ ap (λ (k : ℕ). 2 ^ k) (sym e))
 
 -- ---- The place of an address.
 

@@ -14,9 +14,10 @@ use Rattle.nodes.specs.Node.{wide, run, slotSize}
 use Rattle.gather.specs.Gathered.{Gathered}
 use Rattle.gather.proofs.GatherLaws.{member-is}
 
-module _ {t : List ℕ} {lo hi depth key : ℕ} {first end : List ℕ} {present : ℕ} (g : Gathered t lo hi depth key first end present) where
+module _ {size : ℕ} {t : List ℕ} {lo hi depth key : ℕ} {first end : List ℕ} {present : ℕ}
+    (g : Gathered size t lo hi depth key first end present) where
   -- A place stands strictly below a marked position exactly when a route of the node stands above it.
-  under-is : (l j : ℕ) → l ≤ 5 → j < 2 ^ l → under present l j ≡ memberOver wide (slotSize depth) key (run t lo hi) l j
+  under-is : (l j : ℕ) → l ≤ 5 → j < 2 ^ l → under present l j ≡ memberOver wide (slotSize depth) key (run size t lo hi) l j
   unfolding under memberOver
   under-is zero j le lt = refl
   under-is (suc l) j le lt =
@@ -24,5 +25,5 @@ module _ {t : List ℕ} {lo hi depth key : ℕ} {first end : List ℕ} {present 
 
   -- So a slot is below a member exactly when a route of the node stands above it.
   pub slot-is : {covered slots : ℕ} → UnderMembers present covered slots → (c : ℕ) → c < 32
-      → bit slots c ≡ memberOver wide (slotSize depth) key (run t lo hi) 5 c
+      → bit slots c ≡ memberOver wide (slotSize depth) key (run size t lo hi) 5 c
   slot-is u c lt = slot-under (g .no-more) u c lt ∙ under-is 5 c (omega arith) lt

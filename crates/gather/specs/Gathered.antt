@@ -7,7 +7,7 @@ use lib.Dec.{eqb, ltb}
 use lib.ListN.{getD}
 use Rattle.theory.specs.Routes.{Route}
 use Rattle.theory.specs.Results.{part}
-use Rattle.records.specs.Wire.{routeAt}
+use Rattle.records.specs.Sized.{routeIn}
 use Rattle.words.specs.Bits.{bit}
 use Rattle.words.specs.Positions.{position}
 use Rattle.positions.specs.Runs.{isAt, isIn, sizeAt, placeAt}
@@ -27,38 +27,38 @@ some [] = false
 some (r ∷ t) = true
 
 -- The records from `first` to `end` at place b of the two lists.
-abbrev pub runAt : List ℕ → List ℕ → List ℕ → ℕ → List Route
-runAt t first end b = run t (getD first b 0) (getD end b 0)
+abbrev pub runAt : ℕ → List ℕ → List ℕ → List ℕ → ℕ → List Route
+runAt size t first end b = run size t (getD first b 0) (getD end b 0)
 
 -- What is found of the records lo..hi of a node.
-pub record Gathered (t : List ℕ) (lo hi depth key : ℕ) (first end : List ℕ) (present : ℕ) : Type 0 where
+pub record Gathered (size : ℕ) (t : List ℕ) (lo hi depth key : ℕ) (first end : List ℕ) (present : ℕ) : Type 0 where
   pub places : (l j : ℕ) → l ≤ 5 → j < 2 ^ l
-      → runAt t first end (position l j) ≡ part (filed (slotSize depth) key l j) (run t lo hi)
+      → runAt size t first end (position l j) ≡ part (filed (slotSize depth) key l j) (run size t lo hi)
   pub order : (b : ℕ) → b < 63 → getD first b 0 ≤ getD end b 0
   pub bounds : (b : ℕ) → b < 63 → getD end b 0 ≤ hi
   pub members : (l j : ℕ) → l ≤ 4 → j < 2 ^ l
-      → bit present (position l j) ≡ some (part (filed (slotSize depth) key l j) (run t lo hi))
+      → bit present (position l j) ≡ some (part (filed (slotSize depth) key l j) (run size t lo hi))
   pub no-more : bit present 31 ≡ false
 
 -- The bits of a word say which slots of the node have a record in them.
-abbrev pub Occupied : List ℕ → ℕ → ℕ → ℕ → ℕ → ℕ → Type 0
-Occupied t lo hi depth key occupied =
-    (c : ℕ) → c < 32 → bit occupied c ≡ some (part (filed (slotSize depth) key 5 c) (run t lo hi))
+abbrev pub Occupied : ℕ → List ℕ → ℕ → ℕ → ℕ → ℕ → ℕ → Type 0
+Occupied size t lo hi depth key occupied =
+    (c : ℕ) → c < 32 → bit occupied c ≡ some (part (filed (slotSize depth) key 5 c) (run size t lo hi))
 
 -- Where the records of a place begin, once record i is one of them.
 abbrev pub firstOf : ℕ → ℕ → ℕ → ℕ
 firstOf first end i = cond (ltb first end) first i
 
 -- The hop of the first of the records first..end, or the one above where there is none.
-abbrev pub valueOf : List ℕ → ℕ → ℕ → ℕ → ℕ
-valueOf t first end over = cond (ltb first end) (routeAt t first .hop) over
+abbrev pub valueOf : ℕ → List ℕ → ℕ → ℕ → ℕ → ℕ
+valueOf size t first end over = cond (ltb first end) (routeIn size t first .hop) over
 
 -- What covers position b from above, by the hops of the positions before it.
 abbrev pub overAt : List ℕ → ℕ → ℕ → ℕ
 overAt hops b above = cond (eqb b 0) above (getD hops ((b - 1) / 2) 0)
 
 -- The hop that covers position j of level l, by the records of each place and the hop that covers the node.
-unfoldable pub coveringAt : List ℕ → List ℕ → List ℕ → ℕ → ℕ → ℕ → ℕ
-coveringAt t first end inherited zero j = valueOf t (getD first (position zero j) 0) (getD end (position zero j) 0) inherited
-coveringAt t first end inherited (suc l) j =
-    valueOf t (getD first (position (suc l) j) 0) (getD end (position (suc l) j) 0) (coveringAt t first end inherited l (j / 2))
+unfoldable pub coveringAt : ℕ → List ℕ → List ℕ → List ℕ → ℕ → ℕ → ℕ → ℕ
+coveringAt size t first end inherited zero j = valueOf size t (getD first (position zero j) 0) (getD end (position zero j) 0) inherited
+coveringAt size t first end inherited (suc l) j =
+    valueOf size t (getD first (position (suc l) j) 0) (getD end (position (suc l) j) 0) (coveringAt size t first end inherited l (j / 2))

@@ -2,16 +2,19 @@
 // each position.
 
 use records::addr_at;
-use records::hop_at;
-use records::len_at;
+use records::sized::hop_of;
+use records::sized::key_at;
+use records::sized::length_at;
+use records::sized::oct_at;
 use words::bits::with_bit;
+use words::key::masked_key;
 ghost use mathlib.Core.Path.{_≡_};
 ghost use Prim.Native.Nat.{ℕ, _+_, _-_, _*_, _/_, _^_, _≤_, _<_};
 ghost use lib.Dec.{eqb};
 ghost use mathlib.Core.Bool.{false, _||_};
 ghost use lib.ListN.{length, getD};
 ghost use Rattle.theory.specs.Results.{In};
-ghost use Rattle.records.specs.Wire.{records};
+ghost use Rattle.records.specs.Sized.{IsSize, recordsIn};
 ghost use Rattle.words.specs.Bits.{bit};
 ghost use Rattle.words.specs.Positions.{position};
 ghost use Rattle.positions.specs.Runs.{sizeAt, placeAt};
@@ -19,19 +22,19 @@ ghost use Rattle.nodes.specs.Node.{wide, slotSize, wideAt, At, Node};
 ghost use Rattle.gather.specs.Gathered.{levelOf, Gathered, Occupied, firstOf, valueOf, overAt, coveringAt};
 
 // The address of record i, its first bit on top: half of its wide address.
-pub fn half_at(table: &[u8], i: usize) -> u64
-    requires { ⌜ i < records (now table) ⌝ }
-    ensures { λ r. ⌜ r * 2 ≡ wideAt (now (table .entry)) i .addr ⌝ }
+pub fn half_at(table: &[u8], size: usize, i: usize) -> u64
+    requires { ⌜ IsSize size × (i < recordsIn size (now table)) ⌝ }
+    ensures { λ r. ⌜ r * 2 ≡ wideAt size (now (table .entry)) i .addr ⌝ }
 {
-    (addr_at(table, i) as u64) * 4294967296
+    key_at(table, size, i)
 }
 
 // The length of record i.
-pub fn size_at(table: &[u8], i: usize) -> usize
-    requires { ⌜ i < records (now table) ⌝ }
-    ensures { λ r. ⌜ (r ≡ wideAt (now (table .entry)) i .len) × (r < 256) ⌝ }
+pub fn bits_at(table: &[u8], size: usize, i: usize) -> usize
+    requires { ⌜ IsSize size × (i < recordsIn size (now table)) ⌝ }
+    ensures { λ r. ⌜ (r ≡ wideAt size (now (table .entry)) i .len) × (r < 256) ⌝ }
 {
-    len_at(table, i) as usize
+    length_at(table, size, i) as usize
 }
 
 // The level of a length in a node at this depth: 0 to 4 for its positions, 5 for its slots.
@@ -84,13 +87,13 @@ pub fn with_slot(occupied: u32, b: usize) -> u32
     }
 }
 
-// The first of the records i..hi that stands after the address `last`; hi where none does. The addresses are compared as the table has them,
-// which is quicker than moving each up.
-pub fn first_past(table: &[u8], i: usize, hi: usize, last: u64) -> usize
-    requires { ⌜ (i ≤ hi) × (hi ≤ records (now table)) ⌝ }
+// The first of the records i..hi, of 8 bytes each, that stands after the address `last`; hi where none does. The addresses are compared as the
+// table has them, which is quicker than moving each up.
+fn first_past_short(table: &[u8], i: usize, hi: usize, last: u64) -> usize
+    requires { ⌜ (i ≤ hi) × (hi ≤ recordsIn 8 (now table)) ⌝ }
     ensures { λ r. ⌜ (i ≤ r) × (r ≤ hi) ⌝ }
-    ensures { λ r. ⌜ ((k : ℕ) → i ≤ k → k < r → wideAt (now (table .entry)) k .addr ≤ last * 2) ⌝ }
-    ensures { λ r. ⌜ (r < hi → last * 2 < wideAt (now (table .entry)) r .addr) ⌝ }
+    ensures { λ r. ⌜ ((k : ℕ) → i ≤ k → k < r → wideAt 8 (now (table .entry)) k .addr ≤ last * 2) ⌝ }
+    ensures { λ r. ⌜ (r < hi → last * 2 < wideAt 8 (now (table .entry)) r .addr) ⌝ }
 {
     let limit = (last >> 32) as u32;
     let mut at = i;
@@ -103,18 +106,65 @@ pub fn first_past(table: &[u8], i: usize, hi: usize, last: u64) -> usize
     at
 }
 
+// The address of record i where a record has 16 bytes: half of its wide address, had without asking the size.
+fn long_half_at(table: &[u8], i: usize) -> u64
+    requires { ⌜ i < recordsIn 16 (now table) ⌝ }
+    ensures { λ r. ⌜ r * 2 ≡ wideAt 16 (now (table .entry)) i .addr ⌝ }
+{
+    masked_key(oct_at(table, 16 * i), length_at(table, 16, i))
+}
+
+// The first of the records i..hi, of 16 bytes each, that stands after the address `last`; hi where none does.
+fn first_past_long(table: &[u8], i: usize, hi: usize, last: u64) -> usize
+    requires { ⌜ (i ≤ hi) × (hi ≤ recordsIn 16 (now table)) ⌝ }
+    ensures { λ r. ⌜ (i ≤ r) × (r ≤ hi) ⌝ }
+    ensures { λ r. ⌜ ((k : ℕ) → i ≤ k → k < r → wideAt 16 (now (table .entry)) k .addr ≤ last * 2) ⌝ }
+    ensures { λ r. ⌜ (r < hi → last * 2 < wideAt 16 (now (table .entry)) r .addr) ⌝ }
+{
+    let mut at = i;
+    while at < hi {
+        if last < long_half_at(table, at) {
+            return at;
+        }
+        at += 1;
+    }
+    at
+}
+
+// The first of the records i..hi that stands after the address `last`; hi where none does. The size is asked once, before the records are read.
+pub fn first_past(table: &[u8], size: usize, i: usize, hi: usize, last: u64) -> usize
+    requires { ⌜ IsSize size × ((i ≤ hi) × (hi ≤ recordsIn size (now table))) ⌝ }
+    ensures { λ r. ⌜ (i ≤ r) × (r ≤ hi) ⌝ }
+    ensures { λ r. ⌜ ((k : ℕ) → i ≤ k → k < r → wideAt size (now (table .entry)) k .addr ≤ last * 2) ⌝ }
+    ensures { λ r. ⌜ (r < hi → last * 2 < wideAt size (now (table .entry)) r .addr) ⌝ }
+{
+    if size == 8 {
+        first_past_short(table, i, hi, last)
+    } else {
+        first_past_long(table, i, hi, last)
+    }
+}
+
 // Where the records of place b end, record i being its first: a slot has all that stand before its end, a position that one.
-pub fn place_end(table: &[u8], i: usize, hi: usize, b: usize, depth: usize, key: u64) -> usize
-    requires { ⌜ (i < hi) × (hi ≤ records (now table)) ⌝ }
+pub fn place_end(
+    table: &[u8],
+    size: usize,
+    i: usize,
+    hi: usize,
+    b: usize,
+    depth: usize,
+    key: u64,
+) -> usize
+    requires { ⌜ (i < hi) × ((hi ≤ recordsIn size (now table)) × IsSize size) ⌝ }
     requires { ⌜ (b < 63) × At depth (key * 2) ⌝ }
     ensures { λ r. ⌜ (i < r) × (r ≤ hi) ⌝ }
-    ensures { λ r. ⌜ ((k : ℕ) → i < k → k < r → (31 ≤ b) × (wideAt (now (table .entry)) k .addr < placeAt (slotSize depth) (key * 2) 5 (b - 31) + 2 ^ slotSize depth)) ⌝ }
-    ensures { λ r. ⌜ (r < hi → 31 ≤ b → placeAt (slotSize depth) (key * 2) 5 (b - 31) + 2 ^ slotSize depth ≤ wideAt (now (table .entry)) r .addr) ⌝ }
+    ensures { λ r. ⌜ ((k : ℕ) → i < k → k < r → (31 ≤ b) × (wideAt size (now (table .entry)) k .addr < placeAt (slotSize depth) (key * 2) 5 (b - 31) + 2 ^ slotSize depth)) ⌝ }
+    ensures { λ r. ⌜ (r < hi → 31 ≤ b → placeAt (slotSize depth) (key * 2) 5 (b - 31) + 2 ^ slotSize depth ≤ wideAt size (now (table .entry)) r .addr) ⌝ }
 {
     if b < 31 {
         i + 1
     } else {
-        first_past(table, i + 1, hi, slot_last(key, depth, b - 31))
+        first_past(table, size, i + 1, hi, slot_last(key, depth, b - 31))
     }
 }
 
@@ -128,6 +178,7 @@ pub struct Gathering {
 // The records of a slot follow each other, so the place is found once for all of them.
 pub fn gather_run(
     table: &[u8],
+    size: usize,
     lo: u16,
     hi: u16,
     depth: usize,
@@ -135,20 +186,20 @@ pub fn gather_run(
     first: &mut [u16; 63],
     end: &mut [u16; 63],
 ) -> Gathering
-    requires { ⌜ Node (now table) lo hi depth (key * 2) ⌝ }
+    requires { ⌜ Node size (now table) lo hi depth (key * 2) ⌝ }
     requires { ⌜ (length (now first) ≡ 63) × (length (now end) ≡ 63) ⌝ }
     requires { ⌜ ((b : ℕ) → b < 63 → (getD (now first) b 0 ≡ 0) × (getD (now end) b 0 ≡ 0)) ⌝ }
-    ensures { λ r. ⌜ Gathered (now (table .entry)) lo hi depth (key * 2) (now (first .exit)) (now (end .exit)) (r .present) ⌝ }
-    ensures { λ r. ⌜ Occupied (now (table .entry)) lo hi depth (key * 2) (r .occupied) ⌝ }
+    ensures { λ r. ⌜ Gathered size (now (table .entry)) lo hi depth (key * 2) (now (first .exit)) (now (end .exit)) (r .present) ⌝ }
+    ensures { λ r. ⌜ Occupied size (now (table .entry)) lo hi depth (key * 2) (r .occupied) ⌝ }
 {
     let mut present: u32 = 0;
     let mut occupied: u32 = 0;
     let upto = hi as usize;
     let mut i = lo as usize;
     while i < upto {
-        let level = level_of(size_at(table, i), depth);
-        let b = heap_index(half_at(table, i), level, depth);
-        let stop = place_end(table, i, upto, b, depth, key);
+        let level = level_of(bits_at(table, size, i), depth);
+        let b = heap_index(half_at(table, size, i), level, depth);
+        let stop = place_end(table, size, i, upto, b, depth, key);
         first[b] = first_of(first[b], end[b], i as u16);
         end[b] = stop as u16;
         present = marked(present, b);
@@ -167,26 +218,33 @@ pub fn over_at(hops: &[u8; 31], b: usize, above: u8) -> u8
 }
 
 // The hop of the first of the records first..end, or the one above where there is none.
-pub fn value_at(table: &[u8], first: u16, end: u16, over: u8) -> u8
-    requires { ⌜ end ≤ records (now table) ⌝ }
-    ensures { λ r. ⌜ r ≡ valueOf (now (table .entry)) first end over ⌝ }
+pub fn value_at(table: &[u8], size: usize, first: u16, end: u16, over: u8) -> u8
+    requires { ⌜ (end ≤ recordsIn size (now table)) × IsSize size ⌝ }
+    ensures { λ r. ⌜ r ≡ valueOf size (now (table .entry)) first end over ⌝ }
 {
     if first < end {
-        hop_at(table, first as usize)
+        hop_of(table, size, first as usize)
     } else {
         over
     }
 }
 
 // The hop that covers each position of a node, its own record included; `noHop` for none.
-pub fn covering_values(table: &[u8], first: &[u16; 63], end: &[u16; 63], inherited: u8) -> [u8; 31]
-    requires { ⌜ ((b : ℕ) → b < 63 → getD (now end) b 0 ≤ records (now table)) ⌝ }
-    ensures { λ r. ⌜ ((l j : ℕ) → l ≤ 4 → j < 2 ^ l → getD r (position l j) 0 ≡ coveringAt (now (table .entry)) (now (first .entry)) (now (end .entry)) inherited l j) ⌝ }
+pub fn covering_values(
+    table: &[u8],
+    size: usize,
+    first: &[u16; 63],
+    end: &[u16; 63],
+    inherited: u8,
+) -> [u8; 31]
+    requires { ⌜ ((b : ℕ) → b < 63 → getD (now end) b 0 ≤ recordsIn size (now table)) ⌝ }
+    requires { ⌜ IsSize size ⌝ }
+    ensures { λ r. ⌜ ((l j : ℕ) → l ≤ 4 → j < 2 ^ l → getD r (position l j) 0 ≡ coveringAt size (now (table .entry)) (now (first .entry)) (now (end .entry)) inherited l j) ⌝ }
 {
     let mut hops = [inherited; 31];
     let mut b: usize = 0;
     while b < 31 {
-        hops[b] = value_at(table, first[b], end[b], over_at(&hops, b, inherited));
+        hops[b] = value_at(table, size, first[b], end[b], over_at(&hops, b, inherited));
         b += 1;
     }
     hops
@@ -195,19 +253,21 @@ pub fn covering_values(table: &[u8], first: &[u16; 63], end: &[u16; 63], inherit
 // The hop that covers each position of a node, its own record included; `noHop` for none. Where no position has a record it is the inherited one.
 pub fn covering_hops(
     table: &[u8],
+    size: usize,
     present: u32,
     first: &[u16; 63],
     end: &[u16; 63],
     inherited: u8,
 ) -> [u8; 31]
-    requires { ⌜ ((b : ℕ) → b < 63 → getD (now end) b 0 ≤ records (now table)) ⌝ }
+    requires { ⌜ ((b : ℕ) → b < 63 → getD (now end) b 0 ≤ recordsIn size (now table)) ⌝ }
     requires { ⌜ ((b : ℕ) → b < 31 → bit present b ≡ false → getD (now end) b 0 ≤ getD (now first) b 0) ⌝ }
-    ensures { λ r. ⌜ ((l j : ℕ) → l ≤ 4 → j < 2 ^ l → getD r (position l j) 0 ≡ coveringAt (now (table .entry)) (now (first .entry)) (now (end .entry)) inherited l j) ⌝ }
+    requires { ⌜ IsSize size ⌝ }
+    ensures { λ r. ⌜ ((l j : ℕ) → l ≤ 4 → j < 2 ^ l → getD r (position l j) 0 ≡ coveringAt size (now (table .entry)) (now (first .entry)) (now (end .entry)) inherited l j) ⌝ }
 {
     if present == 0 {
         return [inherited; 31];
     }
-    covering_values(table, first, end, inherited)
+    covering_values(table, size, first, end, inherited)
 }
 
 // The address of slot c: half of its wide address. At depth 60 two slots have one.

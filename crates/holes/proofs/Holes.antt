@@ -1,15 +1,13 @@
 -- The list of holes over addresses: which addresses its prefixes have, which routes it has, in which order. Over the width. Assumes nothing.
-use Prim.Native.Nat.{ℕ, suc, _+_, _-_, _/_, _^_, _≤_, _<_}
-use mathlib.Core.Path.{_≡_, refl, sym, ap, ap₂, subst, _∙_}
-use mathlib.Core.Bool.{Bool, true, false, not}
+use Prim.Native.Nat.{ℕ, suc, _-_, _^_, _<_}
+use mathlib.Core.Path.{_≡_, refl, sym, subst, _∙_}
+use mathlib.Core.Bool.{Bool, true, false}
 use mathlib.Core.List.{List}
 use mathlib.Core.Logic.{_↔_}
-use native.Mathlib.Nat.{le-refl}
 use native.Mathlib.Omega.{arith}
-use Rattle.theory.specs.Results.{In, isMiss, startOf, throughout, Maximal}
-use Rattle.theory.specs.Routes.{Route, matches, held, Match, miss, hit, lookup, Valid, All, Table, Member}
+use Rattle.theory.specs.Results.{isMiss, startOf, throughout, Maximal}
+use Rattle.theory.specs.Routes.{Route, held, Match, miss, hit, lookup, Valid, All, Table, Member}
 use Rattle.theory.proofs.Blocks.{aligned-start, in-start}
-use Rattle.theory.proofs.LongestMatch.{lookup-held}
 use Rattle.theory.proofs.Maximal.{covered-matches, maximal-listed, maximal-holds, maximal-table, maximal-bare}
 use Rattle.theory.proofs.Routed.{Bare}
 use Rattle.holes.specs.Holes.{isUnrouted, holesIn, holes, NoneRouted, shorter, IsHole}

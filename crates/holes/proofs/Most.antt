@@ -1,22 +1,23 @@
--- How many holes there can be: by the number of routes and the bits of the position. 1,024 routes of 32 bits leave at most 22,528. Over the width.
--- Assumes nothing.
+-- How many holes there can be: by the number of routes and the bits of the position. 1,024 routes leave at most 22,528 of 32 bits, 55,296 of 64. Over the
+-- width. Assumes nothing.
 use Prim.Native.Nat.{ℕ, zero, suc, _+_, _-_, _*_, _^_, _≤_, _<_}
-use mathlib.Core.Path.{_≡_, refl, sym, ap, ap₂, _∙_}
-use mathlib.Core.Bool.{Bool, true}
+use mathlib.Core.Path.{_≡_, refl, sym, ap, _∙_}
 use mathlib.Core.List.{List, [], _∷_, _++_}
-use mathlib.Core.Logic.{_⊎_, inl, inr}
-use native.Mathlib.Nat.{pow-suc, mul-le-mul-left, sub-le}
+use mathlib.Core.Logic.{inl, inr}
+use native.Mathlib.Nat.{pow-suc, mul-comm, mul-le-mul-left, sub-zero}
 use native.Mathlib.Omega.{arith}
 use lib.ListN.{length, length-append}
 use Rattle.theory.specs.Results.{part}
-use Rattle.theory.specs.Routes.{Route, Answer, none, via, Table, head}
+use Rattle.theory.specs.Routes.{Route, via, head}
 use Rattle.theory.specs.Shapes.{routed}
 use Rattle.theory.proofs.Blocks.{pow-pos}
 use Rattle.positions.specs.Runs.{isAt, inside, Run, headHop, own}
-use Rattle.positions.proofs.Runs.{AtMostOne, at-most-one, run-one, run-splits, Half, half-run}
-use Rattle.records.proofs.Reading.{length-from}
-use Rattle.runs.specs.Runs.{run, RunAt}
-use Rattle.holes.specs.Holes.{holesIn, holesAt}
+use Rattle.positions.proofs.Runs.{AtMostOne, at-most-one, run-one, run-splits, half-run}
+use Rattle.records.specs.Sized.{IsSize, widthIn}
+use Rattle.records.proofs.SizedReading.{width-most, in-length-from}
+use Rattle.runs.specs.Runs.{run}
+use Rattle.holes.specs.Holes.{addressIn, holesIn, holesAt}
+use Rattle.holes.specs.Kinds.{Position}
 use Rattle.holes.proofs.Walk.{holes-empty, holes-own, holes-halves}
 
 -- ---- The three kinds of a position, by its run.
@@ -111,19 +112,26 @@ module _ (w : ℕ) where
           rw same (step (n - suc j) (length (holesIn w t (suc n) a)) (length t) (length (inside w n a t)) (length (inside w n (a + 2 ^ n) t))
           (length (holesIn w (inside w n a t) n a)) (length (holesIn w (inside w n (a + 2 ^ n) t) n (a + 2 ^ n))) e h l r)
 
--- ---- Of the run of a position of 32 bits.
-module _ {t : List ℕ} {lo hi addr : ℕ} (len : ℕ) (at : RunAt 32 t lo hi (32 - len) addr) where
-  -- A run of at most 1,024 records has few enough to be counted.
-  pub holes-few : hi ≤ 1024 → length (holesAt t lo hi len addr) ≤ 32769
-  holes-few le =
-      let k = length-from t lo (hi - lo) in
-      let paths = holes-paths 32 (32 - len) addr (run t lo hi) (at .lies) in
-      let most = mul-le-mul-left (length (run t lo hi)) (sub-le 32 len) in
-      omega arith
+-- ---- Of the run of a position, over the size of a record.
 
--- So a whole table's do not outnumber 21 for each record and 1,024, which is 22,528 for 1,024 records.
-pub holes-sure : {t : List ℕ} {n : ℕ} → RunAt 32 t 0 n 32 0 → length (holesAt t 0 n 0 0) ≤ 21 * n + 1024
-holes-sure {t} {n} at =
-    let k = length-from t 0 (n - 0) in
-    let most = holes-most 32 10 32 0 (run t 0 n) (at .lies) in
+-- A run of at most 1,024 records has few enough to be counted.
+pub holes-few : {size : ℕ} {t : List ℕ} {lo hi len key : ℕ} → Position size t lo hi len key → hi ≤ 1024 → length (holesAt size t lo hi len key) ≤ 65537
+holes-few {size} {t} {lo} {hi} {len} {key} p le =
+    let k = in-length-from size t lo (hi - lo) in
+    let paths = holes-paths (widthIn size) (widthIn size - len) (addressIn size key) (run size t lo hi) (p .at .lies) in
+    let short : widthIn size - len ≤ 64 = omega (arith, width-most size (p .sized)) in
+    let most = mul-le-mul-left (length (run size t lo hi)) short in
     omega arith
+
+-- So a whole table's do not outnumber, for each record, the bits of an address but 11, and 1,024: for 1,024 records 22,528 at 32 bits and 55,296 at 64.
+pub holes-sure : {size : ℕ} {t : List ℕ} {n : ℕ} → Position size t 0 n 0 0 → length (holesAt size t 0 n 0 0) ≤ (widthIn size - 11) * n + 1024
+holes-sure {size} {t} {n} p =
+    let k : length (run size t 0 n) ≡ n = in-length-from size t 0 (n - 0) ∙ sub-zero n in
+    let bits : widthIn size - 0 - 11 ≡ widthIn size - 11 = omega arith in
+    let most = holes-most (widthIn size) 10 (widthIn size - 0) (addressIn size 0) (run size t 0 n) (p .at .lies) in
+    omega (arith, rw (k, bits) at most, mul-comm n (widthIn size - 11))
+
+-- That is a number of the output's range.
+pub sure-small : {size n : ℕ} → IsSize size → n ≤ 1024 → (widthIn size - 11) * n + 1024 ≤ 55296
+sure-small (inl e) le = rw e (omega arith)
+sure-small (inr e) le = rw e (omega arith)

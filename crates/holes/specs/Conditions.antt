@@ -4,10 +4,11 @@ use mathlib.Core.Bool.{false}
 use mathlib.Core.List.{List}
 use lib.ListN.{length}
 use Rattle.records.specs.declared.Form.{Form}
-use Rattle.table.specs.Conditions.{TableCondition}
+use Rattle.records.specs.Forms.{sizeOf}
+use Rattle.table.specs.Conditions.{FormCondition}
 use Rattle.holes.specs.Listing.{holesOf}
 
--- 3 to 8: the table's, as a map. 11: the output has fewer bytes than 8 times the holes.
+-- 3 to 8: the table's, as a map. 11: the output has fewer bytes than the holes' records.
 pub data UnroutedCondition (form : Form) (t : List ℕ) (room : ℕ) : ℕ → ℕ → Type 0 where
-  of-table : {n i : ℕ} → TableCondition form false t n i → UnroutedCondition form t room n i
-  short-output : room < 8 * length (holesOf t) → UnroutedCondition form t room 11 0
+  of-table : {n i : ℕ} → FormCondition form false t n i → UnroutedCondition form t room n i
+  short-output : room < sizeOf form * length (holesOf (sizeOf form) t) → UnroutedCondition form t room 11 0

@@ -1,10 +1,11 @@
 -- The holes of a table, over the width w of an address: the widest prefixes none of whose addresses has a route.
-use Prim.Native.Nat.{ℕ, suc, _-_, _<_}
+use Prim.Native.Nat.{ℕ, suc, _-_, _/_, _^_, _<_}
 use mathlib.Core.Path.{_≡_}
 use mathlib.Core.Bool.{Bool, true}
 use mathlib.Core.List.{List}
 use Rattle.theory.specs.Results.{isMiss, startOf, maximal}
 use Rattle.theory.specs.Routes.{Route, matches, miss, lookup, Valid}
+use Rattle.records.specs.Sized.{widthIn}
 use Rattle.runs.specs.Runs.{run}
 
 -- Has the address no route: does it have no longest match?
@@ -39,6 +40,10 @@ pub record IsHole (w : ℕ) (t : List Route) (r : Route) : Type 0 where
 
 -- ---- The walk's.
 
--- The holes in the position of length len at addr, where the records lo..hi of a table are its run.
-abbrev pub holesAt : List ℕ → ℕ → ℕ → ℕ → ℕ → List Route
-holesAt t lo hi len addr = holesIn 32 (run t lo hi) (32 - len) addr
+-- The address whose key this is, in records of this size.
+abbrev pub addressIn : ℕ → ℕ → ℕ
+addressIn size key = key / 2 ^ (64 - widthIn size)
+
+-- The holes in the position of length len whose first address has this key, where the records lo..hi of a table, of this size, are its run.
+abbrev pub holesAt : ℕ → List ℕ → ℕ → ℕ → ℕ → ℕ → List Route
+holesAt size t lo hi len key = holesIn (widthIn size) (run size t lo hi) (widthIn size - len) (addressIn size key)

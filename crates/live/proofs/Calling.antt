@@ -8,7 +8,7 @@ use lib.ListN.{length}
 use borrow.Author.Tests.{le-leb, lt-leb}
 use Rattle.theory.specs.Routes.{Route, Valid, Table}
 use Rattle.refusals.specs.Rules.{Reply, gives, refuses, judge}
-use Rattle.records.specs.Wire.{route}
+use Rattle.records.specs.Sized.{route}
 use Rattle.nodecount.specs.Nodes.{nodes, bare}
 use Rattle.steps.specs.Steps.{putting, present, put}
 use Rattle.steps.proofs.Tables.{table-step, length-new, length-old}

@@ -15,7 +15,7 @@ use Rattle.words.specs.Prefix.{hostClear}
 use Rattle.words.proofs.PrefixLaws.{start-small}
 use Rattle.refusals.specs.Rules.{rule, Reply, gives, refuses, judge}
 use Rattle.refusals.proofs.Judged.{kept-next}
-use Rattle.records.specs.Wire.{route}
+use Rattle.records.specs.Sized.{route}
 use Rattle.records.specs.declared.Form.{Form}
 use Rattle.nodecount.specs.Nodes.{nodes, brought}
 use Rattle.steps.specs.Steps.{same, present, put, without}

@@ -8,7 +8,7 @@ use native.Mathlib.Omega.{arith}
 use lib.ListN.{length}
 use Rattle.theory.specs.Routes.{Route, Answer, none, via, Valid, Table}
 use Rattle.theory.specs.Shapes.{routed}
-use Rattle.records.specs.Wire.{route}
+use Rattle.records.specs.Sized.{route}
 use Rattle.nodecount.specs.Nodes.{nodes}
 use Rattle.nodecount.proofs.NodeRecords.{records-few}
 use Rattle.nodecount.proofs.NodeRuns.{Has, Prefixes, nodes-prefixes}

@@ -14,7 +14,7 @@ use Rattle.words.specs.Prefix.{hostClear}
 use Rattle.words.proofs.PrefixLaws.{start-small}
 use Rattle.refusals.specs.Rules.{Rule, rule, Reply, gives, refuses, judge}
 use Rattle.refusals.proofs.Judged.{kept-next, broken-here}
-use Rattle.records.specs.Wire.{route}
+use Rattle.records.specs.Sized.{route}
 use Rattle.records.specs.declared.Form.{Form}
 use Rattle.nodecount.specs.Nodes.{nodes}
 use Rattle.lookup.specs.Calls.{lookupSays}

@@ -12,7 +12,7 @@ use Rattle.theory.specs.Routes.{Match, lookup}
 use Rattle.words.specs.Prefix.{hostClear}
 use Rattle.refusals.specs.Rules.{Rule, rule, Reply, gives, refuses, judge, broken}
 use Rattle.refusals.proofs.Judged.{kept-next, broken-here, all-next, some-here}
-use Rattle.records.specs.Wire.{route}
+use Rattle.records.specs.Sized.{route}
 use Rattle.records.specs.declared.Form.{Form}
 use Rattle.steps.specs.Steps.{present}
 use Rattle.liveroom.specs.Rooms.{mark, wordsOf, pairs, shown, sound, stored, live, fit}

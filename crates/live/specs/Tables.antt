@@ -8,7 +8,7 @@ use Rattle.theory.specs.Results.{startOf}
 use Rattle.theory.specs.Routes.{Route}
 use Rattle.words.specs.Prefix.{hostClear}
 use Rattle.refusals.specs.Rules.{Rule, rule, Reply, judge}
-use Rattle.records.specs.Wire.{route}
+use Rattle.records.specs.Sized.{route}
 use Rattle.records.specs.declared.Form.{Form}
 use Rattle.nodecount.specs.Nodes.{nodes}
 use Rattle.steps.specs.Steps.{present, put, without}

@@ -19,7 +19,7 @@ ghost use mathlib.Core.Path.{_≡_};
 ghost use mathlib.Core.Bool.{true};
 ghost use Rattle.lookup.specs.Calls.{lookupSays};
 ghost use Rattle.nodecount.specs.Nodes.{nodes};
-ghost use Rattle.records.specs.Wire.{route};
+ghost use Rattle.records.specs.Sized.{route};
 ghost use Rattle.refusals.specs.Rules.{broken};
 ghost use Rattle.liveroom.specs.Rooms.{live, shown, sound};
 ghost use Rattle.live.specs.Tables.{prefixRules};

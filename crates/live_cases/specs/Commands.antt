@@ -18,7 +18,7 @@ use Rattle.live_cases.specs.Lines.{keptLine, lookLine, flippedLine, unkn
 -- A command of its first byte, which says what is to be done, with 128 more under the strict choice, and of its hop, length or bit, and address or word.
 abbrev pub commandOf : ℕ → ℕ → ℕ → ℕ → Command
 commandOf first hop len address =
-    record { order = first % 128; form = record { strict = leb 128 first }; hop = hop; len = len; address = address }
+    record { order = first % 128; form = record { strict = leb 128 first; long = false }; hop = hop; len = len; address = address }
 
 -- Command i: each has 8 bytes. Bytes 1 and 2 are the hop, byte 3 the length or the bit, bytes 4 to 7 the address or the word.
 unfoldable pub commandAt : List ℕ → ℕ → Command

@@ -45,6 +45,7 @@ fn command_at(commands: &[u8], i: usize) -> Command
         order: first % 128,
         form: Form {
             strict: 128 <= first,
+            long: false,
         },
         hop: join2(commands[8 * i + 1], commands[8 * i + 2]),
         len: commands[8 * i + 3],

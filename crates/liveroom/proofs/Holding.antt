@@ -146,4 +146,4 @@ prior-short room n zero v le = omega arith
 prior-short room n (suc i) v le = record-short room n i v (omega arith)
 
 pub held-small : (room : List ℕ) (n : ℕ) → Table 32 (shownFrom room 0 n) → n ≤ 1024 → nodes 32 (shownFrom room 0 n) ≤ 5153
-held-small room n v le = nodes-most v (omega (arith, length-from room 0 n))
+held-small room n v le = nodes-most 32 v (omega (arith, length-from room 0 n))

@@ -18,7 +18,7 @@ use Rattle.theory.proofs.Lists.{all-member, member-all, member-left}
 use Rattle.theory.proofs.LongestMatch.{lookup-is, lookup-none}
 use Rattle.theory.proofs.Routed.{matches-in}
 use Rattle.words.specs.Prefix.{within}
-use Rattle.table.specs.TableRules.{before}
+use Rattle.table.specs.SizedRules.{before}
 use Rattle.nodecount.specs.Nodes.{bare}
 use Rattle.liveroom.specs.Rooms.{routeIn, shownFrom}
 use Rattle.liveroom.specs.Inner.{Placed, Shared}

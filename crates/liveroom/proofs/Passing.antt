@@ -7,8 +7,8 @@ use native.Mathlib.Omega.{arith}
 use lib.Dec.{leb}
 use borrow.Author.Tests.{leb-true}
 use Rattle.theory.specs.Routes.{Route}
-use Rattle.records.specs.Wire.{route}
-use Rattle.table.specs.TableRules.{before}
+use Rattle.records.specs.Sized.{route}
+use Rattle.table.specs.SizedRules.{before}
 use Rattle.nodecount.specs.Nodes.{nodes, newNodes, bare, brought}
 use Rattle.nodecount.proofs.NodeCount.{root, passed, nodes-pass}
 use Rattle.nodecount.proofs.NodePass.{passed-bare}

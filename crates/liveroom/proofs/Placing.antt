@@ -14,8 +14,8 @@ use Rattle.theory.specs.Shapes.{routed}
 use Rattle.theory.proofs.Lists.{all-append, all-map, all-member}
 use Rattle.theory.proofs.Parts.{part-append, part-whole}
 use Rattle.theory.proofs.Order.{before-trans}
-use Rattle.records.specs.Wire.{route}
-use Rattle.table.specs.TableRules.{before}
+use Rattle.records.specs.Sized.{route}
+use Rattle.table.specs.SizedRules.{before}
 use Rattle.nodecount.specs.Nodes.{bare}
 use Rattle.steps.specs.Steps.{same, entry, present, precedes, put, without}
 use Rattle.positions.specs.Runs.{orElse}

@@ -12,9 +12,9 @@ use Rattle.theory.specs.Routes.{Route, Valid, All, nil, cons, Before, Ascending
 use Rattle.theory.proofs.Lists.{all-map}
 use Rattle.theory.proofs.Order.{before-trans}
 use Rattle.refusals.proofs.Shown.{passes, proved}
-use Rattle.table.specs.TableRules.{before}
+use Rattle.table.specs.SizedRules.{before}
 use Rattle.table.specs.Conditions.{Lawful}
-use Rattle.table.proofs.Tested.{before-shown}
+use Rattle.table.proofs.SizedTested.{before-shown}
 use Rattle.nodecount.specs.Nodes.{nodes}
 use Rattle.liveroom.specs.Rooms.{mark, routeIn, shownFrom, shown, countIn, sound, after, lawful, fit, live}
 use Rattle.liveroom.specs.Rooms.{Words}

@@ -6,7 +6,7 @@ use mathlib.Core.List.{List, _∷_, _++_}
 use lib.Dec.{ltb}
 use lib.ListN.{length, getD, take, drop}
 use Rattle.theory.specs.Routes.{Route}
-use Rattle.table.specs.TableRules.{before}
+use Rattle.table.specs.SizedRules.{before}
 use Rattle.nodecount.specs.Nodes.{nodes, bare}
 use Rattle.steps.specs.Steps.{same}
 use Rattle.liveroom.specs.Rooms.{routeIn, shownFrom, shown, live, lawful}

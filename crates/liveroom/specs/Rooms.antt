@@ -7,7 +7,7 @@ use lib.Dec.{leb, eqb}
 use lib.ListN.{length, getD, drop}
 use Rattle.theory.specs.Routes.{Route}
 use Rattle.words.specs.Prefix.{hostClear}
-use Rattle.table.specs.TableRules.{before}
+use Rattle.table.specs.SizedRules.{before}
 use Rattle.nodecount.specs.Nodes.{nodes}
 
 -- The words of a room are below 2 ^ 32, as those of every `&[u32]` are.

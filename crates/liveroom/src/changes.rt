@@ -3,7 +3,7 @@
 ghost use mathlib.Core.Path.{_≡_};
 ghost use Prim.Native.Nat.{_+_, _≤_, _<_};
 ghost use lib.ListN.{length};
-ghost use Rattle.records.specs.Wire.{route};
+ghost use Rattle.records.specs.Sized.{route};
 ghost use Rattle.liveroom.specs.Inner.{Holds, written, raised, lowered, inserted, removed};
 
 // Writes record i.

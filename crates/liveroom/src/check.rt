@@ -11,8 +11,8 @@ ghost use mathlib.Core.Bool.{_&&_};
 ghost use Prim.Native.Nat.{_≤_, _<_};
 ghost use Rattle.theory.specs.Routes.{Table};
 ghost use Rattle.nodecount.specs.Nodes.{bare, newNodes, nodes};
-ghost use Rattle.records.specs.Wire.{route};
-ghost use Rattle.table.specs.TableRules.{before};
+ghost use Rattle.records.specs.Sized.{route};
+ghost use Rattle.table.specs.SizedRules.{before};
 ghost use Rattle.liveroom.specs.Rooms.{shownFrom, sound};
 ghost use Rattle.liveroom.specs.Inner.{Holds, heldNodes, passedNodes, priorAt, withAt};
 
@@ -46,7 +46,12 @@ pub fn brought(addr: u32, len: u32, last_addr: u32, last_len: u32) -> usize
     requires { ⌜ (len ≤ 32) × («last_len» ≤ 32) ⌝ }
     ensures { λ r. ⌜ (r ≡ newNodes 32 (bare «last_addr» «last_len») (bare addr len)) × (r ≤ 6) ⌝ }
 {
-    new_nodes(addr, len as u8, last_addr, last_len as u8)
+    new_nodes(
+        (addr as u64) * 4294967296,
+        len as u8,
+        (last_addr as u64) * 4294967296,
+        last_len as u8,
+    )
 }
 
 // The nodes of n records; 0 where they are not sound and in order.

@@ -9,11 +9,12 @@ use Rattle.theory.specs.Reach.{reach}
 use Rattle.theory.proofs.Pass.{endOf, countFrom, count-none, count-inside, count-past, count-reach}
 use Rattle.theory.proofs.Reach.{reach-most}
 use Rattle.refusals.specs.Rules.{gives}
-use Rattle.records.specs.Wire.{records, routeAt, routes, Bytes}
+use Rattle.records.specs.Wire.{records, routeAt, routes}
+use Rattle.records.specs.Sized.{Bytes}
 use Rattle.records.specs.declared.Form.{Form}
 use Rattle.records.proofs.Reading.{rest, rest-end, rest-all, rest-next}
 use Rattle.table.specs.Checking.{checkReply}
-use Rattle.table.proofs.Tables.{accepted-table}
+use Rattle.table.proofs.AtEight.{accepted-table}
 
 module _ (t : List ℕ) where
   -- Before record i: what is counted, and what the pass counts of the records from there on, make the addresses held.

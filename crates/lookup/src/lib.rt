@@ -1,4 +1,4 @@
-// What a map's table is asked: the longest match of an address, and the addresses held.
+// What a map's table is asked: the longest match of an address, at records of 8 bytes and of 16, and the addresses held, at 8.
 
 pub mod answers;
 mod matching;
@@ -10,7 +10,10 @@ use matching::longest_in;
 use records::Form;
 use records::addr_at;
 use records::len_at;
+use records::size_of;
+use records::sized::key_of;
 use table::Checked;
+use table::check_sized;
 use table::check_table;
 ghost use mathlib.Core.Path.{_≡_};
 ghost use Prim.Native.Nat.{_-_, _^_, _≤_};
@@ -33,12 +36,15 @@ fn answer_of(found: Found) -> Lookup
     }
 }
 
-// The longest match of an address in a map's table, read by the form; no route; or the refusal (3 to 8).
-pub fn lookup(table: &[u8], form: Form, address: u32) -> Lookup
+// The longest match of an address in a map's table, read by the form; no route; or the refusal (3 to 8). In a table of records of 8 bytes only the lower
+// 32 bits of the address count.
+pub fn lookup(table: &[u8], form: Form, address: u64) -> Lookup
     ensures { λ r. ⌜ lookupSays r ≡ lookupReply form (now (table .entry)) address ⌝ }
 {
-    match check_table(table, form, false) {
-        Checked::Valid(_) => answer_of(longest_in(table, address)),
+    let size = size_of(form);
+    let strict = form.strict;
+    match check_sized(table, size, strict, false) {
+        Checked::Valid(_) => answer_of(longest_in(table, size, key_of(address, size))),
         Checked::Refused { number, index } => Lookup::Refused {
             number: number,
             index: index,

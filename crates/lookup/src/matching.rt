@@ -1,14 +1,15 @@
-// The longest match of an address among a table's records.
+// The longest match of an address among a table's records, over their size. The address is held as its key.
 
-use records::addr_at;
-use records::hop_at;
-use records::len_at;
-use words::prefix::contains;
+use records::sized::hop_of;
+use records::sized::key_at;
+use records::sized::length_at;
+use words::key::key_contains;
 ghost use mathlib.Core.Path.{_≡_};
-ghost use Prim.Native.Nat.{_<_, _≤_};
+ghost use Prim.Native.Nat.{ℕ, _<_};
 ghost use Rattle.theory.specs.Routes.{longer, tried, lookup};
-ghost use Rattle.records.specs.Wire.{records, routeAt, routes};
-ghost use Rattle.lookup.specs.Calls.{Short, matchOf};
+ghost use Rattle.words.specs.Keys.{keyOf};
+ghost use Rattle.records.specs.Sized.{IsSize, widthIn, recordsIn, routeIn, routesIn};
+ghost use Rattle.lookup.specs.Calls.{matchOf};
 
 // No match, or one.
 pub enum Found {
@@ -16,15 +17,15 @@ pub enum Found {
     Match { hop: u8, length: u8 },
 }
 
-// The match that record i gives.
-pub fn tried_at(table: &[u8], i: usize, address: u32) -> Found
-    requires { ⌜ (i < records (now table)) × (routeAt (now table) i .len ≤ 32) ⌝ }
-    ensures { λ r. ⌜ matchOf r ≡ tried 32 (routeAt (now (table .entry)) i) address ⌝ }
+// The match that record i gives: the record's prefix contains that of the same length at the address, or there is none.
+pub fn tried_at(table: &[u8], size: usize, i: usize, key: u64) -> Found
+    requires { ⌜ IsSize size × (i < recordsIn size (now table)) ⌝ }
+    ensures { λ r. ⌜ ((x : ℕ) → key ≡ keyOf (widthIn size) x → matchOf r ≡ tried (widthIn size) (routeIn size (now (table .entry)) i) x) ⌝ }
 {
-    let length = len_at(table, i);
-    if contains(addr_at(table, i), length, address, 32) {
+    let length = length_at(table, size, i);
+    if key_contains(key_at(table, size, i), length, key, length) {
         Found::Match {
-            hop: hop_at(table, i),
+            hop: hop_of(table, size, i),
             length: length,
         }
     } else {
@@ -52,15 +53,15 @@ pub fn longer_of(a: Found, b: Found) -> Found
 }
 
 // The longest match, from the last record to the first.
-pub fn longest_in(table: &[u8], address: u32) -> Found
-    requires { ⌜ Short (now table) ⌝ }
-    ensures { λ r. ⌜ matchOf r ≡ lookup 32 (routes (now (table .entry))) address ⌝ }
+pub fn longest_in(table: &[u8], size: usize, key: u64) -> Found
+    requires { ⌜ IsSize size ⌝ }
+    ensures { λ r. ⌜ ((x : ℕ) → key ≡ keyOf (widthIn size) x → matchOf r ≡ lookup (widthIn size) (routesIn size (now (table .entry))) x) ⌝ }
 {
     let mut best = Found::Nothing;
-    let mut i = table.len() / 8;
+    let mut i = table.len() / size;
     while 0 < i {
         i -= 1;
-        best = longer_of(tried_at(table, i, address), best);
+        best = longer_of(tried_at(table, size, i, key), best);
     }
     best
 }

@@ -6,7 +6,7 @@ use gather::gather_run;
 use gather::slot_key;
 use nodes::emit::emit_slot;
 use nodes::emit::head_slots;
-use records::past;
+use records::sized::past_sized;
 use words::bits::has_bit;
 use words::bits::last_bit;
 use words::bits::next_bit;
@@ -38,6 +38,7 @@ pub struct Covered {
 // The first walk of mode 1: lays the coverage of a node and of those below it, down to a member, into the room, from `top` downward.
 pub fn collect_coverage(
     table: &[u8],
+    size: usize,
     lo: u16,
     hi: u16,
     depth: usize,
@@ -45,14 +46,14 @@ pub fn collect_coverage(
     work: &mut [u32],
     top: usize,
 ) -> Covered
-    requires { ⌜ Node (now table) lo hi depth (key * 2) ⌝ }
-    requires { ⌜ (160 * nodesBelow (nodesDeep depth) (key * 2) (run (now table) lo hi) ≤ top) × (top ≤ length (now work)) ⌝ }
-    ensures { λ r. ⌜ IsCoverage (slotSize depth) (key * 2) (run (now (table .entry)) lo hi) (r .coverage) ⌝ }
-    ensures { λ r. ⌜ LaidBy uncovered coverageWord (nodesDeep depth) (key * 2) (run (now (table .entry)) lo hi) top (r .top) (now (work .entry)) (now (work .exit)) ⌝ }
+    requires { ⌜ Node size (now table) lo hi depth (key * 2) ⌝ }
+    requires { ⌜ (160 * nodesBelow (nodesDeep depth) (key * 2) (run size (now table) lo hi) ≤ top) × (top ≤ length (now work)) ⌝ }
+    ensures { λ r. ⌜ IsCoverage (slotSize depth) (key * 2) (run size (now (table .entry)) lo hi) (r .coverage) ⌝ }
+    ensures { λ r. ⌜ LaidBy uncovered coverageWord (nodesDeep depth) (key * 2) (run size (now (table .entry)) lo hi) top (r .top) (now (work .entry)) (now (work .exit)) ⌝ }
 {
     let mut first = [0u16; 63];
     let mut end = [0u16; 63];
-    let g = gather_run(table, lo, hi, depth, key, &mut first, &mut end);
+    let g = gather_run(table, size, lo, hi, depth, key, &mut first, &mut end);
     let under = member_coverage(g.present).children_under_member;
     let walked = open_slots(g.occupied, under);
     let mut covered: u32 = 0;
@@ -62,6 +63,7 @@ pub fn collect_coverage(
         let c = k - 1;
         let child = collect_coverage(
             table,
+            size,
             first[31 + c],
             end[31 + c],
             depth + 5,
@@ -112,6 +114,7 @@ fn is_absorbed(above: bool, pushed: u32, c: usize) -> bool
 // the node is covered.
 pub fn aggregate_set(
     table: &[u8],
+    size: usize,
     lo: u16,
     hi: u16,
     depth: usize,
@@ -121,14 +124,14 @@ pub fn aggregate_set(
     top: usize,
     out: &mut [u8],
 ) -> Walked
-    requires { ⌜ Node (now table) lo hi depth (key * 2) ⌝ }
-    requires { ⌜ StoredBy uncovered coverageWord (nodesDeep depth) (key * 2) (run (now table) lo hi) top (now work) ⌝ }
-    ensures { λ r. ⌜ ((ws : List ℕ) → BlockBy uncovered coverageWord (nodesDeep depth) (key * 2) (run (now (table .entry)) lo hi) ws → Begins ws top (now (work .entry)) → r .top ≡ top + length ws) ⌝ }
-    ensures { λ r. ⌜ Wrote (walk (maximalOut wide (held wide (run (now (table .entry)) lo hi))) (maximalNext (held wide (run (now (table .entry)) lo hi))) (wide - depth) (key * 2) above) 0 (r .count) (now (out .entry)) (now (out .exit)) ⌝ }
+    requires { ⌜ Node size (now table) lo hi depth (key * 2) ⌝ }
+    requires { ⌜ StoredBy uncovered coverageWord (nodesDeep depth) (key * 2) (run size (now table) lo hi) top (now work) ⌝ }
+    ensures { λ r. ⌜ ((ws : List ℕ) → BlockBy uncovered coverageWord (nodesDeep depth) (key * 2) (run size (now (table .entry)) lo hi) ws → Begins ws top (now (work .entry)) → r .top ≡ top + length ws) ⌝ }
+    ensures { λ r. ⌜ Wrote size (walk (maximalOut wide (held wide (run size (now (table .entry)) lo hi))) (maximalNext (held wide (run size (now (table .entry)) lo hi))) (wide - depth) (key * 2) above) 0 (r .count) (now (out .entry)) (now (out .exit)) ⌝ }
 {
     let mut first = [0u16; 63];
     let mut end = [0u16; 63];
-    let g = gather_run(table, lo, hi, depth, key, &mut first, &mut end);
+    let g = gather_run(table, size, lo, hi, depth, key, &mut first, &mut end);
     let hops = [0u8; 31];
     let walked = open_slots(g.occupied, member_coverage(g.present).children_under_member);
     let coverage = work[top];
@@ -141,13 +144,14 @@ pub fn aggregate_set(
     while next < 32 {
         let c = next;
         let slot = slot_key(key, depth, c);
-        let here = past(n, out.len());
-        n += emit_slot(entries, &hops, c, slot, depth, &mut out[here..]);
+        let here = past_sized(n, size, out.len());
+        n += emit_slot(entries, &hops, c, slot, depth, size, &mut out[here..]);
         next = next_bit(busy, c + 1);
         if has_bit(walked, c as u32) {
-            let here = past(n, out.len());
+            let here = past_sized(n, size, out.len());
             let child = aggregate_set(
                 table,
+                size,
                 first[31 + c],
                 end[31 + c],
                 depth + 5,

@@ -4,9 +4,9 @@ use mathlib.Core.Path.{_≡_, refl, sym, ap, ap₂, _∙_}
 use mathlib.Core.Bool.{Bool, true, false, cond, _||_, _&&_, and-eq-true-iff}
 use mathlib.Core.List.{List, [], _∷_}
 use mathlib.Core.Logic.{inl, inr}
-use native.Mathlib.Nat.{le-refl, le-antisymm, div-mul-le-self, lt-of-mul-lt-mul-right, mul-suc}
+use native.Mathlib.Nat.{le-refl, le-antisymm, div-mul-le-self, lt-of-mul-lt-mul-right, mul-le-mul-left, mul-lt-mul-of-pos-right, mul-suc, suc-mul}
 use lib.ListN.{length}
-use lib.Pow.{pow-mono, shr-mono, shr-lt, shl-shr}
+use lib.Pow.{pow-pos, pow-add, pow-mono, shr-mono, shr-lt, shl-shr}
 use native.Mathlib.Decide.{decLt}
 use native.Mathlib.Omega.{arith}
 use lib.Dec.{leb, eqb}
@@ -240,72 +240,92 @@ start-most w p (cons {r = r} {t = t} u us) (first d ds) =
 pub nodes-bound : (w : ℕ) {t : List Route} → Table w t → nodes w t ≤ 33 + (w / 5 - 1) * length t
 nodes-bound w t = omega (arith, nodes-pass w t, start-most w root (t .valid) (t .order))
 
--- The most nodes of a table on the wire.
-pub nodes-most : {t : List Route} → Table 32 t → length t ≤ 1024 → nodes 32 t ≤ 5153
-nodes-most t le = omega (arith, nodes-bound 32 t)
+-- The most nodes of a table on the wire: 5,153 at 32 bits, 11,297 at 64.
+pub nodes-most : (w : ℕ) {t : List Route} → Table w t → length t ≤ 1024 → nodes w t ≤ 33 + (w / 5 - 1) * 1024
+nodes-most w {t} table le = omega (arith, nodes-bound w table, mul-le-mul-left {m = length t} {n = 1024} (w / 5 - 1) le)
 
--- ---- Examples at 32 bits, and a table that has the most nodes.
+-- ---- Examples, and tables that have the most nodes.
 
 -- A prefix by its first two octets and its length.
 abbrev at : ℕ → ℕ → ℕ → Route
 at a b n = record { addr = a * 2 ^ 24 + b * 2 ^ 16; len = n; hop = 0 }
 
--- Tables with their numbers of nodes: empty, one /4, one /5, one /32, two /9 that share depth 5, a /16 that shares it with its /8.
+-- Tables of a width with their numbers of nodes: empty, one /4, one /5, one /32, two /9 that share depth 5, a /16 that shares it with its /8; at 64 bits
+-- 2001:db8::/64, which has one at each depth down to 60.
 pub record NodeCase : Type 0 where
+  pub width : ℕ
   pub table : List Route
   pub count : ℕ
 
 abbrev pub nodeCases : List NodeCase
 nodeCases =
-    record { table = []; count = 1 }
-    ∷ record { table = at 160 0 4 ∷ []; count = 1 }
-    ∷ record { table = at 160 0 5 ∷ []; count = 2 }
-    ∷ record { table = at 160 1 32 ∷ []; count = 7 }
-    ∷ record { table = at 10 0 9 ∷ at 10 128 9 ∷ []; count = 2 }
-    ∷ record { table = at 10 0 8 ∷ at 10 1 16 ∷ []; count = 4 }
+    record { width = 32; table = []; count = 1 }
+    ∷ record { width = 32; table = at 160 0 4 ∷ []; count = 1 }
+    ∷ record { width = 32; table = at 160 0 5 ∷ []; count = 2 }
+    ∷ record { width = 32; table = at 160 1 32 ∷ []; count = 7 }
+    ∷ record { width = 32; table = at 10 0 9 ∷ at 10 128 9 ∷ []; count = 2 }
+    ∷ record { width = 32; table = at 10 0 8 ∷ at 10 1 16 ∷ []; count = 4 }
+    ∷ record { width = 64; table = record { addr = (8193 * 2 ^ 16 + 3512) * 2 ^ 32; len = 64; hop = 0 } ∷ []; count = 13 }
     ∷ []
 
 abbrev pub Counted : List NodeCase → Type 0
 Counted [] = Unit {0}
-Counted (c ∷ cs) = (nodes 32 (c .table) ≡ c .count) × Counted cs
+Counted (c ∷ cs) = (nodes (c .width) (c .table) ≡ c .count) × Counted cs
 
 -- Each table of the cases has its number of nodes.
 pub nodes-examples : Counted nodeCases
 unfolding nodes brought fresh
-nodes-examples = (refl, (refl, (refl, (refl, (refl, (refl, tt))))))
+nodes-examples = (refl, (refl, (refl, (refl, (refl, (refl, (refl, tt)))))))
 
--- The first address of the i-th block of ten bits, as a record of length 32; and n such records from the i-th on.
-abbrev pub host : ℕ → Route
-host i = record { addr = i * 2 ^ 22; len = 32; hop = 0 }
+-- At w bits, the first address of the i-th block of ten bits, as a record of length w; and n such records from the i-th on.
+abbrev pub host : ℕ → ℕ → Route
+host w i = record { addr = i * 2 ^ (w - 10); len = w; hop = 0 }
 
-unfoldable pub spread : ℕ → ℕ → List Route
-spread zero i = []
-spread (suc n) i = host i ∷ spread n (suc i)
+unfoldable pub spread : ℕ → ℕ → ℕ → List Route
+spread w zero i = []
+spread w (suc n) i = host w i ∷ spread w n (suc i)
 
-spread-valid : (n i : ℕ) → n + i ≤ 1024 → All (Valid 32) (spread n i)
-unfolding spread
-spread-valid zero i le = nil
-spread-valid (suc n) i le =
-    cons {r = host i} (record { short = le-refl 32; clean = (i * 2 ^ 22, omega arith); small = omega arith }) (spread-valid n (suc i) (omega arith))
+module _ (w : ℕ) (wide : 10 ≤ w) where
+  host-valid : (i : ℕ) → i < 1024 → Valid w (host w i)
+  host-valid i lt =
+      let none : w - w ≡ 0 = omega arith in
+      let all : 2 ^ w ≡ 1024 * 2 ^ (w - 10) = ap (λ (k : ℕ). 2 ^ k) (omega arith) ∙ pow-add 2 10 (w - 10) in
+      record {
+        short = le-refl w;
+        clean = (i * 2 ^ (w - 10), rw none (omega arith));
+        small = omega (arith, all, mul-lt-mul-of-pos-right {m = i} {n = 1024} {k = 2 ^ (w - 10)} lt (pow-pos (w - 10)));
+      }
 
-spread-after : (n i : ℕ) (r : Route) → r .addr < i * 2 ^ 22 → All (Before r) (spread n i)
-unfolding spread
-spread-after zero i r lt = nil
-spread-after (suc n) i r lt = cons (inl lt) (spread-after n (suc i) r (omega arith))
+  spread-valid : (n i : ℕ) → n + i ≤ 1024 → All (Valid w) (spread w n i)
+  unfolding spread
+  spread-valid zero i le = nil
+  spread-valid (suc n) i le = cons {r = host w i} (host-valid i (omega arith)) (spread-valid n (suc i) (omega arith))
 
-spread-order : (n i : ℕ) → Ascending (spread n i)
-unfolding spread
-spread-order zero i = empty
-spread-order (suc n) i = first (spread-after n (suc i) (host i) (omega arith)) (spread-order n (suc i))
+  spread-after : (n i : ℕ) (r : Route) → r .addr < i * 2 ^ (w - 10) → All (Before r) (spread w n i)
+  unfolding spread
+  spread-after zero i r lt = nil
+  spread-after (suc n) i r lt = cons (inl lt) (spread-after n (suc i) r (omega (arith, suc-mul i (2 ^ (w - 10)))))
 
-spread-table : Table 32 (spread 1024 0)
-spread-table = record { valid = spread-valid 1024 0 (omega arith); order = spread-order 1024 0 }
+  spread-order : (n i : ℕ) → Ascending (spread w n i)
+  unfolding spread
+  spread-order zero i = empty
+  spread-order (suc n) i = first (spread-after n (suc i) (host w i) (omega (arith, suc-mul i (2 ^ (w - 10)), pow-pos (w - 10)))) (spread-order n (suc i))
 
-spread-passed : passed 32 root (spread 1024 0) ≡ 5152
+  spread-table : Table w (spread w 1024 0)
+  spread-table = record { valid = spread-valid 1024 0 (omega arith); order = spread-order 1024 0 }
+
+spread-passed : (passed 32 root (spread 32 1024 0) ≡ 5152) × (passed 64 root (spread 64 1024 0) ≡ 11296)
 unfolding spread passed fresh
-spread-passed = refl
+spread-passed = (refl, refl)
 
--- A table of 1,024 records with the most nodes.
-pub nodes-met : (t : List Route) × Table 32 t × (length t ≡ 1024) × (nodes 32 t ≡ 5153)
+-- A table of 1,024 records of this width has so many nodes.
+abbrev pub Met : ℕ → ℕ → Type 0
+Met w n = (t : List Route) × Table w t × (length t ≡ 1024) × (nodes w t ≡ n)
+
+-- So the most is met at both widths.
+pub nodes-met : Met 32 5153 × Met 64 11297
 unfolding spread
-nodes-met = (spread 1024 0, spread-table, refl, omega (arith, nodes-pass 32 spread-table, spread-passed))
+nodes-met = (
+  (spread 32 1024 0, spread-table 32 (omega arith), refl, omega (arith, nodes-pass 32 (spread-table 32 (omega arith)), spread-passed .0)),
+  (spread 64 1024 0, spread-table 64 (omega arith), refl, omega (arith, nodes-pass 64 (spread-table 64 (omega arith)), spread-passed .1)),
+)

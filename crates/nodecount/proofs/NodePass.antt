@@ -1,14 +1,14 @@
--- The one-pass count over a table's bytes: what each depth of a record and one more record add. Over the width w.
+-- The one-pass count over a table's bytes: what each depth of a record and one more record add. Over the width w and the size of a record.
 use Prim.Native.Nat.{ℕ, zero, suc, _+_, _-_, _/_, _≤_, _<_}
-use mathlib.Core.Path.{_≡_, refl, sym, ap, ap₂, _∙_}
+use mathlib.Core.Path.{_≡_, refl, sym, ap, _∙_}
 use mathlib.Core.Bool.{Bool, true, false, cond}
 use mathlib.Core.List.{List, [], _∷_}
 use native.Mathlib.Omega.{arith}
 use Rattle.theory.specs.Routes.{Route, Valid, All, Table}
 use Rattle.nodecount.specs.Nodes.{levels, nodeAt, seen, fresh, nodes, bare, newNodes}
-use Rattle.records.specs.Wire.{routeAt, records, routes}
+use Rattle.records.specs.Sized.{routeIn, recordsIn, routesIn}
 use Rattle.nodecount.proofs.NodeCount.{root, passed, node-above, nodes-pass}
-use Rattle.records.proofs.Reading.{rest, rest-end, rest-all, rest-next, all-next}
+use Rattle.records.proofs.SizedReading.{restIn, in-rest-end, in-rest-all, in-rest-next, in-all-next}
 
 -- ---- The depths of a record, from the deepest up.
 -- Where x lies in a node of p, nothing is new down to that depth.
@@ -45,32 +45,32 @@ unfolding passed
 passed-bare w p [] = refl
 passed-bare w p (r ∷ t) = ap (λ (n : ℕ). n + passed w r t) (fresh-bare w p (r .addr) (levels r))
 
-module _ (w : ℕ) (t : List ℕ) where
+module _ (size w : ℕ) (t : List ℕ) where
   -- Before the first record, and after the last.
-  pub pass-start : Table w (routes t) → (1 + passed w root (rest t 0) ≡ nodes w (routes t)) × All (Valid w) (rest t 0)
-  pass-start v = rw (rest-all t 0 refl) (sym (nodes-pass w v), v .valid)
+  pub pass-start : Table w (routesIn size t) → (1 + passed w root (restIn size t 0) ≡ nodes w (routesIn size t)) × All (Valid w) (restIn size t 0)
+  pass-start v = rw (in-rest-all size t 0 refl) (sym (nodes-pass w v), v .valid)
 
-  pub pass-end : (p : Route) (i : ℕ) → i ≡ records t → passed w p (rest t i) ≡ 0
+  pub pass-end : (p : Route) (i : ℕ) → i ≡ recordsIn size t → passed w p (restIn size t i) ≡ 0
   unfolding passed
-  pass-end p i e = rw (rest-end t i e)
+  pass-end p i e = rw (in-rest-end size t i e)
 
-  module _ (i : ℕ) (lt : i < records t) where
+  module _ (i : ℕ) (lt : i < recordsIn size t) where
     -- What the records from record i on bring is what record i brings and what those after it bring.
-    pub pass-next : (p : Route) (a l count new total : ℕ) → a ≡ routeAt t i .addr → l ≡ routeAt t i .len → new ≡ newNodes w p (bare a l)
-        → count + passed w p (rest t i) ≡ total → count + new + passed w (bare a l) (rest t (i + 1)) ≡ total
+    pub pass-next : (p : Route) (l count new total : ℕ) → l ≡ routeIn size t i .len → new ≡ newNodes w p (bare (routeIn size t i .addr) l)
+        → count + passed w p (restIn size t i) ≡ total → count + new + passed w (bare (routeIn size t i .addr) l) (restIn size t (i + 1)) ≡ total
     unfolding passed
-    pass-next p a l count new total ea el en e =
-        let r : Route = routeAt t i in
-        let h : count + (newNodes w p r + passed w r (rest t (i + 1))) ≡ total =
-        ap (λ (s : List Route). count + passed w p s) (sym (rest-next t i lt)) ∙ e in
-        let f : new ≡ newNodes w p r = en ∙ ap₂ (λ (x k : ℕ). newNodes w p (bare x k)) ea el in
-        let g : passed w (bare a l) (rest t (i + 1)) ≡ passed w r (rest t (i + 1)) =
-        ap₂ (λ (x k : ℕ). passed w (bare x k) (rest t (i + 1))) ea el ∙ sym (passed-bare w r (rest t (i + 1))) in
+    pass-next p l count new total el en e =
+        let r : Route = routeIn size t i in
+        let h : count + (newNodes w p r + passed w r (restIn size t (i + 1))) ≡ total =
+        ap (λ (s : List Route). count + passed w p s) (sym (in-rest-next size t i lt)) ∙ e in
+        let f : new ≡ newNodes w p r = en ∙ ap (λ (k : ℕ). newNodes w p (bare (r .addr) k)) el in
+        let g : passed w (bare (r .addr) l) (restIn size t (i + 1)) ≡ passed w r (restIn size t (i + 1)) =
+        ap (λ (k : ℕ). passed w (bare (r .addr) k) (restIn size t (i + 1))) el ∙ sym (passed-bare w r (restIn size t (i + 1))) in
         omega arith
 
     -- Record i is valid: it brings a node at each of w / 5 depths at the most.
-    pub len-small : (l : ℕ) → l ≡ routeAt t i .len → All (Valid w) (rest t i) → l ≤ w
-    len-small l e v = omega (arith, all-next t i lt v .0 .short)
+    pub len-small : (l : ℕ) → l ≡ routeIn size t i .len → All (Valid w) (restIn size t i) → l ≤ w
+    len-small l e v = omega (arith, in-all-next size t i lt v .0 .short)
 
-    pub new-small : (p : Route) (a l new : ℕ) → l ≡ routeAt t i .len → new ≡ newNodes w p (bare a l) → All (Valid w) (rest t i) → new ≤ w / 5
+    pub new-small : (p : Route) (a l new : ℕ) → l ≡ routeIn size t i .len → new ≡ newNodes w p (bare a l) → All (Valid w) (restIn size t i) → new ≤ w / 5
     new-small p a l new el en v = omega (arith, fresh-small w (p ∷ []) a (l / 5), len-small l el v)

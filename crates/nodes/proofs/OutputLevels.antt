@@ -11,7 +11,7 @@ use lib.Count.{trailingZeros, under}
 use lib.ListN.{length, getD}
 use lib.Pow.{shl-exact, shr-lt, mod-pow-add}
 use borrow.Author.Tests.{eqb-true, eqb-false, eq-eqb, ne-eqb, leb-false, le-leb, lt-leb}
-use Rattle.records.specs.Wire.{route}
+use Rattle.records.specs.Sized.{IsSize, route}
 use Rattle.words.specs.Bits.{bit}
 use Rattle.words.specs.Positions.{position}
 use Rattle.words.proofs.BitLaws.{bit-zero, if-le}
@@ -107,21 +107,22 @@ module _ (entries : ℕ) (hops : List ℕ) (depth addr c : ℕ) where
   heads-empty (suc l) none = rw (heads-empty l (λ i h. none i (omega arith)), none l (omega arith))
 
   -- as before the first level of which a position does,
-  pub heads-before : (r : ℕ) → r ≤ 5 → ((l : ℕ) → l < 5 → eqb (c % 2 ^ (5 - l)) 0 ≡ leb r l) → (o : List ℕ)
-      → Wrote (slotHeads entries hops depth addr c r) 0 0 o o
-  heads-before r h first o =
-      rw (heads-empty r (λ l lt. rw (first l (omega arith), lt-leb r l lt))) (wrote-none 0 o)
+  pub heads-before : {size : ℕ} → IsSize size → (r : ℕ) → r ≤ 5 → ((l : ℕ) → l < 5 → eqb (c % 2 ^ (5 - l)) 0 ≡ leb r l) → (o : List ℕ)
+      → Wrote size (slotHeads entries hops depth addr c r) 0 0 o o
+  heads-before is r h first o =
+      rw (heads-empty r (λ l lt. rw (first l (omega arith), lt-leb r l lt))) (wrote-none is 0 o)
 
   -- or where there is no entry at all, nothing is written.
-  pub heads-none : entries ≡ 0 → (l : ℕ) (o : List ℕ) → Wrote (slotHeads entries hops depth addr c l) 0 0 o o
-  heads-none e l o = rw (heads-empty l (λ i h. go i (eqb (c % 2 ^ (5 - i)) 0) refl)) (wrote-none 0 o)
+  pub heads-none : {size : ℕ} → IsSize size → entries ≡ 0 → (l : ℕ) (o : List ℕ) → Wrote size (slotHeads entries hops depth addr c l) 0 0 o o
+  heads-none is e l o = rw (heads-empty l (λ i h. go i (eqb (c % 2 ^ (5 - i)) 0) refl)) (wrote-none is 0 o)
     where
       go : (l : ℕ) (b : Bool) → eqb (c % 2 ^ (5 - l)) 0 ≡ b → slotHead entries hops depth addr c l ≡ []
       go l true q = rw (q, e, bit-zero (position l (c / 2 ^ (5 - l))))
       go l false q = rw q
 
   -- One level more.
-  pub heads-more : (l : ℕ) {n k : ℕ} {o o₁ o₂ : List ℕ} → Wrote (slotHeads entries hops depth addr c l) 0 n o o₁ → length o₁ ≡ length o
-      → Wrote (slotHead entries hops depth addr c l) n k o₁ o₂ → Wrote (slotHeads entries hops depth addr c (l + 1)) 0 k o o₂
+  pub heads-more : {size : ℕ} → IsSize size → (l : ℕ) {n k : ℕ} {o o₁ o₂ : List ℕ} → Wrote size (slotHeads entries hops depth addr c l) 0 n o o₁
+      → length o₁ ≡ length o
+      → Wrote size (slotHead entries hops depth addr c l) n k o₁ o₂ → Wrote size (slotHeads entries hops depth addr c (l + 1)) 0 k o o₂
   unfolding slotHeads
-  heads-more l p same q = rw (add-one l) (wrote-then p q same)
+  heads-more is l p same q = rw (add-one l) (wrote-then is p q same)

@@ -9,6 +9,7 @@ use lib.Dec.{eqb}
 use lib.ListN.{length, take, drop}
 use borrow.Author.Tests.{eqb-true}
 use Rattle.theory.specs.Routes.{Route}
+use Rattle.records.specs.Sized.{IsSize}
 use Rattle.words.specs.Bits.{bit}
 use Rattle.words.specs.Positions.{position}
 use Rattle.positions.specs.Runs.{placeAt}
@@ -25,73 +26,82 @@ lent at o = take (length o - at) (drop at o)
 abbrev pub relaid : ℕ → List ℕ → List ℕ → List ℕ
 relaid at ys o = take at o ++ (ys ++ drop (length o - at) (drop at o))
 
--- `at` is where n records end in the output, if they fit there.
-abbrev pub Past : ℕ → ℕ → List ℕ → Type 0
-Past n at o = (at ≤ length o) × (n * 8 ≤ length o → at ≡ n * 8)
+-- `at` is where n records of this size end in the output, if they fit there.
+abbrev pub Past : ℕ → ℕ → ℕ → List ℕ → Type 0
+Past size n at o = (at ≤ length o) × (n * size ≤ length o → at ≡ n * size)
 
 -- The first c slots of a node are written, n records in all, where o was.
-pub record Walked (entries : ℕ) (hops : List ℕ) (depth key : ℕ) (slot : ℕ → List Route) (c n : ℕ) (o o′ : List ℕ) : Type 0 where
+pub record Walked (size entries : ℕ) (hops : List ℕ) (depth key : ℕ) (slot : ℕ → List Route) (c n : ℕ) (o o′ : List ℕ) : Type 0 where
+  pub of-size : IsSize size
   pub within : c ≤ 32
   pub sized : length o′ ≡ length o
-  pub wrote : Wrote (slots (entryAt entries hops depth key) slot c) 0 n o o′
+  pub wrote : Wrote size (slots (entryAt entries hops depth key) slot c) 0 n o o′
 
 -- And so are the entries that begin at slot c: with the slot's own the slot is written.
-pub record Begun (entries : ℕ) (hops : List ℕ) (depth key : ℕ) (slot : ℕ → List Route) (c n : ℕ) (o o′ : List ℕ) : Type 0 where
+pub record Begun (size entries : ℕ) (hops : List ℕ) (depth key : ℕ) (slot : ℕ → List Route) (c n : ℕ) (o o′ : List ℕ) : Type 0 where
+  pub of-size : IsSize size
   pub within : c < 32
   pub sized : length o′ ≡ length o
-  pub then : (k : ℕ) (o″ : List ℕ) → Wrote (slot c) n k o′ o″ → Wrote (slots (entryAt entries hops depth key) slot (c + 1)) 0 k o o″
+  pub then : (k : ℕ) (o″ : List ℕ) → Wrote size (slot c) n k o′ o″ → Wrote size (slots (entryAt entries hops depth key) slot (c + 1)) 0 k o o″
 
-module _ {entries : ℕ} {hops : List ℕ} {depth key : ℕ} {slot : ℕ → List Route} where
+module _ {size entries : ℕ} {hops : List ℕ} {depth key : ℕ} {slot : ℕ → List Route} where
   -- Before the first slot nothing is written.
-  pub walked-none : (o : List ℕ) → Walked entries hops depth key slot 0 0 o o
-  walked-none o = record { within = omega arith; sized = refl; wrote = rw slots-zero (wrote-none 0 o) }
+  pub walked-none : IsSize size → (o : List ℕ) → Walked size entries hops depth key slot 0 0 o o
+  walked-none is o = record { of-size = is; within = omega arith; sized = refl; wrote = rw slots-zero (wrote-none is 0 o) }
 
   -- The entries that begin at the next slot, on the tail that was lent for them.
-  pub begun : {c n at e half : ℕ} {o o′ ys : List ℕ} → Walked entries hops depth key slot c n o o′ → c < 32 → Past n at o′
+  pub begun : {c n at e half : ℕ} {o o′ ys : List ℕ} → Walked size entries hops depth key slot c n o o′ → c < 32 → Past size n at o′
       → half ≡ placeAt (slotSize depth) key 5 c / 2
-      → ((a : ℕ) → a / 2 ≡ half → Wrote (slotHeads entries hops depth a c 5) 0 e (lent at o′) ys)
-      → length (relaid at ys o′) ≡ length o′ → Begun entries hops depth key slot c (n + e) o (relaid at ys o′)
+      → ((a : ℕ) → a / 2 ≡ half → Wrote size (slotHeads entries hops depth a c 5) 0 e (lent at o′) ys)
+      → length (relaid at ys o′) ≡ length o′ → Begun size entries hops depth key slot c (n + e) o (relaid at ys o′)
   begun {c} {n} {at} {e} {half} {o} {o′} {ys} w lt past is heads same =
       record {
+        of-size = w .of-size;
         within = lt;
         sized = same ∙ w .sized;
-        then = λ k o″ own. slots-more entries hops depth key slot c (w .wrote) (w .sized)
-            (wrote-tail o′ ys at (past .1) (past .0) (heads (placeAt (slotSize depth) key 5 c) (sym is))) same own;
+        then = λ k o″ own. slots-more (w .of-size) entries hops depth key slot c (w .wrote) (w .sized)
+            (wrote-tail (w .of-size) o′ ys at (past .1) (past .0) (heads (placeAt (slotSize depth) key 5 c) (sym is))) same own;
       }
 
   -- With the slot's own they are no more than the node's.
-  pub begun-few : {c n : ℕ} {o o′ : List ℕ} → Begun entries hops depth key slot c n o o′
+  pub begun-few : {c n : ℕ} {o o′ : List ℕ} → Begun size entries hops depth key slot c n o o′
       → n + length (slot c) ≤ length (slots (entryAt entries hops depth key) slot 32)
   begun-few {c} {n} b =
       let all = wrote-count (b .then (n + length (slot c)) _ (record { counted = refl; laid = λ fits. refl })) in
       omega (arith, slots-fewer 5 (entryAt entries hops depth key) slot (c + 1) 32 (omega (arith, b .within)))
 
   -- A slot with nothing of its own is written then,
-  pub walked-alone : {c n : ℕ} {o o′ : List ℕ} → Begun entries hops depth key slot c n o o′ → slot c ≡ []
-      → Walked entries hops depth key slot (c + 1) n o o′
+  pub walked-alone : {c n : ℕ} {o o′ : List ℕ} → Begun size entries hops depth key slot c n o o′ → slot c ≡ []
+      → Walked size entries hops depth key slot (c + 1) n o o′
   walked-alone {c} {n} {o} {o′} b e =
-      record { within = omega (arith, b .within); sized = b .sized; wrote = b .then n o′ (rw e (wrote-none n o′)) }
+      record { of-size = b .of-size; within = omega (arith, b .within); sized = b .sized; wrote = b .then n o′ (rw e (wrote-none (b .of-size) n o′)) }
 
   -- another once its own node is, on the tail that was lent for it.
-  pub walked-child : {c n : ℕ} {o o′ : List ℕ} → Begun entries hops depth key slot c n o o′ → {k at : ℕ} {ys : List ℕ} → Past n at o′
-      → Wrote (slot c) 0 k (lent at o′) ys → length (relaid at ys o′) ≡ length o′
-      → Walked entries hops depth key slot (c + 1) (n + k) o (relaid at ys o′)
+  pub walked-child : {c n : ℕ} {o o′ : List ℕ} → Begun size entries hops depth key slot c n o o′ → {k at : ℕ} {ys : List ℕ} → Past size n at o′
+      → Wrote size (slot c) 0 k (lent at o′) ys → length (relaid at ys o′) ≡ length o′
+      → Walked size entries hops depth key slot (c + 1) (n + k) o (relaid at ys o′)
   walked-child {c} {n} {o} {o′} b {k} {at} {ys} past own same =
       record {
+        of-size = b .of-size;
         within = omega (arith, b .within);
         sized = same ∙ b .sized;
-        wrote = b .then (n + k) (relaid at ys o′) (wrote-tail o′ ys at (past .1) (past .0) own);
+        wrote = b .then (n + k) (relaid at ys o′) (wrote-tail (b .of-size) o′ ys at (past .1) (past .0) own);
       }
 
   -- A slot at which no entry begins and that has nothing of its own may be passed over.
-  pub walked-over : {c n : ℕ} {o o′ : List ℕ} → Walked entries hops depth key slot c n o o′ → c < 32
-      → heads (entryAt entries hops depth key) 5 c ≡ [] → slot c ≡ [] → Walked entries hops depth key slot (c + 1) n o o′
+  pub walked-over : {c n : ℕ} {o o′ : List ℕ} → Walked size entries hops depth key slot c n o o′ → c < 32
+      → heads (entryAt entries hops depth key) 5 c ≡ [] → slot c ≡ [] → Walked size entries hops depth key slot (c + 1) n o o′
   walked-over {c} w lt none own =
-      record { within = omega arith; sized = w .sized; wrote = rw (slots-past (entryAt entries hops depth key) slot c none own) (w .wrote) }
+      record {
+        of-size = w .of-size;
+        within = omega arith;
+        sized = w .sized;
+        wrote = rw (slots-past (entryAt entries hops depth key) slot c none own) (w .wrote);
+      }
 
   -- After all 32 the node is written.
-  pub walked-all : {c n : ℕ} {o o′ : List ℕ} → Walked entries hops depth key slot c n o o′ → 32 ≤ c
-      → Wrote (slots (entryAt entries hops depth key) slot 32) 0 n o o′
+  pub walked-all : {c n : ℕ} {o o′ : List ℕ} → Walked size entries hops depth key slot c n o o′ → 32 ≤ c
+      → Wrote size (slots (entryAt entries hops depth key) slot 32) 0 n o o′
   walked-all {c} w all = let full : c ≡ 32 = omega (arith, w .within) in rw full at (w .wrote)
 
 -- ---- A slot whose bit is not marked.

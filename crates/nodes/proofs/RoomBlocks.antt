@@ -6,8 +6,8 @@ use mathlib.Core.Logic.{_↔_}
 use native.Mathlib.Omega.{arith}
 use lib.ListN.{length}
 use Rattle.theory.specs.Routes.{Route}
-use Rattle.records.specs.Wire.{routesFrom}
-use Rattle.records.proofs.Reading.{length-from}
+use Rattle.records.specs.Sized.{routesFromIn}
+use Rattle.records.proofs.SizedReading.{in-length-from}
 use Rattle.positions.specs.Runs.{inside, placeAt}
 use Rattle.positions.proofs.Runs.{Nested, nested-self, inside-nested}
 use Rattle.positions.proofs.RunsNode.{size-slot, place-nested}
@@ -22,8 +22,8 @@ slot-nested m a c lt = subst (λ (k : ℕ). Nested k (placeAt m a 5 c) (m + 5) a
 -- ---- The block of a slot.
 
 -- A run has a route for each of its records.
-pub run-length : (t : List ℕ) (lo hi : ℕ) → length (run t lo hi) ≡ hi - lo
-run-length t lo hi = length-widen spare (routesFrom t lo (hi - lo)) ∙ length-from t lo (hi - lo)
+pub run-length : (size : ℕ) (t : List ℕ) (lo hi : ℕ) → length (run size t lo hi) ≡ hi - lo
+run-length size t lo hi = length-widen (spare size) (routesFromIn size t lo (hi - lo)) ∙ in-length-from size t lo (hi - lo)
 
 module _ (block : ℕ → List Route → List ℕ → Type 0) (a : ℕ) where
   -- A slot without a route has no words.

@@ -66,27 +66,29 @@ parts-ahead block m a t u v c at {ws = ws} {o} e i z s =
     (begins-left u v at o d, record { words = v; begins = begins-right u v at o d; blocks = s; ends = omega arith })
 
 -- The own words of a node stand where its block does, and the blocks of its slots after them.
-own-first : (deeper : ℕ → ℕ → List Route → List Route) (own : ℕ → ℕ → List Route → List ℕ → Type 0) {t : List ℕ} {lo hi depth key : ℕ} (top : ℕ) (o : List ℕ)
-    → Node t lo hi depth key → (ws : List ℕ) → BlockBy deeper own (nodesDeep depth) key (run t lo hi) ws → Begins ws top o
+own-first : (deeper : ℕ → ℕ → List Route → List Route) (own : ℕ → ℕ → List Route → List ℕ → Type 0) {size : ℕ} {t : List ℕ} {lo hi depth key : ℕ} (top : ℕ) (o : List ℕ)
+    → Node size t lo hi depth key → (ws : List ℕ) → BlockBy deeper own (nodesDeep depth) key (run size t lo hi) ws → Begins ws top o
     → (u : List ℕ)
-    × own (slotSize depth) key (run t lo hi) u
+    × own (slotSize depth) key (run size t lo hi) u
     × Begins u top o
-    × SlotsAhead (BlockBy deeper own (nodesDeep (depth + 5))) (slotSize depth) key (deeper (slotSize depth) key (run t lo hi)) 0 (top + length u)
+    × SlotsAhead (BlockBy deeper own (nodesDeep (depth + 5))) (slotSize depth) key (deeper (slotSize depth) key (run size t lo hi)) 0 (top + length u)
     (top + length ws) o
-own-first deeper own {t} {lo} {hi} {depth} {key} top o n ws b i =
-    let p = block-by-deep deeper own key (run t lo hi) ws depth (n .level) (n .fives) (n .at .deep) .0 b in
-    let q = parts-ahead (BlockBy deeper own (nodesDeep (depth + 5))) (slotSize depth) key (deeper (slotSize depth) key (run t lo hi)) (p .0) (p .1) 0 top (p .2) i refl (p .4) in
+own-first deeper own {size} {t} {lo} {hi} {depth} {key} top o n ws b i =
+    let p = block-by-deep deeper own key (run size t lo hi) ws depth (n .level) (n .fives) (n .at .deep) .0 b in
+    let q = parts-ahead (BlockBy deeper own (nodesDeep (depth + 5))) (slotSize depth) key (deeper (slotSize depth) key (run size t lo hi)) (p .0) (p .1) 0 top (p .2) i refl (p .4) in
     (p .0, p .3, q .0, q .1)
 
-module _ {deeper : ℕ → ℕ → List Route → List Route} {own : ℕ → ℕ → List Route → List ℕ → Type 0} {t : List ℕ} {lo hi depth key top : ℕ} {o : List ℕ}
-    (n : Node t lo hi depth key) where
+module _ {deeper : ℕ → ℕ → List Route → List Route} {own : ℕ → ℕ → List Route → List ℕ → Type 0} {size : ℕ} {t : List ℕ} {lo hi depth key top : ℕ}
+    {o : List ℕ}
+    (n : Node size t lo hi depth key) where
   -- Of a node that is stored they are read there.
-  pub own-stored : StoredBy deeper own (nodesDeep depth) key (run t lo hi) top o → (u : List ℕ) × own (slotSize depth) key (run t lo hi) u × Begins u top o
+  pub own-stored : StoredBy deeper own (nodesDeep depth) key (run size t lo hi) top o
+      → (u : List ℕ) × own (slotSize depth) key (run size t lo hi) u × Begins u top o
   own-stored s = let p = own-first deeper own top o n (s .words) (s .block) (s .begins) in (p .0, p .1, p .2)
 
   -- Where they end the blocks of the slots stand.
-  pub ahead-start : {at : ℕ} → ((u : List ℕ) → own (slotSize depth) key (run t lo hi) u → Begins u top o → at ≡ top + length u)
-      → Ahead deeper own (run t lo hi) depth key top o 0 at
+  pub ahead-start : {at : ℕ} → ((u : List ℕ) → own (slotSize depth) key (run size t lo hi) u → Begins u top o → at ≡ top + length u)
+      → Ahead deeper own (run size t lo hi) depth key top o 0 at
   ahead-start ends = record { each = λ ws b i. let p = own-first deeper own top o n ws b i in rw (ends (p .0) (p .1) (p .2)) (p .3) }
 
 module _ {deeper : ℕ → ℕ → List Route → List Route} {own : ℕ → ℕ → List Route → List ℕ → Type 0} {t : List Route} {depth key top : ℕ} {o : List ℕ}

@@ -6,21 +6,21 @@ use mathlib.Core.List.{List, [], _∷_, _++_}
 use lib.Dec.{eqb}
 use lib.ListN.{length, getD, take, drop}
 use Rattle.theory.specs.Routes.{Route}
-use Rattle.records.specs.Wire.{bytesOf, route}
+use Rattle.records.specs.Sized.{bytesIn, route}
 use Rattle.words.specs.Bits.{bit}
 use Rattle.words.specs.Positions.{position}
 use Rattle.positions.specs.Runs.{placeAt}
 use Rattle.positions.specs.Wide.{narrowed}
 use Rattle.nodes.specs.Node.{spare, slotSize}
 
--- The bytes of wide routes on the wire.
-abbrev pub wireOf : List Route → List ℕ
-wireOf rs = bytesOf (narrowed spare rs)
+-- The bytes of wide routes on the wire, at records of this size.
+abbrev pub wireOf : ℕ → List Route → List ℕ
+wireOf size rs = bytesIn size (narrowed (spare size) rs)
 
 -- o′ is o with the routes laid after its first `done` records, if they fit, and k records stand there then.
-pub record Wrote (rs : List Route) (done k : ℕ) (o o′ : List ℕ) : Type 0 where
+pub record Wrote (size : ℕ) (rs : List Route) (done k : ℕ) (o o′ : List ℕ) : Type 0 where
   pub counted : k ≡ done + length rs
-  pub laid : k * 8 ≤ length o → o′ ≡ take (done * 8) o ++ (wireOf rs ++ drop (k * 8) o)
+  pub laid : k * size ≤ length o → o′ ≡ take (done * size) o ++ (wireOf size rs ++ drop (k * size) o)
 
 -- The entry of position j of level l, where the bits say which positions have one, and the list their hops.
 abbrev pub entryAt : ℕ → List ℕ → ℕ → ℕ → ℕ → ℕ → List Route

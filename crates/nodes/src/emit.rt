@@ -1,7 +1,7 @@
 // Writing the entries of a node's positions, slot by slot, in table order. Where the output has no room nothing is written, but it is counted.
 
-use records::past;
-use records::put_record;
+use records::sized::past_sized;
+use records::sized::put_sized;
 use words::bits::has_bit;
 use words::bits::next_bit;
 use words::bits::with_bit;
@@ -9,16 +9,16 @@ ghost use mathlib.Core.Path.{_≡_};
 ghost use Prim.Native.Nat.{ℕ, _+_, _-_, _*_, _/_, _%_, _^_, _≤_, _<_};
 ghost use mathlib.Core.List.{[], _∷_};
 ghost use lib.Dec.{eqb, leb};
-ghost use Rattle.records.specs.Wire.{route};
+ghost use Rattle.records.specs.Sized.{IsSize, route};
 ghost use Rattle.words.specs.Positions.{position};
 ghost use Rattle.nodes.specs.Output.{Wrote, slotHead, slotHeads, HeadSlots};
 
 // Writes one record at the start of the output, if there is room for it: that of each wide address whose half is in hand.
-pub fn put(out: &mut [u8], addr: u64, len: usize, hop: u8)
-    requires { ⌜ len < 256 ⌝ }
-    ensures { λ _. ⌜ ((a : ℕ) → a / 2 ≡ addr → Wrote (route a len hop ∷ []) 0 1 (now (out .entry)) (now (out .exit))) ⌝ }
+pub fn put(size: usize, out: &mut [u8], addr: u64, len: usize, hop: u8)
+    requires { ⌜ (len < 256) × IsSize size ⌝ }
+    ensures { λ _. ⌜ ((a : ℕ) → a / 2 ≡ addr → Wrote size (route a len hop ∷ []) 0 1 (now (out .entry)) (now (out .exit))) ⌝ }
 {
-    put_record(out, (addr >> 32) as u32, len as u8, hop);
+    put_sized(out, size, addr, len as u8, hop);
 }
 
 // Writes the entry of the position of level l that begins at slot c, after `done` records, if one does and has an entry.
@@ -30,12 +30,13 @@ fn emit_level(
     addr: u64,
     depth: usize,
     done: usize,
+    size: usize,
     out: &mut [u8],
 ) -> usize
-    requires { ⌜ (c < 32) × ((l < 5) × (depth ≤ 60)) ⌝ }
+    requires { ⌜ (c < 32) × ((l < 5) × ((depth ≤ 60) × IsSize size)) ⌝ }
     requires { ⌜ done ≤ l ⌝ }
     ensures { λ r. ⌜ r ≤ done + 1 ⌝ }
-    ensures { λ r. ⌜ ((a : ℕ) → a / 2 ≡ addr → Wrote (slotHead entries (now (hops .entry)) depth a c l) done r (now (out .entry)) (now (out .exit))) ⌝ }
+    ensures { λ r. ⌜ ((a : ℕ) → a / 2 ≡ addr → Wrote size (slotHead entries (now (hops .entry)) depth a c l) done r (now (out .entry)) (now (out .exit))) ⌝ }
 {
     let below = 5 - l;
     let j = c >> below;
@@ -46,8 +47,8 @@ fn emit_level(
     if !has_bit(entries, b as u32) {
         return done;
     }
-    let at = past(done, out.len());
-    put(&mut out[at..], addr, depth + l, hops[b]);
+    let at = past_sized(done, size, out.len());
+    put(size, &mut out[at..], addr, depth + l, hops[b]);
     done + 1
 }
 
@@ -71,10 +72,11 @@ pub fn emit_slot(
     c: usize,
     addr: u64,
     depth: usize,
+    size: usize,
     out: &mut [u8],
 ) -> usize
-    requires { ⌜ (c < 32) × (depth ≤ 60) ⌝ }
-    ensures { λ r. ⌜ ((a : ℕ) → a / 2 ≡ addr → Wrote (slotHeads entries (now (hops .entry)) depth a c 5) 0 r (now (out .entry)) (now (out .exit))) ⌝ }
+    requires { ⌜ (c < 32) × ((depth ≤ 60) × IsSize size) ⌝ }
+    ensures { λ r. ⌜ ((a : ℕ) → a / 2 ≡ addr → Wrote size (slotHeads entries (now (hops .entry)) depth a c 5) 0 r (now (out .entry)) (now (out .exit))) ⌝ }
 {
     if entries == 0 {
         return 0;
@@ -82,7 +84,7 @@ pub fn emit_slot(
     let mut n: usize = 0;
     let mut l = first_level(c);
     while l < 5 {
-        n = emit_level(entries, hops, c, l, addr, depth, n, out);
+        n = emit_level(entries, hops, c, l, addr, depth, n, size, out);
         l += 1;
     }
     n

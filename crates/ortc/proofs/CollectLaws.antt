@@ -60,17 +60,18 @@ pub record Collecting (f : ℕ → Answer) (covering : List ℕ) (fill depth key
   pub laid : SlotsLaid 160 (Block (setWords f) (nodesDeep (depth + 5))) (nodesBelow (nodesDeep (depth + 5))) (slotSize depth) key t c top at o o′
 
 -- Before the last slot.
-pub collecting-start : {t : List ℕ} {lo hi depth key : ℕ} (f : ℕ → Answer) (covering : List ℕ) (fill top : ℕ) (slots o : List ℕ) → Node t lo hi depth key
-    → 160 * nodesBelow (nodesDeep depth) key (run t lo hi) ≤ top → length slots ≡ 63
+pub collecting-start : {size : ℕ} {t : List ℕ} {lo hi depth key : ℕ} (f : ℕ → Answer) (covering : List ℕ) (fill top : ℕ) (slots o : List ℕ)
+    → Node size t lo hi depth key
+    → 160 * nodesBelow (nodesDeep depth) key (run size t lo hi) ≤ top → length slots ≡ 63
     → ((i : ℕ) → i < 32 → ShowsSet (getD slots (31 + i) 0) (leafAt covering fill i))
-    → Collecting f covering fill depth key (run t lo hi) 32 top top slots o o
-collecting-start {t} {lo} {hi} {depth} {key} f covering fill top slots o n room e leaves =
+    → Collecting f covering fill depth key (run size t lo hi) 32 top top slots o o
+collecting-start {size} {t} {lo} {hi} {depth} {key} f covering fill top slots o n room e leaves =
     record {
       count = e;
       ahead = leaves;
       shown = λ i le lt. absurd (omega arith);
-      laid = laid-start 160 _ _ (slotSize depth) key (run t lo hi) top o
-          (rw (nodes-below-deep depth (n .level) key (run t lo hi) (n .fives) (n .at .deep)) at room);
+      laid = laid-start 160 _ _ (slotSize depth) key (run size t lo hi) top o
+          (rw (nodes-below-deep depth (n .level) key (run size t lo hi) (n .fives) (n .at .deep)) at room);
     }
 
 -- What is laid ends in the room, and there is room for the node's own words.
@@ -91,18 +92,18 @@ from-slot P c here after i le lt = go (eq-or-lt-of-le le)
     go (inr later) = after i (omega arith) lt
 
 -- The slots of a node whose positions are covered by `covering`.
-module _ {t : List ℕ} {lo hi depth key : ℕ} {first end : List ℕ} {present : ℕ} (n : Node t lo hi depth key)
-    (g : Gathered t lo hi depth key first end present) (inherited fill : ℕ) (covering : List ℕ)
-    (is : (l j : ℕ) → l ≤ 4 → j < 2 ^ l → getD covering (position l j) 0 ≡ coveringAt t first end inherited l j) where
+module _ {size : ℕ} {t : List ℕ} {lo hi depth key : ℕ} {first end : List ℕ} {present : ℕ} (n : Node size t lo hi depth key)
+    (g : Gathered size t lo hi depth key first end present) (inherited fill : ℕ) (covering : List ℕ)
+    (is : (l j : ℕ) → l ≤ 4 → j < 2 ^ l → getD covering (position l j) 0 ≡ coveringAt size t first end inherited l j) where
   -- What the node answers, and what slot c does.
   abbrev inNode : ℕ → Answer
-  inNode = answerIn (run t lo hi) (hopOf inherited) (hopOf fill)
+  inNode = answerIn (run size t lo hi) (hopOf inherited) (hopOf fill)
 
   abbrev inSlot : ℕ → ℕ → Answer
-  inSlot c = answerIn (runAt t first end (31 + c)) (hopOf (getD covering (15 + c / 2) 0)) (hopOf fill)
+  inSlot c = answerIn (runAt size t first end (31 + c)) (hopOf (getD covering (15 + c / 2) 0)) (hopOf fill)
 
   -- The hop that covers the position above slot c.
-  over-slot : (c : ℕ) → c < 32 → getD covering (15 + c / 2) 0 ≡ coveringAt t first end inherited 4 (c / 2)
+  over-slot : (c : ℕ) → c < 32 → getD covering (15 + c / 2) 0 ≡ coveringAt size t first end inherited 4 (c / 2)
   over-slot c lt = is 4 (c / 2) (omega arith) (omega arith)
 
   -- Slot c has the same candidates in the node as by its own routes.
@@ -115,14 +116,14 @@ module _ {t : List ℕ} {lo hi depth key : ℕ} {first end : List ℕ} {present 
   vacant-sets : (c : ℕ) → c < 32 → getD end (31 + c) 0 ≤ getD first (31 + c) 0
       → sets inNode (slotSize depth) (placeAt (slotSize depth) key 5 c) ≡ leafAt covering fill c
   vacant-sets c lt none =
-      let z : runAt t first end (31 + c) ≡ [] = slot-records g c lt ∙ no-child g c lt none in
+      let z : runAt size t first end (31 + c) ≡ [] = slot-records g c lt ∙ no-child g c lt none in
       slot-sets c lt
       ∙ sets-uniform (inSlot c) (orElse (hopOf (getD covering (15 + c / 2) 0)) (hopOf fill)) (slotSize depth) (placeAt (slotSize depth) key 5 c)
       (λ x i. ap (λ (rs : List Route). answerIn rs (hopOf (getD covering (15 + c / 2) 0)) (hopOf fill) x) z)
 
   -- The walk has come to slot c.
   abbrev At : ℕ → ℕ → ℕ → List ℕ → List ℕ → List ℕ → Type 0
-  At = Collecting inNode covering fill depth key (run t lo hi)
+  At = Collecting inNode covering fill depth key (run size t lo hi)
 
   module _ (top at : ℕ) (slots o o₁ : List ℕ) (within : top ≤ length o) where
     -- A slot without records is done by its leaf,
@@ -132,12 +133,12 @@ module _ {t : List ℕ} {lo hi depth key : ℕ} {first end : List ℕ} {present 
           count = h .count;
           ahead = λ i before. h .ahead i (omega arith);
           shown = from-slot (Shown inNode depth key slots) c (rw (vacant-sets c lt none) (h .ahead c (omega arith))) (h .shown);
-          laid = laid-skip 160 _ _ (slotSize depth) key (run t lo hi) (sets-sized inNode (nodesDeep (depth + 5))) (h .laid) refl (omega arith) within
+          laid = laid-skip 160 _ _ (slotSize depth) key (run size t lo hi) (sets-sized inNode (nodesDeep (depth + 5))) (h .laid) refl (omega arith) within
               (no-child g c lt none);
         }
 
     -- and so are those down to one past the last slot before b that has a record.
-    pub collecting-seek : {occupied b r : ℕ} → Occupied t lo hi depth key occupied → LastBit occupied b r → b ≤ 32
+    pub collecting-seek : {occupied b r : ℕ} → Occupied size t lo hi depth key occupied → LastBit occupied b r → b ≤ 32
         → At b top at slots o o₁ → At r top at slots o o₁
     collecting-seek {occupied} occ last le =
         last-steps (λ c. At c top at slots o o₁) last (λ i lt off. collecting-leaf i (omega arith) (slot-vacant g occupied occ i (omega arith) off))
@@ -150,40 +151,41 @@ module _ {t : List ℕ} {lo hi depth key : ℕ} {first end : List ℕ} {present 
     small = omega arith
 
     -- There is room for the node in it,
-    pub collecting-room : 160 * nodesBelow (nodesDeep (depth + 5)) slot (runAt t first end (31 + c)) ≤ at
+    pub collecting-room : 160 * nodesBelow (nodesDeep (depth + 5)) slot (runAt size t first end (31 + c)) ≤ at
     collecting-room =
-        let room : 160 * (1 + slotNodes wide (nodesBelow (nodesDeep (depth + 5))) (slotSize depth) key (run t lo hi) (c + 1)) ≤ at = rw e at (h .laid .room) in
+        let room : 160 * (1 + slotNodes wide (nodesBelow (nodesDeep (depth + 5))) (slotSize depth) key (run size t lo hi) (c + 1)) ≤ at = rw e at (h .laid .room) in
         rw (here, slot-records g c small)
-        (room-child 160 (nodesBelow (nodesDeep (depth + 5))) (slotSize depth) key (run t lo hi) c at room
+        (room-child 160 (nodesBelow (nodesDeep (depth + 5))) (slotSize depth) key (run size t lo hi) c at room
         (slot-some-routes n g inherited fill c small (over-slot c small) some))
 
     -- and it is done by that node.
     pub collecting-child : (v : ℕ) {r : ℕ} {o₂ : List ℕ} → ShowsSet v (sets (inSlot c) (wide - (depth + 5)) slot)
-        → Laid (setWords (inSlot c)) (nodesDeep (depth + 5)) slot (runAt t first end (31 + c)) at r o₁ o₂
+        → Laid (setWords (inSlot c)) (nodesDeep (depth + 5)) slot (runAt size t first end (31 + c)) at r o₁ o₂
         → At c top r (set slots (31 + c) v) o o₂
     collecting-child v shows laid =
         record {
           count = length-set slots (31 + c) v ∙ h .count;
           ahead = λ i before. rw (getD-set-other slots (31 + c) (31 + i) v 0 (λ z. omega arith)) (h .ahead i (omega arith));
           shown = from-slot (Shown inNode depth key (set slots (31 + c) v)) c
-              (rw (getD-set-same slots (31 + c) v 0 (omega (arith, h .count)), slot-sets c small) (rw (size, here) at shows))
+              (rw (getD-set-same slots (31 + c) v 0 (omega (arith, h .count)), slot-sets c small) (rw (bits-below, here) at shows))
               (λ i after lt. rw (getD-set-other slots (31 + c) (31 + i) v 0 (λ z. omega arith)) (h .shown i (omega arith) lt));
-          laid = laid-next 160 _ _ (slotSize depth) key (run t lo hi) (sets-sized inNode (nodesDeep (depth + 5))) (h .laid) e le within
+          laid = laid-next 160 _ _ (slotSize depth) key (run size t lo hi) (sets-sized inNode (nodesDeep (depth + 5))) (h .laid) e le within
               (slot-block n g inherited fill c small (over-slot c small) some (laid .words) .1 (rw here at (laid .block)))
               (laid .pushed);
         }
       where
-        size : wide - (depth + 5) ≡ slotSize depth
-        size = omega (arith, n .at .deep)
+        bits-below : wide - (depth + 5) ≡ slotSize depth
+        bits-below = omega (arith, n .at .deep)
 
 -- After the first slot the node's own words are laid.
-pub collecting-end : {t : List ℕ} {lo hi depth key : ℕ} {f : ℕ → Answer} {covering : List ℕ} {fill top at r : ℕ} {slots xs o o₁ o₂ : List ℕ} → Node t lo hi depth key
-    → Collecting f covering fill depth key (run t lo hi) 0 top at slots o o₁ → top ≤ length o
+pub collecting-end : {size : ℕ} {t : List ℕ} {lo hi depth key : ℕ} {f : ℕ → Answer} {covering : List ℕ} {fill top at r : ℕ}
+    {slots xs o o₁ o₂ : List ℕ} → Node size t lo hi depth key
+    → Collecting f covering fill depth key (run size t lo hi) 0 top at slots o o₁ → top ≤ length o
     → ShowsNode f (slotSize depth) key xs → Pushed (packed xs) at r o₁ o₂
-    → ShowsSet (getD xs 0 0) (sets f (wide - depth) key) × Laid (setWords f) (nodesDeep depth) key (run t lo hi) top r o o₂
-collecting-end {t} {lo} {hi} {depth} {key} {f} {xs = xs} n h within shows pushed =
-    let size : wide - depth ≡ slotSize depth + 5 = omega (arith, n .at .deep) in
-    let w = laid-own 160 _ _ (slotSize depth) key (run t lo hi) (setWords f) (h .laid) within (xs, shows, refl) pushed in (
-      rw size (node-set shows),
-      record { words = w .0; block = block-deep (setWords f) key (run t lo hi) (w .0) depth (n .level) (n .fives) (n .at .deep) .1 (w .1); pushed = w .2 },
+    → ShowsSet (getD xs 0 0) (sets f (wide - depth) key) × Laid (setWords f) (nodesDeep depth) key (run size t lo hi) top r o o₂
+collecting-end {size} {t} {lo} {hi} {depth} {key} {f} {xs = xs} n h within shows pushed =
+    let bits-below : wide - depth ≡ slotSize depth + 5 = omega (arith, n .at .deep) in
+    let w = laid-own 160 _ _ (slotSize depth) key (run size t lo hi) (setWords f) (h .laid) within (xs, shows, refl) pushed in (
+      rw bits-below (node-set shows),
+      record { words = w .0; block = block-deep (setWords f) key (run size t lo hi) (w .0) depth (n .level) (n .fives) (n .at .deep) .1 (w .1); pushed = w .2 },
     )

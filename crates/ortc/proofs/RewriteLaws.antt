@@ -62,11 +62,12 @@ module _ (choose : List ℕ → ℕ) (f : ℕ → Answer) (m a : ℕ) (g : Answe
 -- ---- A region without routes.
 
 -- Its rewrite is one entry at most, by the hop that covers it or else fills.
-pub leaf-rewrite : (choose : List ℕ → ℕ) → Chooses choose → (t : List ℕ) (lo hi depth key covering fill hop above : ℕ) → hi ≤ lo → depth ≤ wide → hop ≤ noHop → above ≤ noHop
+pub leaf-rewrite : (choose : List ℕ → ℕ) → Chooses choose → (size : ℕ) (t : List ℕ) (lo hi depth key covering fill hop above : ℕ) → hi ≤ lo
+    → depth ≤ wide → hop ≤ noHop → above ≤ noHop
     → hopOf hop ≡ orElse (hopOf covering) (hopOf fill)
-    → ortc choose wide (answerIn (run t lo hi) (hopOf covering) (hopOf fill)) (wide - depth) key (hopOf above) ≡ entryOver key depth hop above
-leaf-rewrite choose law t lo hi depth key covering fill hop above none deep hop-low above-low e =
-    rw (run-none t lo hi none)
+    → ortc choose wide (answerIn (run size t lo hi) (hopOf covering) (hopOf fill)) (wide - depth) key (hopOf above) ≡ entryOver key depth hop above
+leaf-rewrite choose law size t lo hi depth key covering fill hop above none deep hop-low above-low e =
+    rw (run-none size t lo hi none)
     (ortc-uniform choose wide law (answerIn [] (hopOf covering) (hopOf fill)) (orElse (hopOf covering) (hopOf fill)) (wide - depth) key
     (hopOf above) (λ x i. refl)
     ∙ rw (← e) (sym (leaf-entry choose law (wide - depth) key depth hop above (omega arith) hop-low above-low)))
@@ -82,67 +83,71 @@ leaf-hop covering fill p q = go (decLt covering noHop)
 -- ---- A node in the room.
 
 -- The sets of a node whose block stands in the room are read there.
-pub sets-stored : {f : ℕ → Answer} {t : List ℕ} {lo hi depth key top : ℕ} {o : List ℕ} → Node t lo hi depth key
-    → Stored (setWords f) (nodesDeep depth) key (run t lo hi) top o
+pub sets-stored : {f : ℕ → Answer} {size : ℕ} {t : List ℕ} {lo hi depth key top : ℕ} {o : List ℕ} → Node size t lo hi depth key
+    → Stored (setWords f) (nodesDeep depth) key (run size t lo hi) top o
     → (xs : List ℕ) × ShowsNode f (slotSize depth) key xs × Begins (packed xs) top o
 sets-stored n s = let a = own-stored n s in (a .1 .0, a .1 .1, rw (a .1 .2) at (a .2))
 
 -- ---- The slots of a node.
 
 -- The rewrite of slot c, by its records, what covers it and what the position above it is assigned.
-abbrev pub slotRewrite : (List ℕ → ℕ) → List ℕ → List ℕ → List ℕ → List ℕ → List ℕ → ℕ → ℕ → ℕ → ℕ → List Route
-slotRewrite choose t first end covering hops depth key fill c =
-    ortc choose wide (answerIn (runAt t first end (31 + c)) (hopOf (getD covering (15 + c / 2) 0)) (hopOf fill))
+abbrev pub slotRewrite : (List ℕ → ℕ) → ℕ → List ℕ → List ℕ → List ℕ → List ℕ → List ℕ → ℕ → ℕ → ℕ → ℕ → List Route
+slotRewrite choose size t first end covering hops depth key fill c =
+    ortc choose wide (answerIn (runAt size t first end (31 + c)) (hopOf (getD covering (15 + c / 2) 0)) (hopOf fill))
     (wide - (depth + 5)) (placeAt (slotSize depth) key 5 c) (hopOf (getD hops (15 + c / 2) 0))
 
 -- One without records lists nothing where no entry of its own is marked.
-leaf-none : (choose : List ℕ → ℕ) → Chooses choose → (t first end covering hops : List ℕ) (depth key fill leaves : ℕ) → LeafSlots covering hops fill leaves → depth ≤ 60 → fill ≤ noHop
+leaf-none : (choose : List ℕ → ℕ) → Chooses choose → (size : ℕ) (t first end covering hops : List ℕ) (depth key fill leaves : ℕ)
+    → LeafSlots covering hops fill leaves → depth ≤ 60 → fill ≤ noHop
     → (c : ℕ) → c < 32 → getD end (31 + c) 0 ≤ getD first (31 + c) 0 → getD covering (15 + c / 2) 0 ≤ noHop → getD hops (15 + c / 2) 0 ≤ noHop
-    → bit leaves c ≡ false → slotRewrite choose t first end covering hops depth key fill c ≡ []
-leaf-none choose law t first end covering hops depth key fill leaves marks deep fill-low c lt none covers-low hops-low clear =
+    → bit leaves c ≡ false → slotRewrite choose size t first end covering hops depth key fill c ≡ []
+leaf-none choose law size t first end covering hops depth key fill leaves marks deep fill-low c lt none covers-low hops-low clear =
     let v = leaf-hop (getD covering (15 + c / 2) 0) fill covers-low fill-low in
-    leaf-rewrite choose law t (getD first (31 + c) 0) (getD end (31 + c) 0) (depth + 5) (placeAt (slotSize depth) key 5 c) (getD covering (15 + c / 2) 0) fill (v .0)
+    leaf-rewrite choose law size t (getD first (31 + c) 0) (getD end (31 + c) 0) (depth + 5) (placeAt (slotSize depth) key 5 c) (getD covering (15 + c / 2) 0) fill (v .0)
     (getD hops (15 + c / 2) 0) none (omega arith) (v .1) hops-low (v .2)
     ∙ ap (λ (b : Bool). cond b (record { addr = placeAt (slotSize depth) key 5 c; len = depth + 5; hop = v .0 } ∷ []) [])
     (sym (marks c (v .0) lt (v .2)) ∙ clear)
 
 -- What is found of a node before its slots are walked: the records of its places, what covers them and what they are assigned, its rewrite by its
 -- slots, and the slots that are busy.
-pub record Opened (choose : List ℕ → ℕ) (t : List ℕ) (lo hi depth key inherited fill above : ℕ) (work : List ℕ) (top : ℕ) (first end covering hops : List ℕ)
+pub record Opened (choose : List ℕ → ℕ) (size : ℕ) (t : List ℕ) (lo hi depth key inherited fill above : ℕ) (work : List ℕ) (top : ℕ)
+    (first end covering hops : List ℕ)
     (entries busy : ℕ) : Type 0 where
-  pub node : Node t lo hi depth key
+  pub node : Node size t lo hi depth key
   pub present : ℕ
-  pub gathered : Gathered t lo hi depth key first end present
-  pub covers : (c : ℕ) → c < 32 → getD covering (15 + c / 2) 0 ≡ coveringAt t first end inherited 4 (c / 2)
+  pub gathered : Gathered size t lo hi depth key first end present
+  pub covers : (c : ℕ) → c < 32 → getD covering (15 + c / 2) 0 ≡ coveringAt size t first end inherited 4 (c / 2)
   pub covers-low : (c : ℕ) → c < 32 → getD covering (15 + c / 2) 0 ≤ noHop
   pub hops-low : (c : ℕ) → c < 32 → getD hops (15 + c / 2) 0 ≤ noHop
-  pub rewritten : ortc choose wide (answerIn (run t lo hi) (hopOf inherited) (hopOf fill)) (wide - depth) key (hopOf above)
-      ≡ slots (entryAt entries hops depth key) (slotRewrite choose t first end covering hops depth key fill) 32
-  pub stored : Stored (setWords (answerIn (run t lo hi) (hopOf inherited) (hopOf fill))) (nodesDeep depth) key (run t lo hi) top work
-  pub quiet : Busy entries hops depth key (slotRewrite choose t first end covering hops depth key fill) (run t lo hi) busy
+  pub rewritten : ortc choose wide (answerIn (run size t lo hi) (hopOf inherited) (hopOf fill)) (wide - depth) key (hopOf above)
+      ≡ slots (entryAt entries hops depth key) (slotRewrite choose size t first end covering hops depth key fill) 32
+  pub stored : Stored (setWords (answerIn (run size t lo hi) (hopOf inherited) (hopOf fill))) (nodesDeep depth) key (run size t lo hi) top work
+  pub quiet : Busy entries hops depth key (slotRewrite choose size t first end covering hops depth key fill) (run size t lo hi) busy
 
 -- The blocks of its slots from c on stand in the room from `at` on.
-abbrev AheadIn : List ℕ → ℕ → ℕ → ℕ → ℕ → ℕ → ℕ → ℕ → List ℕ → ℕ → ℕ → Type 0
-AheadIn t lo hi depth key inherited fill top o c at =
-    Ahead everywhere (setWords (answerIn (run t lo hi) (hopOf inherited) (hopOf fill))) (run t lo hi) depth key top o c at
+abbrev AheadIn : ℕ → List ℕ → ℕ → ℕ → ℕ → ℕ → ℕ → ℕ → ℕ → List ℕ → ℕ → ℕ → Type 0
+AheadIn size t lo hi depth key inherited fill top o c at =
+    Ahead everywhere (setWords (answerIn (run size t lo hi) (hopOf inherited) (hopOf fill))) (run size t lo hi) depth key top o c at
 
 -- What the walk over its slots has done before slot c: it has written those before it, and read their blocks.
-pub record Walking (choose : List ℕ → ℕ) (t : List ℕ) (lo hi depth key inherited fill above : ℕ) (work : List ℕ) (top : ℕ) (first end covering hops : List ℕ) (entries : ℕ)
+pub record Walking (choose : List ℕ → ℕ) (size : ℕ) (t : List ℕ) (lo hi depth key inherited fill above : ℕ) (work : List ℕ) (top : ℕ)
+    (first end covering hops : List ℕ) (entries : ℕ)
     (c at n : ℕ) (out₀ out : List ℕ) : Type 0 where
-  pub walked : Walked entries hops depth key (slotRewrite choose t first end covering hops depth key fill) c n out₀ out
-  pub ahead : AheadIn t lo hi depth key inherited fill top work c at
+  pub walked : Walked size entries hops depth key (slotRewrite choose size t first end covering hops depth key fill) c n out₀ out
+  pub ahead : AheadIn size t lo hi depth key inherited fill top work c at
 
-module _ (choose : List ℕ → ℕ) (law : Chooses choose) {t : List ℕ} {lo hi depth key : ℕ} {first end : List ℕ} {present : ℕ} (n : Node t lo hi depth key)
-    (g : Gathered t lo hi depth key first end present) (inherited fill above : ℕ) (inherited-low : inherited ≤ noHop) (fill-low : fill ≤ noHop)
+module _ (choose : List ℕ → ℕ) (law : Chooses choose) {size : ℕ} {t : List ℕ} {lo hi depth key : ℕ} {first end : List ℕ} {present : ℕ}
+    (n : Node size t lo hi depth key)
+    (g : Gathered size t lo hi depth key first end present) (inherited fill above : ℕ) (inherited-low : inherited ≤ noHop) (fill-low : fill ≤ noHop)
     (above-low : above ≤ noHop) where
   -- By what the passes over the node find.
   pub opened : {work : List ℕ} {top : ℕ} {covering hops : List ℕ} {entries : ℕ} (occupied marked leaves : ℕ)
-      → Stored (setWords (answerIn (run t lo hi) (hopOf inherited) (hopOf fill))) (nodesDeep depth) key (run t lo hi) top work
-      → ((l j : ℕ) → l ≤ 4 → j < 2 ^ l → getD covering (position l j) 0 ≡ coveringAt t first end inherited l j)
-      → ((l j : ℕ) → l ≤ 4 → j < 2 ^ l → AssignedHop choose (answerIn (run t lo hi) (hopOf inherited) (hopOf fill)) (slotSize depth) key above hops l j)
+      → Stored (setWords (answerIn (run size t lo hi) (hopOf inherited) (hopOf fill))) (nodesDeep depth) key (run size t lo hi) top work
+      → ((l j : ℕ) → l ≤ 4 → j < 2 ^ l → getD covering (position l j) 0 ≡ coveringAt size t first end inherited l j)
+      → ((l j : ℕ) → l ≤ 4 → j < 2 ^ l → AssignedHop choose (answerIn (run size t lo hi) (hopOf inherited) (hopOf fill)) (slotSize depth) key above hops l j)
       → ((b : ℕ) → b < 31 → bit entries b ≡ hasEntry hops above b)
-      → Occupied t lo hi depth key occupied → HeadSlots entries marked → LeafSlots covering hops fill leaves
-      → Opened choose t lo hi depth key inherited fill above work top first end covering hops entries (bitOr (bitOr occupied marked) leaves)
+      → Occupied size t lo hi depth key occupied → HeadSlots entries marked → LeafSlots covering hops fill leaves
+      → Opened choose size t lo hi depth key inherited fill above work top first end covering hops entries (bitOr (bitOr occupied marked) leaves)
   opened {work} {top} {covering} {hops} {entries} occupied marked leaves s cover assigned bits taken begins own =
       record {
         node = n;
@@ -152,11 +157,11 @@ module _ (choose : List ℕ → ℕ) (law : Chooses choose) {t : List ℕ} {lo h
         covers-low = covers-low;
         hops-low = hops-low;
         rewritten =
-            rw size (rewrite-slots choose f (slotSize depth) key (hopOf above))
+            rw bits-below (rewrite-slots choose f (slotSize depth) key (hopOf above))
             ∙ slots-agree 5 (ownEntry choose f (slotSize depth) key (hopOf above)) (entryAt entries hops depth key)
             (λ l j lt small. sym (entries-are choose law f depth key above entries hops (shown .0) (n .at .deep) above-low (shown .1) assigned bits l j (omega arith) small))
             (λ c. ortc choose wide f (slotSize depth) (placeAt (slotSize depth) key 5 c) (assignedAt choose f (slotSize depth) key (hopOf above) 4 (c / 2)))
-            (slotRewrite choose t first end covering hops depth key fill) slot 32 (omega arith);
+            (slotRewrite choose size t first end covering hops depth key fill) slot 32 (omega arith);
         stored = s;
         quiet = record {
           rest = λ c lt clear.
@@ -164,22 +169,22 @@ module _ (choose : List ℕ → ℕ) (law : Chooses choose) {t : List ℕ} {lo h
               let q = neither occupied marked c (p .0) in
               let none = slot-vacant g occupied taken c lt (q .0) in (
                 no-heads entries marked begins hops depth key c lt (q .1),
-                leaf-none choose law t first end covering hops depth key fill leaves own (n .at .deep) fill-low c lt none (covers-low c lt) (hops-low c lt) (p .1),
+                leaf-none choose law size t first end covering hops depth key fill leaves own (n .at .deep) fill-low c lt none (covers-low c lt) (hops-low c lt) (p .1),
                 no-child g c lt none,
               );
         };
       }
     where
       f : ℕ → Answer
-      f = answerIn (run t lo hi) (hopOf inherited) (hopOf fill)
+      f = answerIn (run size t lo hi) (hopOf inherited) (hopOf fill)
 
-      size : wide - depth ≡ slotSize depth + 5
-      size = omega (arith, n .at .deep)
+      bits-below : wide - depth ≡ slotSize depth + 5
+      bits-below = omega (arith, n .at .deep)
 
       shown : (xs : List ℕ) × ShowsNode f (slotSize depth) key xs × Begins (packed xs) top work
       shown = sets-stored n s
 
-      covers : (c : ℕ) → c < 32 → getD covering (15 + c / 2) 0 ≡ coveringAt t first end inherited 4 (c / 2)
+      covers : (c : ℕ) → c < 32 → getD covering (15 + c / 2) 0 ≡ coveringAt size t first end inherited 4 (c / 2)
       covers c lt = cover 4 (c / 2) (omega arith) (omega arith)
 
       covers-low : (c : ℕ) → c < 32 → getD covering (15 + c / 2) 0 ≤ noHop
@@ -190,49 +195,50 @@ module _ (choose : List ℕ → ℕ) (law : Chooses choose) {t : List ℕ} {lo h
 
       slot : (c : ℕ) → c < 32
           → ortc choose wide f (slotSize depth) (placeAt (slotSize depth) key 5 c) (assignedAt choose f (slotSize depth) key (hopOf above) 4 (c / 2))
-          ≡ slotRewrite choose t first end covering hops depth key fill c
+          ≡ slotRewrite choose size t first end covering hops depth key fill c
       slot c lt =
           let e : wide - (depth + 5) ≡ slotSize depth = omega (arith, n .at .deep) in
           rw (assigned 4 (c / 2) (omega arith) (omega arith) .1, e)
-          (ortc-agree f (answerIn (runAt t first end (31 + c)) (hopOf (getD covering (15 + c / 2) 0)) (hopOf fill)) choose wide
+          (ortc-agree f (answerIn (runAt size t first end (31 + c)) (hopOf (getD covering (15 + c / 2) 0)) (hopOf fill)) choose wide
           (slotSize depth) (placeAt (slotSize depth) key 5 c) (assignedAt choose f (slotSize depth) key (hopOf above) 4 (c / 2))
           (slot-alike n g inherited fill c lt (covers c lt)))
 
 -- ---- The loop over the slots.
 
-module _ {choose : List ℕ → ℕ} {t : List ℕ} {lo hi depth key inherited fill above : ℕ} {work : List ℕ} {top : ℕ} {first end covering hops : List ℕ} {entries busy : ℕ}
-    (q : Opened choose t lo hi depth key inherited fill above work top first end covering hops entries busy) where
+module _ {choose : List ℕ → ℕ} {size : ℕ} {t : List ℕ} {lo hi depth key inherited fill above : ℕ} {work : List ℕ} {top : ℕ}
+    {first end covering hops : List ℕ} {entries busy : ℕ}
+    (q : Opened choose size t lo hi depth key inherited fill above work top first end covering hops entries busy) where
   -- The room is read up to the blocks of the slots.
   pub walking-start : (at : ℕ) (out : List ℕ) → ((xs : List ℕ) → Begins (packed xs) top work → at ≡ top + length (packed xs))
-      → Walking choose t lo hi depth key inherited fill above work top first end covering hops entries 0 at 0 out out
+      → Walking choose size t lo hi depth key inherited fill above work top first end covering hops entries 0 at 0 out out
   walking-start at out tops =
       record {
-        walked = walked-none out;
+        walked = walked-none (q .node .sized) out;
         ahead = ahead-start (q .node) (λ u w s. rw (w .2) (tops (w .0) (rw (w .2) at s)));
       }
 
   module _ (c : ℕ) (lt : c < 32) where
     -- The block of a slot with records stands in the room, where the walk has come to the slot.
-    pub child-stored : {at : ℕ} → AheadIn t lo hi depth key inherited fill top work c at
+    pub child-stored : {at : ℕ} → AheadIn size t lo hi depth key inherited fill top work c at
         → getD first (31 + c) 0 < getD end (31 + c) 0
-        → Stored (setWords (answerIn (runAt t first end (31 + c)) (hopOf (getD covering (15 + c / 2) 0)) (hopOf fill))) (nodesDeep (depth + 5))
-        (placeAt (slotSize depth) key 5 c) (runAt t first end (31 + c)) at work
+        → Stored (setWords (answerIn (runAt size t first end (31 + c)) (hopOf (getD covering (15 + c / 2) 0)) (hopOf fill))) (nodesDeep (depth + 5))
+        (placeAt (slotSize depth) key 5 c) (runAt size t first end (31 + c)) at work
     child-stored h has =
         let a = ahead-stored h lt (q .stored) in
         record { words = a .0; block = slot-block (q .node) (q .gathered) inherited fill c lt (q .covers c lt) has (a .0) .0 (a .1); begins = a .2 }
 
     -- The walk of the slot has read its block, if it has one.
-    pub ahead-child : {at at′ : ℕ} → AheadIn t lo hi depth key inherited fill top work c at
+    pub ahead-child : {at at′ : ℕ} → AheadIn size t lo hi depth key inherited fill top work c at
         → (getD end (31 + c) 0 ≤ getD first (31 + c) 0 → at′ ≡ at)
         → (getD first (31 + c) 0 < getD end (31 + c) 0 → (ws : List ℕ)
-        → Block (setWords (answerIn (runAt t first end (31 + c)) (hopOf (getD covering (15 + c / 2) 0)) (hopOf fill))) (nodesDeep (depth + 5))
-        (placeAt (slotSize depth) key 5 c) (runAt t first end (31 + c)) ws
+        → Block (setWords (answerIn (runAt size t first end (31 + c)) (hopOf (getD covering (15 + c / 2) 0)) (hopOf fill))) (nodesDeep (depth + 5))
+        (placeAt (slotSize depth) key 5 c) (runAt size t first end (31 + c)) ws
         → Begins ws at work → at′ ≡ at + length ws)
-        → AheadIn t lo hi depth key inherited fill top work (c + 1) at′
+        → AheadIn size t lo hi depth key inherited fill top work (c + 1) at′
     ahead-child {at} {at′} h skipped read = go (decLt (getD first (31 + c) 0) (getD end (31 + c) 0))
       where
         go : Dec (getD first (31 + c) 0 < getD end (31 + c) 0)
-            → AheadIn t lo hi depth key inherited fill top work (c + 1) at′
+            → AheadIn size t lo hi depth key inherited fill top work (c + 1) at′
         go (yes has) =
             ahead-next h lt (λ u b. read has u (slot-block (q .node) (q .gathered) inherited fill c lt (q .covers c lt) has u .0 b))
         go (no none) =
@@ -241,26 +247,27 @@ module _ {choose : List ℕ → ℕ} {t : List ℕ} {lo hi depth key inherited f
 
   -- The walk goes on at the next slot that is busy.
   pub walking-on : {k r at n : ℕ} {out₀ out : List ℕ} → NextBit busy k r
-      → Walking choose t lo hi depth key inherited fill above work top first end covering hops entries k at n out₀ out
-      → Walking choose t lo hi depth key inherited fill above work top first end covering hops entries r at n out₀ out
+      → Walking choose size t lo hi depth key inherited fill above work top first end covering hops entries k at n out₀ out
+      → Walking choose size t lo hi depth key inherited fill above work top first end covering hops entries r at n out₀ out
   walking-on b h = record { walked = walked-next (q .quiet) b (h .walked); ahead = ahead-past (q .quiet) b (h .ahead) }
 
   -- The node's rewrite has at most one entry more than the node has records.
-  pub opened-most : Chooses choose → length (slots (entryAt entries hops depth key) (slotRewrite choose t first end covering hops depth key fill) 32) ≤ (hi - lo) + 1
+  pub opened-most : Chooses choose
+      → length (slots (entryAt entries hops depth key) (slotRewrite choose size t first end covering hops depth key fill) 32) ≤ (hi - lo) + 1
   opened-most law =
-      let size : wide - depth ≡ slotSize depth + 5 = omega (arith, q .node .at .deep) in
+      let bits-below : wide - depth ≡ slotSize depth + 5 = omega (arith, q .node .at .deep) in
       omega (
         arith,
-        rw size at (ap length (q .rewritten)),
+        rw bits-below at (ap length (q .rewritten)),
         ortc-few choose law (node-run (q .node)) (hopOf inherited) (hopOf fill) (hopOf above),
-        run-length t lo hi,
+        run-length size t lo hi,
       )
 
   -- After the last slot it is written, and the node's block is read.
   pub walking-end : {c at n : ℕ} {out₀ out : List ℕ}
-      → Walking choose t lo hi depth key inherited fill above work top first end covering hops entries c at n out₀ out → 32 ≤ c
-      → ((ws : List ℕ) → Block (setWords (answerIn (run t lo hi) (hopOf inherited) (hopOf fill))) (nodesDeep depth) key (run t lo hi) ws → Begins ws top work → at ≡ top + length ws)
-      × Wrote (ortc choose wide (answerIn (run t lo hi) (hopOf inherited) (hopOf fill)) (wide - depth) key (hopOf above)) 0 n out₀ out
+      → Walking choose size t lo hi depth key inherited fill above work top first end covering hops entries c at n out₀ out → 32 ≤ c
+      → ((ws : List ℕ) → Block (setWords (answerIn (run size t lo hi) (hopOf inherited) (hopOf fill))) (nodesDeep depth) key (run size t lo hi) ws → Begins ws top work → at ≡ top + length ws)
+      × Wrote size (ortc choose wide (answerIn (run size t lo hi) (hopOf inherited) (hopOf fill)) (wide - depth) key (hopOf above)) 0 n out₀ out
   walking-end {c} h all =
       let z : c ≡ 32 = omega (arith, h .walked .within) in
       (ahead-end (h .ahead) z, rw (q .rewritten) (walked-all (h .walked) all))

@@ -46,15 +46,15 @@ pub slot-agree : (m a : ℕ) {t : List Route} → Run wide (m + 5) a t → (g d 
 slot-agree m a n g d c lt x i = ap (λ (v : Answer). orElse v d) (slot-answer wide m a n g c x lt i)
 
 -- Slot c, as the pass over the node found its records, where `cov` covers the position above it:
-module _ {t : List ℕ} {lo hi depth key : ℕ} {first end : List ℕ} {present : ℕ} (n : Node t lo hi depth key)
-    (g : Gathered t lo hi depth key first end present) (inherited fill c : ℕ) {cov : ℕ} (small : c < 32)
-    (is : cov ≡ coveringAt t first end inherited 4 (c / 2)) where
+module _ {size : ℕ} {t : List ℕ} {lo hi depth key : ℕ} {first end : List ℕ} {present : ℕ} (n : Node size t lo hi depth key)
+    (g : Gathered size t lo hi depth key first end present) (inherited fill c : ℕ) {cov : ℕ} (small : c < 32)
+    (is : cov ≡ coveringAt size t first end inherited 4 (c / 2)) where
   -- What the node answers, and what the slot does.
   abbrev inNode : ℕ → Answer
-  inNode = answerIn (run t lo hi) (hopOf inherited) (hopOf fill)
+  inNode = answerIn (run size t lo hi) (hopOf inherited) (hopOf fill)
 
   abbrev inSlot : ℕ → Answer
-  inSlot = answerIn (runAt t first end (31 + c)) (hopOf cov) (hopOf fill)
+  inSlot = answerIn (runAt size t first end (31 + c)) (hopOf cov) (hopOf fill)
 
   -- They answer the addresses of the slot alike.
   pub slot-alike : Agree inNode inSlot (slotSize depth) (placeAt (slotSize depth) key 5 c)
@@ -64,15 +64,15 @@ module _ {t : List ℕ} {lo hi depth key : ℕ} {first end : List ℕ} {present 
 
   -- A slot with records has routes inside.
   pub slot-some-routes : getD first (31 + c) 0 < getD end (31 + c) 0
-      → 0 < length (inside wide (slotSize depth) (placeAt (slotSize depth) key 5 c) (run t lo hi))
+      → 0 < length (inside wide (slotSize depth) (placeAt (slotSize depth) key 5 c) (run size t lo hi))
   slot-some-routes some =
       subst (λ (rs : List Route). 0 < length rs) (slot-records g c small)
-      (omega (arith, run-length t (getD first (31 + c) 0) (getD end (31 + c) 0)))
+      (omega (arith, run-length size t (getD first (31 + c) 0) (getD end (31 + c) 0)))
 
   -- Its block in the node's is the block of its own node.
   pub slot-block : getD first (31 + c) 0 < getD end (31 + c) 0 → (u : List ℕ)
-      → BlockAt (Block (setWords inNode) (nodesDeep (depth + 5))) (slotSize depth) key (run t lo hi) c u
-      ↔ Block (setWords inSlot) (nodesDeep (depth + 5)) (placeAt (slotSize depth) key 5 c) (runAt t first end (31 + c)) u
+      → BlockAt (Block (setWords inNode) (nodesDeep (depth + 5))) (slotSize depth) key (run size t lo hi) c u
+      ↔ Block (setWords inSlot) (nodesDeep (depth + 5)) (placeAt (slotSize depth) key 5 c) (runAt size t first end (31 + c)) u
   slot-block some u = (
     λ b. sets-block (nodesDeep (depth + 5)) place slotRoutes u whole alike (rw routes (node .0 b)),
     λ b. node .1 (rw routes at (sets-block (nodesDeep (depth + 5)) place slotRoutes u whole (λ x i. sym (alike x i)) b)),
@@ -82,21 +82,21 @@ module _ {t : List ℕ} {lo hi depth key : ℕ} {first end : List ℕ} {present 
       place = placeAt (slotSize depth) key 5 c
 
       slotRoutes : List Route
-      slotRoutes = runAt t first end (31 + c)
+      slotRoutes = runAt size t first end (31 + c)
 
-      routes : slotRoutes ≡ inside wide (slotSize depth) place (run t lo hi)
+      routes : slotRoutes ≡ inside wide (slotSize depth) place (run size t lo hi)
       routes = slot-records g c small
 
-      size : 5 * nodesDeep (depth + 5) ≡ slotSize depth
-      size = deep-step depth (n .level) (n .fives) (n .at .deep) .1
+      bits-below : 5 * nodesDeep (depth + 5) ≡ slotSize depth
+      bits-below = deep-step depth (n .level) (n .fives) (n .at .deep) .1
 
       whole : inside wide (5 * nodesDeep (depth + 5)) place slotRoutes ≡ slotRoutes
-      whole = rw (size, routes) (inside-nested wide (nested-self (slotSize depth) place) (run t lo hi))
+      whole = rw (bits-below, routes) (inside-nested wide (nested-self (slotSize depth) place) (run size t lo hi))
 
       alike : Agree inNode inSlot (5 * nodesDeep (depth + 5)) place
-      alike = rw size slot-alike
+      alike = rw bits-below slot-alike
 
-      node : BlockAt (Block (setWords inNode) (nodesDeep (depth + 5))) (slotSize depth) key (run t lo hi) c u
-          ↔ Block (setWords inNode) (nodesDeep (depth + 5)) place (inside wide (slotSize depth) place (run t lo hi)) u
+      node : BlockAt (Block (setWords inNode) (nodesDeep (depth + 5))) (slotSize depth) key (run size t lo hi) c u
+          ↔ Block (setWords inNode) (nodesDeep (depth + 5)) place (inside wide (slotSize depth) place (run size t lo hi)) u
       node =
-          slot-some (Block (setWords inNode) (nodesDeep (depth + 5))) place (inside wide (slotSize depth) place (run t lo hi)) u (slot-some-routes some)
+          slot-some (Block (setWords inNode) (nodesDeep (depth + 5))) place (inside wide (slotSize depth) place (run size t lo hi)) u (slot-some-routes some)

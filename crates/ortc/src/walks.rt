@@ -12,7 +12,7 @@ use gather::slot_key;
 use hops::leaf_value;
 use nodes::emit::emit_slot;
 use nodes::emit::head_slots;
-use records::past;
+use records::sized::past_sized;
 use words::bits::last_bit;
 use words::bits::next_bit;
 ghost use mathlib.Core.Path.{_≡_};
@@ -21,6 +21,7 @@ ghost use Prim.Native.Nat.{ℕ, _+_, _-_, _*_, _/_, _≤_, _<_};
 ghost use lib.ListN.{length};
 ghost use Rattle.theory.specs.Results.{sets, ortc};
 ghost use Rattle.theory.specs.Ranks.{lowest};
+ghost use Rattle.records.specs.Sized.{IsSize};
 ghost use Rattle.positions.specs.Runs.{noHop, hopOf};
 ghost use Rattle.hops.specs.Sets.{ShowsSet};
 ghost use Rattle.nodes.specs.Node.{wide, run, Node};
@@ -38,6 +39,7 @@ pub struct Collected {
 // `fill` is the hop of what has no route; `noHop` for none.
 pub fn collect_sets(
     table: &[u8],
+    size: usize,
     lo: u16,
     hi: u16,
     depth: usize,
@@ -47,16 +49,16 @@ pub fn collect_sets(
     work: &mut [u32],
     top: usize,
 ) -> Collected
-    requires { ⌜ Node (now table) lo hi depth (key * 2) ⌝ }
+    requires { ⌜ Node size (now table) lo hi depth (key * 2) ⌝ }
     requires { ⌜ (inherited ≤ noHop) × (fill ≤ noHop) ⌝ }
-    requires { ⌜ (160 * nodesBelow (nodesDeep depth) (key * 2) (run (now table) lo hi) ≤ top) × (top ≤ length (now work)) ⌝ }
-    ensures { λ r. ⌜ ShowsSet (r .set) (sets (answerIn (run (now (table .entry)) lo hi) (hopOf inherited) (hopOf fill)) (wide - depth) (key * 2)) ⌝ }
-    ensures { λ r. ⌜ Laid (setWords (answerIn (run (now (table .entry)) lo hi) (hopOf inherited) (hopOf fill))) (nodesDeep depth) (key * 2) (run (now (table .entry)) lo hi) top (r .top) (now (work .entry)) (now (work .exit)) ⌝ }
+    requires { ⌜ (160 * nodesBelow (nodesDeep depth) (key * 2) (run size (now table) lo hi) ≤ top) × (top ≤ length (now work)) ⌝ }
+    ensures { λ r. ⌜ ShowsSet (r .set) (sets (answerIn (run size (now (table .entry)) lo hi) (hopOf inherited) (hopOf fill)) (wide - depth) (key * 2)) ⌝ }
+    ensures { λ r. ⌜ Laid (setWords (answerIn (run size (now (table .entry)) lo hi) (hopOf inherited) (hopOf fill))) (nodesDeep depth) (key * 2) (run size (now (table .entry)) lo hi) top (r .top) (now (work .entry)) (now (work .exit)) ⌝ }
 {
     let mut first = [0u16; 63];
     let mut end = [0u16; 63];
-    let g = gather_run(table, lo, hi, depth, key, &mut first, &mut end);
-    let covering = covering_hops(table, g.present, &first, &end, inherited);
+    let g = gather_run(table, size, lo, hi, depth, key, &mut first, &mut end);
+    let covering = covering_hops(table, size, g.present, &first, &end, inherited);
     let mut slots = leaf_sets(&covering, fill);
     let occupied = g.occupied;
     let mut at = top;
@@ -67,6 +69,7 @@ pub fn collect_sets(
         let cover = covering[15 + c / 2];
         let child = collect_sets(
             table,
+            size,
             first[31 + c],
             end[31 + c],
             depth + 5,
@@ -98,6 +101,7 @@ pub struct Walked {
 // the node. It goes through the slots that have a record, at which an entry begins or that have one of their own.
 pub fn rewrite(
     table: &[u8],
+    size: usize,
     lo: u16,
     hi: u16,
     depth: usize,
@@ -110,16 +114,16 @@ pub fn rewrite(
     top: usize,
     out: &mut [u8],
 ) -> Walked
-    requires { ⌜ Node (now table) lo hi depth (key * 2) ⌝ }
+    requires { ⌜ Node size (now table) lo hi depth (key * 2) ⌝ }
     requires { ⌜ (inherited ≤ noHop) × ((fill ≤ noHop) × (above ≤ noHop)) ⌝ }
-    requires { ⌜ Stored (setWords (answerIn (run (now table) lo hi) (hopOf inherited) (hopOf fill))) (nodesDeep depth) (key * 2) (run (now table) lo hi) top (now work) ⌝ }
-    ensures { λ r. ⌜ ((ws : List ℕ) → Block (setWords (answerIn (run (now (table .entry)) lo hi) (hopOf inherited) (hopOf fill))) (nodesDeep depth) (key * 2) (run (now (table .entry)) lo hi) ws → Begins ws top (now (work .entry)) → r .top ≡ top + length ws) ⌝ }
-    ensures { λ r. ⌜ Wrote (ortc (lowest (now (ranks .entry))) wide (answerIn (run (now (table .entry)) lo hi) (hopOf inherited) (hopOf fill)) (wide - depth) (key * 2) (hopOf above)) 0 (r .count) (now (out .entry)) (now (out .exit)) ⌝ }
+    requires { ⌜ Stored (setWords (answerIn (run size (now table) lo hi) (hopOf inherited) (hopOf fill))) (nodesDeep depth) (key * 2) (run size (now table) lo hi) top (now work) ⌝ }
+    ensures { λ r. ⌜ ((ws : List ℕ) → Block (setWords (answerIn (run size (now (table .entry)) lo hi) (hopOf inherited) (hopOf fill))) (nodesDeep depth) (key * 2) (run size (now (table .entry)) lo hi) ws → Begins ws top (now (work .entry)) → r .top ≡ top + length ws) ⌝ }
+    ensures { λ r. ⌜ Wrote size (ortc (lowest (now (ranks .entry))) wide (answerIn (run size (now (table .entry)) lo hi) (hopOf inherited) (hopOf fill)) (wide - depth) (key * 2) (hopOf above)) 0 (r .count) (now (out .entry)) (now (out .exit)) ⌝ }
 {
     let mut first = [0u16; 63];
     let mut end = [0u16; 63];
-    let g = gather_run(table, lo, hi, depth, key, &mut first, &mut end);
-    let covering = covering_hops(table, g.present, &first, &end, inherited);
+    let g = gather_run(table, size, lo, hi, depth, key, &mut first, &mut end);
+    let covering = covering_hops(table, size, g.present, &first, &end, inherited);
     let node = assign_nodes(work, top, above, ranks);
     let hops = node.hops;
     let entries = node.entries;
@@ -129,11 +133,12 @@ pub fn rewrite(
     let mut c = next_bit(busy, 0);
     while c < 32 {
         let slot = slot_key(key, depth, c);
-        let here = past(n, out.len());
-        n += emit_slot(entries, &hops, c, slot, depth, &mut out[here..]);
-        let here = past(n, out.len());
+        let here = past_sized(n, size, out.len());
+        n += emit_slot(entries, &hops, c, slot, depth, size, &mut out[here..]);
+        let here = past_sized(n, size, out.len());
         let child = rewrite_child(
             table,
+            size,
             first[31 + c],
             end[31 + c],
             depth + 5,
@@ -157,6 +162,7 @@ pub fn rewrite(
 // whose half is `key`: at twice that, where it has records.
 fn rewrite_child(
     table: &[u8],
+    size: usize,
     lo: u16,
     hi: u16,
     depth: usize,
@@ -169,17 +175,19 @@ fn rewrite_child(
     top: usize,
     out: &mut [u8],
 ) -> Walked
-    requires { ⌜ (lo < hi → Node (now table) lo hi depth (key * 2)) ⌝ }
+    requires { ⌜ (lo < hi → Node size (now table) lo hi depth (key * 2)) ⌝ }
     requires { ⌜ depth ≤ wide ⌝ }
     requires { ⌜ (covering ≤ noHop) × ((fill ≤ noHop) × (above ≤ noHop)) ⌝ }
-    requires { ⌜ (lo < hi → Stored (setWords (answerIn (run (now table) lo hi) (hopOf covering) (hopOf fill))) (nodesDeep depth) (key * 2) (run (now table) lo hi) top (now work)) ⌝ }
+    requires { ⌜ (lo < hi → Stored (setWords (answerIn (run size (now table) lo hi) (hopOf covering) (hopOf fill))) (nodesDeep depth) (key * 2) (run size (now table) lo hi) top (now work)) ⌝ }
+    requires { ⌜ IsSize size ⌝ }
     ensures { λ r. ⌜ (hi ≤ lo → r .top ≡ top) ⌝ }
-    ensures { λ r. ⌜ (lo < hi → (ws : List ℕ) → Block (setWords (answerIn (run (now (table .entry)) lo hi) (hopOf covering) (hopOf fill))) (nodesDeep depth) (key * 2) (run (now (table .entry)) lo hi) ws → Begins ws top (now (work .entry)) → r .top ≡ top + length ws) ⌝ }
-    ensures { λ r. ⌜ ((a : ℕ) → a / 2 ≡ key → (lo < hi → a ≡ key * 2) → Wrote (ortc (lowest (now (ranks .entry))) wide (answerIn (run (now (table .entry)) lo hi) (hopOf covering) (hopOf fill)) (wide - depth) a (hopOf above)) 0 (r .count) (now (out .entry)) (now (out .exit))) ⌝ }
+    ensures { λ r. ⌜ (lo < hi → (ws : List ℕ) → Block (setWords (answerIn (run size (now (table .entry)) lo hi) (hopOf covering) (hopOf fill))) (nodesDeep depth) (key * 2) (run size (now (table .entry)) lo hi) ws → Begins ws top (now (work .entry)) → r .top ≡ top + length ws) ⌝ }
+    ensures { λ r. ⌜ ((a : ℕ) → a / 2 ≡ key → (lo < hi → a ≡ key * 2) → Wrote size (ortc (lowest (now (ranks .entry))) wide (answerIn (run size (now (table .entry)) lo hi) (hopOf covering) (hopOf fill)) (wide - depth) a (hopOf above)) 0 (r .count) (now (out .entry)) (now (out .exit))) ⌝ }
 {
     if lo < hi {
         return rewrite(
             table,
+            size,
             lo,
             hi,
             depth,
@@ -193,6 +201,6 @@ fn rewrite_child(
             out,
         );
     }
-    let count = emit(out, key, depth, leaf_value(covering, fill), above);
+    let count = emit(size, out, key, depth, leaf_value(covering, fill), above);
     Walked { count, top }
 }

@@ -11,9 +11,10 @@ use borrow.Author.Tests.{ne-eqb, le-leb, lt-leb}
 use Rattle.theory.specs.Ranks.{isRanking}
 use Rattle.theory.specs.Routes.{Route}
 use Rattle.refusals.specs.Rules.{Rule, rule, Reply, refuses, judge}
-use Rattle.records.specs.Wire.{records, routes}
+use Rattle.records.specs.Sized.{widthIn, recordsIn, routesIn}
 use Rattle.records.specs.declared.Form.{Form}
-use Rattle.table.specs.TableRules.{tableRules}
+use Rattle.records.specs.Forms.{sizeOf}
+use Rattle.table.specs.TableRules.{formRules}
 use Rattle.nodecount.specs.Nodes.{nodes}
 use Rattle.calls.specs.declared.Rewritten.{Rewritten}
 use Rattle.calls.specs.declared.Rewritten.the-variants.{Refused}
@@ -68,15 +69,15 @@ same-modes (suc (suc (suc (suc (suc (suc n)))))) three =
 
 -- ---- A table t in a mode that is not 3, rewritten by each engine: by the first with a room of so many words, to r and o′; by the second to q and p′.
 module _ (form : Form) (t : List ℕ) (mode default : ℕ) (ranks o : List ℕ) (words : ℕ) (r : Rewritten) (o′ w′ : List ℕ) (first : Rewrites form t mode default ranks o words r o′ w′)
-    (q : Rewritten) (p′ : List ℕ) (second : RewritesBy (plainRules form t mode default ranks (length o)) t mode default ranks o q p′)
+    (q : Rewritten) (p′ : List ℕ) (second : RewritesBy (sizeOf form) (plainRules form t mode default ranks (length o)) t mode default ranks o q p′)
     (three : mode ≡ 3 → ⊥) where
   abbrev reply : Reply (List Route)
   reply = rewriteReply form t mode default ranks (length o) words
 
   abbrev plain : Reply (List Route)
-  plain = replyBy (plainRules form t mode default ranks (length o)) t mode default ranks
+  plain = replyBy (sizeOf form) (plainRules form t mode default ranks (length o)) t mode default ranks
 
-  replies : (reply ≡ plain) ⊎ ((reply ≡ refuses 10 0) × (plain ≡ lastReply t mode default ranks (length o)))
+  replies : (reply ≡ plain) ⊎ ((reply ≡ refuses 10 0) × (plain ≡ lastReply (sizeOf form) t mode default ranks (length o)))
   unfolding replyBy rewriteRules plainRules
   replies =
       rw (sym (same-modes mode three))
@@ -85,29 +86,29 @@ module _ (form : Form) (t : List ℕ) (mode default : ℕ) (ranks o : List ℕ) 
       ∷ rule 16 0 (not (eqb mode 2))
       ∷ rule 2 0 (not (eqb mode 5) || leb default 63)
       ∷ rule 15 0 (not (leb 4 mode) || isRanking 64 ranks)
-      ∷ tableRules form (takesSet mode) t)
-      (rule 10 0 (leb (160 * nodes 32 (routes t)) words))
-      (rule 11 0 (leb (8 * length (resultOf t mode default ranks)) (length o)) ∷ [])
-      (resultOf t mode default ranks))
+      ∷ formRules form (takesSet mode) t)
+      (rule 10 0 (leb (160 * nodes (widthIn (sizeOf form)) (routesIn (sizeOf form) t)) words))
+      (rule 11 0 (leb (sizeOf form * length (resultOf (sizeOf form) t mode default ranks)) (length o)) ∷ [])
+      (resultOf (sizeOf form) t mode default ranks))
 
   -- They give the same answer and the same output; or the first refuses by number 10, and the second ends as the output's room decides: with the result, or
   -- with number 11 where that does not fit.
-  pub engines-compared : ((q ≡ r) × (p′ ≡ o′)) ⊎ ((r ≡ Refused 10 0) × Finished t mode default ranks o q p′)
+  pub engines-compared : ((q ≡ r) × (p′ ≡ o′)) ⊎ ((r ≡ Refused 10 0) × Finished (sizeOf form) t mode default ranks o q p′)
   engines-compared = go replies
     where
-      go : (reply ≡ plain) ⊎ ((reply ≡ refuses 10 0) × (plain ≡ lastReply t mode default ranks (length o)))
-          → ((q ≡ r) × (p′ ≡ o′)) ⊎ ((r ≡ Refused 10 0) × Finished t mode default ranks o q p′)
+      go : (reply ≡ plain) ⊎ ((reply ≡ refuses 10 0) × (plain ≡ lastReply (sizeOf form) t mode default ranks (length o)))
+          → ((q ≡ r) × (p′ ≡ o′)) ⊎ ((r ≡ Refused 10 0) × Finished (sizeOf form) t mode default ranks o q p′)
       go (inl e) =
           inl (
-            rewritten-same q r (second .answer ∙ ap (writtenOf (records t)) (sym e) ∙ sym (first .inner .answer)),
-            second .output ∙ ap (outputOf o) (sym e) ∙ sym (first .inner .output),
+            rewritten-same q r (second .answer ∙ ap (writtenOf (recordsIn (sizeOf form) t)) (sym e) ∙ sym (first .inner .answer)),
+            second .output ∙ ap (outputOf (sizeOf form) o) (sym e) ∙ sym (first .inner .output),
           )
       go (inr e) =
           inr (
-            rewritten-same r (Refused 10 0) (first .inner .answer ∙ ap (writtenOf (records t)) (e .0)),
+            rewritten-same r (Refused 10 0) (first .inner .answer ∙ ap (writtenOf (recordsIn (sizeOf form) t)) (e .0)),
             record {
-              answer = second .answer ∙ ap (writtenOf (records t)) (e .1);
-              output = second .output ∙ ap (outputOf o) (e .1);
+              answer = second .answer ∙ ap (writtenOf (recordsIn (sizeOf form) t)) (e .1);
+              output = second .output ∙ ap (outputOf (sizeOf form) o) (e .1);
             },
           )
 
@@ -115,14 +116,14 @@ module _ (form : Form) (t : List ℕ) (mode default : ℕ) (ranks o : List ℕ) 
   pub engines-agree : ((index : ℕ) → r ≡ Refused 10 index → ⊥) → (q ≡ r) × (p′ ≡ o′)
   engines-agree other = go engines-compared
     where
-      go : ((q ≡ r) × (p′ ≡ o′)) ⊎ ((r ≡ Refused 10 0) × Finished t mode default ranks o q p′) → (q ≡ r) × (p′ ≡ o′)
+      go : ((q ≡ r) × (p′ ≡ o′)) ⊎ ((r ≡ Refused 10 0) × Finished (sizeOf form) t mode default ranks o q p′) → (q ≡ r) × (p′ ≡ o′)
       go (inl same) = same
       go (inr (ten, more)) = absurd (other 0 ten)
 
   -- And wherever it does the second ends as the output's room decides.
-  pub engines-past-ten : (index : ℕ) → r ≡ Refused 10 index → Finished t mode default ranks o q p′
+  pub engines-past-ten : (index : ℕ) → r ≡ Refused 10 index → Finished (sizeOf form) t mode default ranks o q p′
   engines-past-ten index ten = go engines-compared
     where
-      go : ((q ≡ r) × (p′ ≡ o′)) ⊎ ((r ≡ Refused 10 0) × Finished t mode default ranks o q p′) → Finished t mode default ranks o q p′
+      go : ((q ≡ r) × (p′ ≡ o′)) ⊎ ((r ≡ Refused 10 0) × Finished (sizeOf form) t mode default ranks o q p′) → Finished (sizeOf form) t mode default ranks o q p′
       go (inl same) = absurd (plain-never-ten form t mode default ranks o q p′ second index (same .0 ∙ ten))
       go (inr (e, more)) = more

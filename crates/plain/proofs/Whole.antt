@@ -1,10 +1,11 @@
 -- The entries of the position of all addresses are the result of each mode that the engine has, and what is written of them is the end of a rewrite. Assumes
 -- nothing.
-use Prim.Native.Nat.{ℕ, _-_, _/_, _≤_, _<_}
-use mathlib.Core.Path.{_≡_, refl, sym, ap, subst, _∙_}
+use Prim.Native.Nat.{ℕ, _-_, _*_, _/_, _≤_, _<_}
+use mathlib.Core.Path.{_≡_, refl, sym, ap, ap₂, _∙_}
 use mathlib.Core.Bool.{Bool, true, false, true≢false, _||_}
 use mathlib.Core.List.{List}
 use mathlib.Core.Logic.{inl, inr}
+use native.Mathlib.Nat.{sub-zero}
 use native.Mathlib.Omega.{arith}
 use lib.Dec.{eqb}
 use lib.IntN.{ℤ, pos, _-ℤ_}
@@ -12,27 +13,28 @@ use lib.ListN.{length}
 use borrow.Author.Tests.{ne-eqb, eqb-true, lt-ltb}
 use Rattle.theory.specs.Results.{result, aggregateMapDrop, aggregateMapFill}
 use Rattle.theory.specs.Ranks.{lowest}
-use Rattle.theory.specs.Routes.{none, answer, filled, lookup, All, Table}
+use Rattle.theory.specs.Routes.{Route, none, answer, filled, lookup, All, Table}
 use Rattle.theory.proofs.Agree.{ortc-agree}
 use Rattle.theory.proofs.Ranks.{lowest-chooses}
 use Rattle.theory.proofs.Computed.{under-default}
 use Rattle.theory.proofs.Lists.{all-member}
 use Rattle.theory.proofs.Maximal.{set-is-drop-bare}
-use Rattle.records.specs.Wire.{records, routes, routeAt}
-use Rattle.table.specs.TableRules.{topHop}
-use Rattle.table.proofs.Tables.{set-hops}
+use Rattle.words.specs.Keys.{keyOf}
+use Rattle.records.specs.Sized.{IsSize, widthIn, recordsIn, routeIn, routesIn}
+use Rattle.table.specs.SizedRules.{topHop}
+use Rattle.table.proofs.SizedTables.{set-hops}
 use Rattle.positions.specs.Runs.{noHop}
-use Rattle.runs.specs.Runs.{run, RunAt}
+use Rattle.runs.specs.Runs.{run}
 use Rattle.runs.proofs.Halves.{whole-run}
 use Rattle.theory.proofs.Numbered.{member-numbered}
 use Rattle.runs.proofs.Records.{run-whole, run-numbered}
 use Rattle.calls.specs.declared.Rewritten.the-variants.{Records}
 use Rattle.calls.specs.Ending.{Fills, Finished}
 use Rattle.calls.specs.Rewriting.{InUse, resultOf, takesSet}
-use Rattle.calls.proofs.Ending.{laid-output, finished-written}
+use Rattle.calls.proofs.Ending.{laid-output, long-enough, finished-written}
 use Rattle.plain.specs.Conditions.{IsMode}
 use Rattle.plain.specs.Output.{Put}
-use Rattle.plain.specs.Positions.{Hopped, answerAt, entriesAt}
+use Rattle.plain.specs.Positions.{Hopped, addressIn, Position, answerAt, entriesAt}
 use Rattle.plain.specs.Rewriting.{hasMode, isKnown, Bare}
 
 -- ---- The modes.
@@ -69,49 +71,80 @@ mode-known (inr (inr e)) = (omega arith, omega arith, λ two. omega arith)
 -- ---- A table that keeps the rules.
 
 -- Its records' hops are hops.
-pub all-hopped : (t : List ℕ) → All (λ r. r .hop < 64) (routes t) → Hopped t
-all-hopped t hops k lt =
-    all-member {P = λ r. r .hop < 64} (rw (sym (run-whole t), run-numbered t 0 (records t)) at hops) (member-numbered (routeAt t) 0 (records t) k (omega arith) lt)
+pub all-hopped : (size : ℕ) (t : List ℕ) → All (λ r. r .hop < 64) (routesIn size t) → Hopped size t
+all-hopped size t hops k lt =
+    all-member {P = λ r. r .hop < 64} (rw (sym (run-whole size t), run-numbered size t 0 (recordsIn size t)) at hops)
+    (member-numbered (routeIn size t) 0 (recordsIn size t) k (omega arith) lt)
 
 -- In mode 1 they are 0.
-pub all-bare : {mode : ℕ} (t : List ℕ) → All (λ r. r .hop ≤ topHop (takesSet mode)) (routes t) → Bare t mode
-all-bare t hops one = set-hops (rw one at hops)
+pub all-bare : {mode : ℕ} (size : ℕ) (t : List ℕ) → All (λ r. r .hop ≤ topHop (takesSet mode)) (routesIn size t) → Bare size t mode
+all-bare size t hops one = set-hops (rw one at hops)
+
+-- There are fewer of them than bytes.
+pub records-few : (size : ℕ) → IsSize size → (t : List ℕ) → 8 * recordsIn size t ≤ length t
+records-few size (inl e) t = rw e (omega arith)
+records-few size (inr e) t = rw e (omega arith)
+
+-- Key 0 is that of address 0.
+key-zero : (size : ℕ) → IsSize size → (0 ≡ keyOf (widthIn size) (addressIn size 0)) × (addressIn size 0 ≡ 0)
+key-zero size (inl e) = rw e (refl, refl)
+key-zero size (inr e) = rw e (refl, refl)
 
 -- Its records are the run of the position of all addresses.
-pub all-run : (t : List ℕ) (n : ℕ) → Table 32 (routes t) → n ≡ records t → RunAt 32 t 0 n 32 0
-all-run t n table e = subst (λ (k : ℕ). RunAt 32 t 0 k 32 0) (sym e) (whole-run 32 table)
+pub all-run : {size : ℕ} → IsSize size → (t : List ℕ) (n : ℕ) → Table (widthIn size) (routesIn size t) → n ≡ recordsIn size t → Position size t 0 n 0 0
+all-run {size} is t n table e =
+    record {
+      is-size = is;
+      short = omega arith;
+      exact = key-zero size is .0;
+      is-run = rw (e, sub-zero (widthIn size), key-zero size is .1) (whole-run size (widthIn size) table);
+    }
 
 -- ---- The result.
-module _ (t : List ℕ) (mode fill : ℕ) (ranks : List ℕ) (n : ℕ) (bare : Bare t mode) (fills : Fills mode fill) (e : n ≡ records t) where
-  all-records : run t 0 n ≡ routes t
-  all-records = ap (run t 0) e ∙ run-whole t
+module _ {size : ℕ} (is : IsSize size) (t : List ℕ) (mode fill : ℕ) (ranks : List ℕ) (n : ℕ) (bare : Bare size t mode) (fills : Fills mode fill)
+    (e : n ≡ recordsIn size t) where
+  -- The entries of the position of all addresses.
+  abbrev entries : List Route
+  entries = entriesAt ranks size t 0 n fill (widthIn size - 0) (addressIn size 0) noHop
+
+  from-zero : entries ≡ entriesAt ranks size t 0 n fill (widthIn size) 0 noHop
+  from-zero = ap₂ (λ (m a : ℕ). entriesAt ranks size t 0 n fill m a noHop) (sub-zero (widthIn size)) (key-zero size is .1)
+
+  all-records : run size t 0 n ≡ routesIn size t
+  all-records = ap (run size t 0) e ∙ run-whole size t
 
   -- Holes kept.
-  dropped : fill ≡ noHop → entriesAt ranks 32 t 0 n fill 32 0 noHop ≡ result (lowest ranks) 32 aggregateMapDrop (routes t)
+  dropped : fill ≡ noHop → entriesAt ranks size t 0 n fill (widthIn size) 0 noHop ≡ result (lowest ranks) (widthIn size) aggregateMapDrop (routesIn size t)
   unfolding entriesAt result
-  dropped f = ortc-agree (answerAt 32 t 0 n fill) (answer 32 (routes t)) (lowest ranks) 32 32 0 none (λ x i. rw (f, all-records))
+  dropped f =
+      ortc-agree (answerAt size t 0 n fill) (answer (widthIn size) (routesIn size t)) (lowest ranks) (widthIn size) (widthIn size) 0 none (λ x i. rw (f, all-records))
 
   -- Holes filled.
-  filled-up : fill < noHop → entriesAt ranks 32 t 0 n fill 32 0 noHop ≡ result (lowest ranks) 32 (aggregateMapFill fill) (routes t)
+  filled-up : fill < noHop → entriesAt ranks size t 0 n fill (widthIn size) 0 noHop ≡ result (lowest ranks) (widthIn size) (aggregateMapFill fill) (routesIn size t)
   unfolding entriesAt result
   filled-up small =
-      ortc-agree (answerAt 32 t 0 n fill) (filled fill (answer 32 (routes t))) (lowest ranks) 32 32 0 none (λ x i.
-      rw (lt-ltb fill noHop small, all-records) (under-default fill (lookup 32 (routes t) x)))
+      ortc-agree (answerAt size t 0 n fill) (filled fill (answer (widthIn size) (routesIn size t))) (lowest ranks) (widthIn size) (widthIn size) 0 none (λ x i.
+      rw (lt-ltb fill noHop small, all-records) (under-default fill (lookup (widthIn size) (routesIn size t) x)))
 
-  pub whole-result : IsMode mode → entriesAt ranks 32 t 0 n fill 32 0 noHop ≡ resultOf t mode fill ranks
+  by-mode : IsMode mode → entriesAt ranks size t 0 n fill (widthIn size) 0 noHop ≡ resultOf size t mode fill ranks
   unfolding resultOf
-  whole-result (inl one) =
-      dropped (fills .none (λ five. omega arith)) ∙ rw one (sym (set-is-drop-bare 32 (lowest ranks) (lowest-chooses ranks) (routes t) (bare one)))
-  whole-result (inr (inl four)) = dropped (fills .none (λ five. omega arith)) ∙ rw four
-  whole-result (inr (inr five)) = filled-up (fills .hop five) ∙ rw five
+  by-mode (inl one) =
+      dropped (fills .none (λ five. omega arith))
+      ∙ rw one (sym (set-is-drop-bare (widthIn size) (lowest ranks) (lowest-chooses ranks) (routesIn size t) (bare one)))
+  by-mode (inr (inl four)) = dropped (fills .none (λ five. omega arith)) ∙ rw four
+  by-mode (inr (inr five)) = filled-up (fills .hop five) ∙ rw five
 
-  module _ (had : IsMode mode) {k : ℕ} {o o′ : List ℕ} (put : Put (entriesAt ranks 32 t 0 n fill 32 0 noHop) k o o′) where
+  -- They are the mode's result.
+  whole-result : IsMode mode → entries ≡ resultOf size t mode fill ranks
+  whole-result had = from-zero ∙ by-mode had
+
+  module _ (had : IsMode mode) {k : ℕ} {o o′ : List ℕ} (put : Put size (entriesAt ranks size t 0 n fill (widthIn size - 0) (addressIn size 0) noHop) k o o′) where
     -- What is put of the entries are the result's records,
-    pub whole-count : k ≡ length (resultOf t mode fill ranks)
+    pub whole-count : k ≡ length (resultOf size t mode fill ranks)
     whole-count = put .counted ∙ ap length (whole-result had)
 
     -- and, where they fit, the end of a rewrite.
-    pub whole-finished : {change : ℤ} → k ≤ length o / 8 → change ≡ pos k -ℤ pos (records t) → Finished t mode fill ranks o (Records k change) o′
+    pub whole-finished : {change : ℤ} → k ≤ length o / size → change ≡ pos k -ℤ pos (recordsIn size t) → Finished size t mode fill ranks o (Records k change) o′
     whole-finished fits differ =
-        finished-written t mode fill ranks o whole-count fits differ
-        (put .written (omega arith) ∙ rw (whole-result had, whole-count) (laid-output (resultOf t mode fill ranks) o))
+        finished-written size is t mode fill ranks o whole-count fits differ
+        (put .written (long-enough size is (length o) k fits) ∙ rw (whole-result had, whole-count) (laid-output size is (resultOf size t mode fill ranks) o))

@@ -8,9 +8,10 @@ use lib.ListN.{length}
 use Rattle.theory.specs.Ranks.{isRanking}
 use Rattle.theory.specs.Routes.{All}
 use Rattle.refusals.specs.Rules.{Rule, rule}
-use Rattle.records.specs.Wire.{routes}
+use Rattle.records.specs.Sized.{routesIn}
 use Rattle.records.specs.declared.Form.{Form}
-use Rattle.table.specs.TableRules.{tableRules}
+use Rattle.records.specs.Forms.{sizeOf}
+use Rattle.table.specs.TableRules.{formRules}
 use Rattle.calls.specs.Rewriting.{resultOf, takesSet}
 
 -- Is it a mode of this engine?
@@ -28,9 +29,9 @@ plainRules form t mode default ranks room =
     ∷ rule 16 0 (not (eqb mode 2))
     ∷ rule 2 0 (not (eqb mode 5) || leb default 63)
     ∷ rule 15 0 (not (leb 4 mode) || isRanking 64 ranks)
-    ∷ tableRules form (takesSet mode) t
-    ++ (rule 11 0 (leb (8 * length (resultOf t mode default ranks)) room) ∷ [])
+    ∷ formRules form (takesSet mode) t
+    ++ (rule 11 0 (leb (sizeOf form * length (resultOf (sizeOf form) t mode default ranks)) room) ∷ [])
 
 -- In mode 1 the members' hops are 0.
-abbrev pub Bare : List ℕ → ℕ → Type 0
-Bare t mode = mode ≡ 1 → All (λ r. r .hop ≡ 0) (routes t)
+abbrev pub Bare : ℕ → List ℕ → ℕ → Type 0
+Bare size t mode = mode ≡ 1 → All (λ r. r .hop ≡ 0) (routesIn size t)

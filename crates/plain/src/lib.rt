@@ -1,7 +1,8 @@
 // The second engine: modes 1, 4 and 5 as a plain recursion over the bits of an address, with no nodes and no work room.
 //
-// A position is a prefix, given by its address and its length; the records lo..hi of the sorted table that lie in it are its run. `set_of` is the candidate
-// set of a position and `write` the entries that document 01's definition gives it and the positions inside it. Both take a position apart by `part_of`.
+// A position is a prefix, given by the key of its address and its length; the records lo..hi of the sorted table that lie in it are its run. `set_of` is the
+// candidate set of a position and `write` the entries that document 01's definition gives it and the positions inside it. Both take a position apart by
+// `part_of`. Records have `size` bytes, 8 or 16, and the walks go down the 32 or 64 bits of their addresses.
 // A hop is a u8, NO_HOP for none. A candidate set is a u64 with a bit for each hop, 0 for a hole.
 
 use calls::Rewritten;
@@ -16,26 +17,27 @@ use hops::combine;
 use hops::has;
 use hops::ranking::lowest;
 use records::Form;
-use records::hop_at;
-use records::past;
-use records::put_record;
+use records::size_of;
+use records::sized::hop_of;
+use records::sized::past_sized;
+use records::sized::put_sized;
 use runs::past_own;
 use runs::right_half;
 use runs::split;
 use table::Checked;
-use table::check_table;
+use table::check_sized;
 ghost use mathlib.Core.Path.{_≡_};
 ghost use mathlib.Core.Bool.{true, not};
 ghost use Prim.Native.Nat.{_-_, _≤_, _<_};
 ghost use lib.ListN.{length};
 ghost use Rattle.theory.specs.Results.{Cand};
 ghost use Rattle.theory.specs.Routes.{Table};
-ghost use Rattle.records.specs.Wire.{records, routeAt, routes};
+ghost use Rattle.records.specs.Forms.{sizeOf};
+ghost use Rattle.records.specs.Sized.{IsSize, widthIn, recordsIn, routeIn, routesIn};
 ghost use Rattle.hops.specs.Sets.{ShowsSet};
-ghost use Rattle.runs.specs.Runs.{RunAt};
 ghost use Rattle.calls.specs.Ending.{Fills, Finished};
 ghost use Rattle.calls.specs.Rewriting.{RewritesBy};
-ghost use Rattle.plain.specs.Positions.{Hopped, setAt, entryAt, entriesAt, PartOf};
+ghost use Rattle.plain.specs.Positions.{Hopped, addressIn, Position, setAt, entryAt, entriesAt, PartOf};
 ghost use Rattle.plain.specs.Output.{Put};
 ghost use Rattle.plain.specs.Rewriting.{hasMode, isKnown, plainRules, Bare};
 
@@ -45,36 +47,40 @@ enum Part {
     Uniform {
         hop: u8,
     },
-    // The records first..mid lie in its left half, mid..hi in its right half, which begins at the address `right`. What they do not answer `hop` does.
+    // The records first..mid lie in its left half, mid..hi in its right half, whose key is `right`. What they do not answer `hop` does.
     Halves {
         hop: u8,
         first: usize,
         mid: usize,
-        right: u32,
+        right: u64,
     },
 }
 
 // The hop of the position's own record, which is the one before `first`, or else `cover`.
-fn own_or(table: &[u8], lo: usize, first: usize, cover: u8) -> u8
-    requires { ⌜ first ≤ records (now table) ⌝ }
-    ensures { λ r. ⌜ (lo < first → r ≡ routeAt (now (table .entry)) lo .hop) × (first ≤ lo → r ≡ cover) ⌝ }
+fn own_or(table: &[u8], size: usize, lo: usize, first: usize, cover: u8) -> u8
+    requires { ⌜ IsSize size × (first ≤ recordsIn size (now table)) ⌝ }
+    ensures { λ r. ⌜ (lo < first → r ≡ routeIn size (now (table .entry)) lo .hop) × (first ≤ lo → r ≡ cover) ⌝ }
 {
-    if lo < first { hop_at(table, lo) } else { cover }
+    if lo < first {
+        hop_of(table, size, lo)
+    } else {
+        cover
+    }
 }
 
-// Takes apart the position of this length at `addr`, whose run is lo..hi; `cover` is the hop of what no record of the run matches.
-fn part_of(table: &[u8], lo: usize, hi: usize, addr: u32, len: u8, cover: u8) -> Part
-    requires { ⌜ (len ≤ 32) × RunAt 32 (now table) lo hi (32 - len) addr ⌝ }
-    requires { ⌜ Hopped (now table) ⌝ }
-    ensures { λ r. ⌜ PartOf (now (table .entry)) lo hi len addr cover r ⌝ }
+// Takes apart the position of this length at `key`, whose run is lo..hi; `cover` is the hop of what no record of the run matches.
+fn part_of(table: &[u8], size: usize, lo: usize, hi: usize, key: u64, len: u8, cover: u8) -> Part
+    requires { ⌜ Position size (now table) lo hi len key ⌝ }
+    requires { ⌜ Hopped size (now table) ⌝ }
+    ensures { λ r. ⌜ PartOf size (now (table .entry)) lo hi len key cover r ⌝ }
 {
-    let first = past_own(table, lo, hi, len);
-    let hop = own_or(table, lo, first, cover);
+    let first = past_own(table, size, lo, hi, len);
+    let hop = own_or(table, size, lo, first, cover);
     if first == hi {
         return Part::Uniform { hop };
     }
-    let right = right_half(addr, len);
-    let mid = split(table, first, hi, right);
+    let right = right_half(key, len);
+    let mid = split(table, size, first, hi, right);
     Part::Halves {
         hop,
         first,
@@ -84,12 +90,12 @@ fn part_of(table: &[u8], lo: usize, hi: usize, addr: u32, len: u8, cover: u8) ->
 }
 
 // The candidate set of the position: that of its one answer, or those of its halves combined.
-fn set_of(table: &[u8], lo: usize, hi: usize, addr: u32, len: u8, cover: u8) -> u64
-    requires { ⌜ (len ≤ 32) × RunAt 32 (now table) lo hi (32 - len) addr ⌝ }
-    requires { ⌜ Hopped (now table) ⌝ }
-    ensures { λ r. ⌜ ShowsSet r (setAt 32 (now (table .entry)) lo hi cover (32 - len) addr) ⌝ }
+fn set_of(table: &[u8], size: usize, lo: usize, hi: usize, key: u64, len: u8, cover: u8) -> u64
+    requires { ⌜ Position size (now table) lo hi len key ⌝ }
+    requires { ⌜ Hopped size (now table) ⌝ }
+    ensures { λ r. ⌜ ShowsSet r (setAt size (now (table .entry)) lo hi cover (widthIn size - len) (addressIn size key)) ⌝ }
 {
-    match part_of(table, lo, hi, addr, len, cover) {
+    match part_of(table, size, lo, hi, key, len, cover) {
         Part::Uniform { hop } => alone(hop),
         Part::Halves {
             hop,
@@ -97,17 +103,25 @@ fn set_of(table: &[u8], lo: usize, hi: usize, addr: u32, len: u8, cover: u8) -> 
             mid,
             right,
         } => {
-            let left = set_of(table, first, mid, addr, len + 1, hop);
-            combine(left, set_of(table, mid, hi, right, len + 1, hop))
+            let left = set_of(table, size, first, mid, key, len + 1, hop);
+            combine(left, set_of(table, size, mid, hi, right, len + 1, hop))
         }
     }
 }
 
 // Writes the entry of a position with this set, if it gets one and there is room, and says how many it gets: a hole gets none, nor does a position whose
 // set has the hop assigned above; any other gets one with the hop of lowest rank of its set.
-fn write_entry(set: u64, above: u8, ranks: &[u16], addr: u32, len: u8, out: &mut [u8]) -> usize
-    requires { ⌜ len ≤ 32 ⌝ }
-    ensures { λ r. ⌜ ((S : Cand) → ShowsSet set S → Put (entryAt (now (ranks .entry)) 32 S (32 - len) addr above) r (now (out .entry)) (now (out .exit))) ⌝ }
+fn write_entry(
+    set: u64,
+    above: u8,
+    ranks: &[u16],
+    size: usize,
+    key: u64,
+    len: u8,
+    out: &mut [u8],
+) -> usize
+    requires { ⌜ IsSize size × (len ≤ widthIn size) ⌝ }
+    ensures { λ r. ⌜ ((S : Cand) → ShowsSet set S → Put size (entryAt (now (ranks .entry)) size S (widthIn size - len) (addressIn size key) above) r (now (out .entry)) (now (out .exit))) ⌝ }
 {
     if set == 0 {
         return 0;
@@ -115,7 +129,7 @@ fn write_entry(set: u64, above: u8, ranks: &[u16], addr: u32, len: u8, out: &mut
     if has(set, above) {
         return 0;
     }
-    put_record(out, addr, len, lowest(set, ranks));
+    put_sized(out, size, key, len, lowest(set, ranks));
     1
 }
 
@@ -123,22 +137,23 @@ fn write_entry(set: u64, above: u8, ranks: &[u16], addr: u32, len: u8, out: &mut
 // is assigned above it.
 fn write(
     table: &[u8],
+    size: usize,
     lo: usize,
     hi: usize,
-    addr: u32,
+    key: u64,
     len: u8,
     cover: u8,
     above: u8,
     ranks: &[u16],
     out: &mut [u8],
 ) -> usize
-    requires { ⌜ (len ≤ 32) × RunAt 32 (now table) lo hi (32 - len) addr ⌝ }
-    requires { ⌜ Hopped (now table) ⌝ }
-    ensures { λ r. ⌜ Put (entriesAt (now (ranks .entry)) 32 (now (table .entry)) lo hi cover (32 - len) addr above) r (now (out .entry)) (now (out .exit)) ⌝ }
+    requires { ⌜ Position size (now table) lo hi len key ⌝ }
+    requires { ⌜ Hopped size (now table) ⌝ }
+    ensures { λ r. ⌜ Put size (entriesAt (now (ranks .entry)) size (now (table .entry)) lo hi cover (widthIn size - len) (addressIn size key) above) r (now (out .entry)) (now (out .exit)) ⌝ }
 {
-    let set = set_of(table, lo, hi, addr, len, cover);
-    let own = write_entry(set, above, ranks, addr, len, out);
-    match part_of(table, lo, hi, addr, len, cover) {
+    let set = set_of(table, size, lo, hi, key, len, cover);
+    let own = write_entry(set, above, ranks, size, key, len, out);
+    match part_of(table, size, lo, hi, key, len, cover) {
         Part::Uniform { hop: _ } => own,
         Part::Halves {
             hop,
@@ -147,12 +162,13 @@ fn write(
             right,
         } => {
             let taken = assign(set, above, ranks);
-            let at = past(own, out.len());
+            let at = past_sized(own, size, out.len());
             let left = write(
                 table,
+                size,
                 first,
                 mid,
-                addr,
+                key,
                 len + 1,
                 hop,
                 taken,
@@ -160,10 +176,11 @@ fn write(
                 &mut out[at..],
             );
             let done = own + left;
-            let at = past(done, out.len());
+            let at = past_sized(done, size, out.len());
             done
                 + write(
                     table,
+                    size,
                     mid,
                     hi,
                     right,
@@ -197,29 +214,41 @@ fn no_mode(mode: u32) -> bool
 // records.
 fn rewrite_checked(
     table: &[u8],
+    size: usize,
     mode: u32,
     fill: u8,
     ranks: &[u16],
     before: usize,
     output: &mut [u8],
 ) -> Rewritten
-    requires { ⌜ hasMode mode ≡ true ⌝ }
-    requires { ⌜ Table 32 (routes (now table)) × (Hopped (now table) × Bare (now table) mode) ⌝ }
+    requires { ⌜ IsSize size × (hasMode mode ≡ true) ⌝ }
+    requires { ⌜ Table (widthIn size) (routesIn size (now table)) × (Hopped size (now table) × Bare size (now table) mode) ⌝ }
     requires { ⌜ Fills mode fill ⌝ }
-    requires { ⌜ before ≡ records (now table) ⌝ }
-    ensures { λ r. ⌜ Finished (now (table .entry)) mode fill (now (ranks .entry)) (now (output .entry)) r (now (output .exit)) ⌝ }
+    requires { ⌜ before ≡ recordsIn size (now table) ⌝ }
+    ensures { λ r. ⌜ Finished size (now (table .entry)) mode fill (now (ranks .entry)) (now (output .entry)) r (now (output .exit)) ⌝ }
 {
-    if output.len() / 8 < most_records(mode, before) {
+    if output.len() / size < most_records(mode, before) {
         let mut nothing = [0u8; 0];
-        let count = write(table, 0, before, 0, 0, fill, NO_HOP, ranks, &mut nothing);
-        if output.len() / 8 < count {
+        let count = write(
+            table,
+            size,
+            0,
+            before,
+            0,
+            0,
+            fill,
+            NO_HOP,
+            ranks,
+            &mut nothing,
+        );
+        if output.len() / size < count {
             return Rewritten::Refused {
                 number: 11,
                 index: 0,
             };
         }
     }
-    let written = write(table, 0, before, 0, 0, fill, NO_HOP, ranks, output);
+    let written = write(table, size, 0, before, 0, 0, fill, NO_HOP, ranks, output);
     Rewritten::Records {
         count: written,
         change: (written as i64) - (before as i64),
@@ -237,7 +266,7 @@ pub fn rewrite(
     ranks: &[u16],
     output: &mut [u8],
 ) -> Rewritten
-    ensures { λ r. ⌜ RewritesBy (plainRules form (now (table .entry)) mode default (now (ranks .entry)) (length (now (output .entry)))) (now (table .entry)) mode default (now (ranks .entry)) (now (output .entry)) r (now (output .exit)) ⌝ }
+    ensures { λ r. ⌜ RewritesBy (sizeOf form) (plainRules form (now (table .entry)) mode default (now (ranks .entry)) (length (now (output .entry)))) (now (table .entry)) mode default (now (ranks .entry)) (now (output .entry)) r (now (output .exit)) ⌝ }
 {
     if no_mode(mode) {
         return Rewritten::Refused {
@@ -263,10 +292,18 @@ pub fn rewrite(
             index: 0,
         };
     }
-    match check_table(table, form, mode == 1) {
+    let strict = form.strict;
+    let size = size_of(form);
+    match check_sized(table, size, strict, mode == 1) {
         Checked::Refused { number, index } => Rewritten::Refused { number, index },
-        Checked::Valid(records) => {
-            rewrite_checked(table, mode, fill_of(mode, default), ranks, records, output)
-        }
+        Checked::Valid(records) => rewrite_checked(
+            table,
+            size,
+            mode,
+            fill_of(mode, default),
+            ranks,
+            records,
+            output,
+        ),
     }
 }

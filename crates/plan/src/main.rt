@@ -42,7 +42,10 @@ fn main() {
     if 8200 < b {
         return;
     }
-    let form = Form { strict: false };
+    let form = Form {
+        strict: false,
+        long: false,
+    };
     let end = plan_text(
         &installed[..a],
         &new[..b],

@@ -9,11 +9,12 @@ use lib.ListN.{length}
 use borrow.Author.Tests.{ltb-false}
 use Rattle.refusals.specs.Rules.{Rule, Reply, gives, refuses, judge}
 use Rattle.refusals.proofs.Judged.{gives-any}
-use Rattle.records.specs.Wire.{records, routes, Bytes}
+use Rattle.records.specs.Wire.{records, routes}
+use Rattle.records.specs.Sized.{Bytes}
 use Rattle.records.specs.declared.Form.{Form}
 use Rattle.table.specs.Checking.{checkReply}
 use Rattle.table.specs.Conditions.{Lawful}
-use Rattle.table.proofs.Tables.{accepted-table}
+use Rattle.table.proofs.AtEight.{accepted-table}
 use Rattle.steps.specs.Planned.{together}
 use Rattle.plans.specs.Judging.{stepRules, tablesRules, checkRules}
 use Rattle.plans.proofs.Rules.{old-refused, new-refused, all-kept}

@@ -12,7 +12,8 @@ use Rattle.theory.specs.Routes.{Route, Valid, All, nil, cons}
 use Rattle.theory.proofs.Lists.{all-append}
 use Rattle.theory.proofs.Parts.{all-part}
 use Rattle.words.specs.Prefix.{hostClear}
-use Rattle.records.specs.Wire.{route, routes}
+use Rattle.records.specs.Wire.{routes}
+use Rattle.records.specs.Sized.{route}
 use Rattle.records.specs.declared.Form.{Form}
 use Rattle.refusals.specs.Rules.{gives, judge}
 use Rattle.table.specs.Conditions.{Lawful}

@@ -17,7 +17,8 @@ use Rattle.refusals.specs.Rules.{gives, judge}
 use Rattle.refusals.specs.Order.{First, None}
 use Rattle.refusals.proofs.Judged.{gives-exactly}
 use Rattle.refusals.proofs.Answered.{refused-exactly}
-use Rattle.records.specs.Wire.{routes, Bytes}
+use Rattle.records.specs.Wire.{routes}
+use Rattle.records.specs.Sized.{Bytes}
 use Rattle.records.specs.declared.Form.{Form}
 use Rattle.table.specs.Conditions.{Lawful}
 use Rattle.steps.specs.Steps.{after}

@@ -6,12 +6,13 @@ use mathlib.Core.Bool.{false}
 use mathlib.Core.List.{List, _++_, map}
 use lib.ListN.{length}
 use Rattle.refusals.specs.Rules.{Rule, Reply, gives, refuses, judge}
-use Rattle.records.specs.Wire.{records, Bytes, maskedBytes}
+use Rattle.records.specs.Wire.{records, maskedBytes}
+use Rattle.records.specs.Sized.{Bytes}
 use Rattle.records.specs.declared.Form.{Form}
 use Rattle.records.specs.Forms.{byDefault, strictly}
 use Rattle.table.specs.Checking.{checkReply}
 use Rattle.table.specs.Conditions.{Accepted}
-use Rattle.table.proofs.Masking.{table-carried, masked-routes, masked-rules}
+use Rattle.table.proofs.AtEight.{table-carried, masked-routes, masked-rules}
 use Rattle.plans.specs.declared.answers.Step.{Step}
 use Rattle.plans.specs.Judging.{ofNew, tablesRules}
 use Rattle.planner.specs.declared.Planned.{Planned}

@@ -12,12 +12,13 @@ use borrow.Author.Tests.{eqb-true, eqb-false, eq-eqb, ltb-true, ltb-false}
 use Rattle.theory.specs.Routes.{Route, answer, Table}
 use Rattle.refusals.specs.Rules.{Rule, Reply, gives, refuses, judge}
 use Rattle.refusals.proofs.Judged.{gives-exactly, gives-any}
-use Rattle.records.specs.Wire.{records, routeAt, routesFrom, routes, Bytes}
+use Rattle.records.specs.Wire.{records, routeAt, routesFrom, routes}
+use Rattle.records.specs.Sized.{Bytes, routesFromIn, routesIn}
 use Rattle.records.specs.declared.Form.{Form}
 use Rattle.records.proofs.Reading.{length-routes}
 use Rattle.table.specs.Checking.{checkReply}
 use Rattle.table.specs.TableRules.{tableRules}
-use Rattle.table.proofs.Tested.{table-tests}
+use Rattle.table.proofs.AtEight.{table-tests}
 use Rattle.steps.specs.Steps.{after, Hitless}
 use Rattle.steps.proofs.Entries.{and-true}
 use Rattle.plans.specs.declared.answers.Step.{Step}
@@ -40,7 +41,7 @@ one-route : (r s : Route) → r .addr ≡ s .addr → r .len ≡ s .len → r .h
 one-route r s a l h = λ i. record { addr = a i; len = l i; hop = h i }
 
 same-to : (t u : List ℕ) (i k : ℕ) → sameFrom t u i k ≡ true → routesFrom t i k ≡ routesFrom u i k
-unfolding sameFrom routesFrom
+unfolding sameFrom routesFromIn
 same-to t u i zero e = refl
 same-to t u i (suc k) e =
     let z = and-true (eqb (routeAt t i .addr) (routeAt u i .addr) && (eqb (routeAt t i .len) (routeAt u i .len) && eqb (routeAt t i .hop) (routeAt u i .hop))) _ e in
@@ -57,7 +58,7 @@ tail-same : {r q : Route} {rs qs : List Route} → r ∷ rs ≡ q ∷ qs → rs 
 tail-same e = cc
 
 same-from : (t u : List ℕ) (i k : ℕ) → routesFrom t i k ≡ routesFrom u i k → sameFrom t u i k ≡ true
-unfolding sameFrom routesFrom
+unfolding sameFrom routesFromIn
 same-from t u i zero e = refl
 same-from t u i (suc k) e =
     let h : routeAt t i ≡ routeAt u i = head-same e in
@@ -69,13 +70,13 @@ same-from t u i (suc k) e =
     ) (same-from t u (suc i) k g)
 
 unchanged-to : (t u : List ℕ) → unchangedOf t u ≡ true → routes t ≡ routes u
-unfolding routes
+unfolding routesIn
 unchanged-to t u e =
     let z = and-true (eqb (records t) (records u)) _ e in
     ap (routesFrom t 0) (eqb-true (records t) (records u) (z .0)) ∙ same-to t u 0 (records u) (z .1)
 
 unchanged-from : (t u : List ℕ) → routes t ≡ routes u → unchangedOf t u ≡ true
-unfolding routes
+unfolding routesIn
 unchanged-from t u e =
     let q : records t ≡ records u = sym (length-routes t) ∙ ap length (whole e) ∙ length-routes u in
     rw (eq-eqb (records t) (records u) q) (same-from t u 0 (records u) (ap (routesFrom t 0) (sym q) ∙ e))

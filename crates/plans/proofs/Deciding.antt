@@ -18,12 +18,14 @@ use Rattle.theory.proofs.Parts.{all-part}
 use Rattle.words.proofs.PrefixLaws.{start-small}
 use Rattle.positions.specs.Runs.{noHop}
 use Rattle.refusals.specs.Rules.{gives}
-use Rattle.records.specs.Wire.{records, routeAt, route, routes, Bytes}
+use Rattle.records.specs.Wire.{records, routeAt, routes}
+use Rattle.records.specs.Sized.{route, Bytes}
 use Rattle.records.specs.declared.Form.{Form}
 use Rattle.records.proofs.Reading.{length-routes}
 use Rattle.table.specs.Checking.{checkReply}
 use Rattle.table.specs.Conditions.{Lawful}
-use Rattle.table.proofs.Tables.{accepted-table, hops-below}
+use Rattle.table.proofs.AtEight.{accepted-table}
+use Rattle.table.proofs.SizedTables.{hops-below}
 use Rattle.runs.proofs.Halves.{whole-run, record-within}
 use Rattle.theory.proofs.Numbered.{all-numbered}
 use Rattle.runs.proofs.Records.{run-whole, run-numbered}
@@ -339,7 +341,7 @@ module _ (form : Form) (t u : List ℕ) (ss : List Step) (bt : Bytes t) (bu : By
 
       all-edged : Recs (records t) → All (Edged 32 old new moves) old
       all-edged rs =
-          subst (All (Edged 32 old new moves)) (sym (run-numbered t 0 (records t)) ∙ run-whole t) (all-numbered (routeAt t) 0 (records t) (λ i le lt. rs i lt))
+          subst (All (Edged 32 old new moves)) (sym (run-numbered 8 t 0 (records t)) ∙ run-whole 8 t) (all-numbered (routeAt t) 0 (records t) (λ i le lt. rs i lt))
 
       moves-length : length moves ≡ n
       moves-length = length-map ss stepOf
@@ -380,7 +382,7 @@ module _ (form : Form) (t u : List ℕ) (ss : List Step) (bt : Bytes t) (bu : By
 
       route-fits : (k : ℕ) → k < records t → routeAt t k .addr < 2 ^ 32
       route-fits k h =
-          let v = record-within (whole-run 32 (lawful .table)) k (omega arith) h in
+          let v = record-within (whole-run 8 32 (lawful .table)) k (omega arith) h in
           omega (arith, v .high, pow-pos (32 - routeAt t k .len))
 
       -- How following the steps that a state asks for comes out, and the state after that.
@@ -526,7 +528,7 @@ module _ (form : Form) (t u : List ℕ) (ss : List Step) (bt : Bytes t) (bu : By
           moved-edge r w e =
               record { starts = rw (w .1) (e .starts); ends = rw (w .1, w .2) (e .ends); lands = rw (w .1, w .2) (e .lands) }
       goes (record-start {k = k} some h d rs) lt =
-          let v = record-within (whole-run 32 (lawful .table)) k (omega arith) h in
+          let v = record-within (whole-run 8 32 (lawful .table)) k (omega arith) h in
           let y = passing (routeAt t k .addr) n (omega arith) in
           judged-by (route-fits k h) y (λ g. rw (y .at)
           (lands-by (v .short) (start-is (32 - routeAt t k .len) (routeAt t k .addr) (routeAt t k .addr) (v .aligned) (omega arith, omega (arith, pow-pos (32 - routeAt t k .len))))
@@ -572,7 +574,7 @@ module _ (form : Form) (t u : List ℕ) (ss : List Step) (bt : Bytes t) (bu : By
           record {
             in-steps = lt;
             in-records = omega (arith, few-records);
-            in-lengths = record-within (whole-run 32 (lawful .table)) k (omega arith) h .short;
+            in-lengths = record-within (whole-run 8 32 (lawful .table)) k (omega arith) h .short;
             few = d .small n (omega arith);
             short = inr (short 0 lt);
           }
@@ -580,7 +582,7 @@ module _ (form : Form) (t u : List ℕ) (ss : List Step) (bt : Bytes t) (bu : By
           record {
             in-steps = lt;
             in-records = omega (arith, few-records);
-            in-lengths = record-within (whole-run 32 (lawful .table)) k (omega arith) h .short;
+            in-lengths = record-within (whole-run 8 32 (lawful .table)) k (omega arith) h .short;
             few = d .small n (omega arith);
             short = inr (short 0 lt);
           }

@@ -11,11 +11,13 @@ use borrow.Author.Tests.{eq-eqb}
 use Rattle.theory.specs.Results.{startOf}
 use Rattle.refusals.specs.Rules.{Rule, rule, judge}
 use Rattle.refusals.specs.Order.{None}
-use Rattle.records.specs.Wire.{Bytes, maskedBytes}
+use Rattle.records.specs.Wire.{maskedBytes}
+use Rattle.records.specs.Sized.{Bytes}
 use Rattle.records.specs.declared.Form.{Form}
 use Rattle.records.specs.Forms.{byDefault, strictly}
-use Rattle.table.specs.Conditions.{TableCondition, not-whole, too-many, of-record, too-long, host-bits, bad-tail, not-after, Accepted}
-use Rattle.table.proofs.Masking.{masked-routes, masked-rules}
+use Rattle.table.specs.Conditions.{TableCondition, Accepted}
+use Rattle.table.specs.SizedConditions.{not-whole, too-many, of-record, too-long, host-bits, bad-tail, not-after}
+use Rattle.table.proofs.AtEight.{masked-routes, masked-rules}
 use Rattle.steps.specs.Steps as steps
 use Rattle.checking.specs.Passes.{puts}
 use Rattle.checking.specs.Checking.{hostKeptOf, hopKeptOf}

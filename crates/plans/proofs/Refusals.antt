@@ -10,7 +10,7 @@ use Rattle.refusals.specs.Order.{First, None}
 use Rattle.refusals.proofs.Judged.{gives-exactly}
 use Rattle.refusals.proofs.Answered.{refused-exactly}
 use Rattle.records.specs.declared.Form.{Form}
-use Rattle.table.proofs.Tested.{table-numbers}
+use Rattle.table.proofs.AtEight.{table-numbers}
 use Rattle.plans.specs.declared.answers.Step.{Step}
 use Rattle.plans.specs.declared.answers.Judged.{Judged}
 use Rattle.plans.specs.declared.answers.Judged.the-variants.{Yes, No, Refused}

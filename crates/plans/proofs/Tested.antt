@@ -14,9 +14,9 @@ use Rattle.refusals.proofs.Shown.{Shows, shown, fails, refuted}
 use Rattle.refusals.proofs.Judged.{Broken, InOrder}
 use Rattle.refusals.proofs.Ranked.{at, broken-left, broken-right, sound-append, Ranked, ranked-append}
 use Rattle.records.specs.declared.Form.{Form}
-use Rattle.table.specs.Conditions.{TableCondition, not-whole, too-many, of-record, too-long, host-bits, bad-tail, not-after}
+use Rattle.table.specs.SizedConditions.{TableConditionIn, not-whole, too-many, of-record, too-long, host-bits, bad-tail, not-after}
 use Rattle.table.specs.TableRules.{tableRules}
-use Rattle.table.proofs.Tested.{table-tests, table-ranked}
+use Rattle.table.proofs.AtEight.{table-tests, table-ranked}
 use Rattle.checking.specs.Passes.{puts}
 use Rattle.checking.specs.Checking.{hostKeptOf, hopKeptOf}
 use Rattle.plans.specs.declared.answers.Step.{Step}
@@ -125,7 +125,7 @@ new-breaks (r ∷ rs) n i (inl b) = inl (b .0, ap (λ (m : ℕ). m + 20) (b .1),
 new-breaks (r ∷ rs) n i (inr b) = inr (new-breaks rs n i b)
 
 -- The places of the numbers 23 to 28 are those of 3 to 8, by 8 later.
-rank-new : {form : Form} {s : Bool} {t : List ℕ} {n i : ℕ} → TableCondition form s t n i → rank (n + 20) ≡ rank n + 8
+rank-new : {strict s : Bool} {t : List ℕ} {n i : ℕ} → TableConditionIn 8 strict s t n i → rank (n + 20) ≡ rank n + 8
 unfolding rank
 rank-new (not-whole f) = refl
 rank-new (too-many h) = refl

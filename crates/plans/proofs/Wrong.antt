@@ -14,6 +14,8 @@ use Rattle.refusals.specs.Rules.{gives, judge}
 use Rattle.records.specs.Wire.{rawAt, routeAt, routes, routesFrom}
 use Rattle.records.specs.declared.Form.{Form}
 use Rattle.table.specs.TableRules.{recordRules, rulesFrom, tableRules}
+use Rattle.records.specs.Sized.{clear, number, rawIn, routeIn, routesFromIn, routesIn}
+use Rattle.table.specs.SizedRules.{recordRulesIn, rulesFromIn, tableRulesIn}
 use Rattle.steps.specs.Steps.{after, OldOrNew}
 use Rattle.steps.proofs.Turns.{after-every}
 use Rattle.plans.specs.declared.answers.Step.{Step}
@@ -24,7 +26,7 @@ use Rattle.plans.proofs.Calls.{yes-exactly, cut-anywhere}
 
 -- A form by its choice.
 abbrev by : Bool → Form
-by strict = record { strict = strict }
+by strict = record { strict = strict; long = false }
 
 abbrev putStep : ℕ → ℕ → ℕ → Step
 putStep addr len hop = record { addr = addr; len = len; hop = hop; put = 1; unread = 0 }
@@ -45,12 +47,12 @@ dropped = takeStep 167772160 8 ∷ putStep 167772160 8 2 ∷ []
 
 -- The end is right,
 pub ends-right : after 2 (map stepOf dropped) (routes old-hop) ≡ routes new-hop
-unfolding routes routesFrom routeAt rawAt
+unfolding routesIn routesFromIn routeIn rawIn number
 ends-right = refl
 
 -- but between the two steps 10.0.0.1 has no route.
 pub only-the-end : (strict : Bool) → Judges (by strict) old-hop new-hop dropped Yes → ⊥
-unfolding routes routesFrom routeAt rawAt
+unfolding routesIn routesFromIn routeIn rawIn number
 only-the-end strict s = go (cut-anywhere (by strict) old-hop new-hop dropped Yes s refl 1 167772161 (omega arith))
   where
     go : (none ≡ via 1) ⊎ (none ≡ via 2) → ⊥
@@ -70,7 +72,7 @@ astray = putStep 167772160 8 2 ∷ putStep 167772160 8 3 ∷ []
 
 -- At 10.0.0.0, where both steps begin, the answer is the old one throughout,
 pub starts-right : (k : ℕ) → OldOrNew 32 (routes over-one) (routes over-three) (after k (map stepOf astray) (routes over-one)) 167772160
-unfolding routes routesFrom routeAt rawAt
+unfolding routesIn routesFromIn routeIn rawIn number
 starts-right = after-every (λ v. OldOrNew 32 (routes over-one) (routes over-three) v 167772160) (map stepOf astray) (routes over-one) go
   where
     go : (k : ℕ) → k ≤ 2 → OldOrNew 32 (routes over-one) (routes over-three) (after k (map stepOf astray) (routes over-one)) 167772160
@@ -81,7 +83,7 @@ starts-right = after-every (λ v. OldOrNew 32 (routes over-one) (routes over-thr
 
 -- but 10.128.0.0 goes by hop 2 between the steps.
 pub only-the-starts : (strict : Bool) → Judges (by strict) over-one over-three astray Yes → ⊥
-unfolding routes routesFrom routeAt rawAt
+unfolding routesIn routesFromIn routeIn rawIn number
 only-the-starts strict s = go (cut-anywhere (by strict) over-one over-three astray Yes s refl 1 176160768 (omega arith))
   where
     go : (via 2 ≡ via 1) ⊎ (via 2 ≡ via 3) → ⊥
@@ -98,17 +100,17 @@ detour = putStep 0 1 1 ∷ takeStep 0 1 ∷ []
 
 -- Between the steps 0.0.0.0 has a match of a length that neither table has,
 pub longer-match : (lookup 32 (after 1 (map stepOf detour) (routes whole)) 0 ≡ hit 1 1) × (lookup 32 (routes whole) 0 ≡ hit 0 1)
-unfolding routes routesFrom routeAt rawAt
+unfolding routesIn routesFromIn routeIn rawIn number
 longer-match = (refl, refl)
 
 detour-kept : (strict : Bool) → judge (checkRules (by strict) whole whole detour) true ≡ gives true
-unfolding judge checkRules tablesRules tableRules rulesFrom recordRules stepRules routeAt rawAt
+unfolding judge checkRules tablesRules tableRulesIn rulesFromIn recordRulesIn stepRules routeIn rawIn clear number
 detour-kept true = refl
 detour-kept false = refl
 
 -- but every address keeps its hop.
 detour-accepted : Accepts whole whole detour
-unfolding routes routesFrom routeAt rawAt
+unfolding routesIn routesFromIn routeIn rawIn number
 detour-accepted =
     record {
       possible = (refl, (refl, tt));

@@ -6,7 +6,8 @@ use mathlib.Core.List.{List, [], _∷_, _++_, map}
 use mathlib.Core.Logic.{_↔_}
 use Rattle.theory.specs.Results.{startOf}
 use Rattle.refusals.specs.Rules.{Rule, rule, Reply, gives, refuses, judge}
-use Rattle.records.specs.Wire.{route, routes}
+use Rattle.records.specs.Wire.{routes}
+use Rattle.records.specs.Sized.{route}
 use Rattle.records.specs.declared.Form.{Form}
 use Rattle.table.specs.TableRules.{tableRules}
 use Rattle.steps.specs.Steps.{putting, taking, Hitless}

@@ -1,16 +1,20 @@
 -- What a program prints for the table that it read: the text of the right reply. Programs mask host bits.
-use Prim.Native.Nat.{ℕ}
+use Prim.Native.Nat.{ℕ, _*_}
+use mathlib.Core.Bool.{Bool, false}
 use mathlib.Core.List.{List, []}
 use lib.Dec.{ltb}
-use Rattle.records.specs.Wire.{records}
-use Rattle.records.specs.Forms.{byDefault}
+use Rattle.records.specs.Sized.{recordsIn}
+use Rattle.records.specs.declared.Form.{Form}
+use Rattle.records.specs.Forms.{sizeOf, masking}
 use Rattle.calls.specs.Rewriting.{rewriteReply}
 use Rattle.text.specs.Answers.{replyText}
 
--- In a mode, with a default, without ranks, an output of `room` bytes and a work room of `words` words; the hops are left out in mode 1.
-unfoldable pub printedIn : ℕ → ℕ → ℕ → ℕ → List ℕ → List ℕ
-printedIn mode default room words t = replyText (ltb 1 mode) (records t) (rewriteReply byDefault t mode default [] room words)
+-- Read by a form, in a mode, with a default, without ranks, an output of `room` bytes and a work room of `words` words; the hops are left out in mode 1.
+unfoldable pub printedIn : Form → ℕ → ℕ → ℕ → ℕ → List ℕ → List ℕ
+printedIn form mode default room words t =
+    replyText (sizeOf form) false (ltb 1 mode) (recordsIn (sizeOf form) t) (rewriteReply form t mode default [] room words)
 
--- By document 01's program of a mode: fill has default 0, the output 8,200 bytes, the work room 16,384 words.
-unfoldable pub printed : ℕ → List ℕ → List ℕ
-printed mode t = printedIn mode 0 8200 16384 t
+-- By the program of a mode, for records of 8 bytes (document 01's) or of 16: fill has default 0, the output room for 1,025 records, the work room 16,384
+-- words.
+unfoldable pub printed : Bool → ℕ → List ℕ → List ℕ
+printed long mode t = printedIn (masking long) mode 0 (1025 * sizeOf (masking long)) 16384 t

@@ -7,8 +7,7 @@ use native.Mathlib.Omega.{arith}
 use lib.ListN.{length, take, drop, set, length-append, length-drop, take-append-drop, drop-of-length-le}
 use lib.Seq.{sets-eq, length-take-le, take-all, take-at, drop-at, drop-drop, take-add}
 use Rattle.theory.specs.Routes.{Route}
-use Rattle.records.specs.Wire.{recordOf, bytesOf, laid}
-use Rattle.records.proofs.Written.{length-bytes}
+use Rattle.records.specs.Sized.{laid}
 
 -- Eight bytes stored one by one are laid.
 pub stored-eight : (o : List ℕ) (k a b c d e f g h : ℕ) → k + 8 ≤ length o
@@ -87,39 +86,3 @@ laid-lent j k bs o le =
     let all : take (length o - j) (drop j o) ≡ drop j o = take-all (length o - j) (drop j o) (omega arith) in
     let none : drop (length o - j) (drop j o) ≡ [] = drop-of-length-le (drop j o) {i = length o - j} (omega arith) in
     rw (all, none, append-nil) (laid-tail j k bs o)
-
--- The records of two lists of routes, one after the other.
-pub bytes-append : (rs qs : List Route) → bytesOf (rs ++ qs) ≡ bytesOf rs ++ bytesOf qs
-unfolding bytesOf
-bytes-append [] qs = refl
-bytes-append (r ∷ rs) qs = ap (λ (l : List ℕ). recordOf r ++ l) (bytes-append rs qs) ∙ sym (append-assoc (recordOf r) (bytesOf rs) (bytesOf qs))
-
--- A record written behind the records of routes.
-pub laid-record : (at : ℕ) (rs : List Route) (r : Route) (o : List ℕ) → 8 * (at + length rs) + 8 ≤ length o
-    → laid (8 * (at + length rs)) (recordOf r) (laid (8 * at) (bytesOf rs) o) ≡ laid (8 * at) (bytesOf (rs ++ (r ∷ []))) o
-unfolding bytesOf
-laid-record at rs r o fits =
-    let n = length-bytes rs in
-    let e : 8 * (at + length rs) ≡ 8 * at + length (bytesOf rs) = omega arith in
-    ap (λ (k : ℕ). laid k (recordOf r) (laid (8 * at) (bytesOf rs) o)) e
-    ∙ laid-then (8 * at) (bytesOf rs) (recordOf r) o (omega arith)
-    ∙ ap (λ (l : List ℕ). laid (8 * at) l o) (sym (bytes-append rs (r ∷ [])))
-
--- Records that fit leave the length.
-pub length-records : (rs : List Route) (o : List ℕ) → 8 * length rs ≤ length o → length (laid 0 (bytesOf rs) o) ≡ length o
-length-records rs o fits = let n = length-bytes rs in length-laid 0 (bytesOf rs) o (omega arith)
-
--- The records of some routes, and then those of others on the part behind them, as a call is lent it.
-pub records-lent : (rs qs : List Route) (o : List ℕ) → 8 * (length rs + length qs) ≤ length o
-    → let p = laid 0 (bytesOf rs) o in
-    take (8 * length rs) p ++ (laid 0 (bytesOf qs) (take (length p - 8 * length rs) (drop (8 * length rs) p)) ++ drop (length p - 8 * length rs) (drop (8 * length rs) p))
-    ≡ laid 0 (bytesOf (rs ++ qs)) o
-records-lent rs qs o fits =
-    let m = length-bytes rs in
-    let n = length-bytes qs in
-    let size = length-records rs o (omega arith) in
-    let at : 8 * length rs + 0 ≡ 0 + length (bytesOf rs) = omega arith in
-    laid-lent (8 * length rs) 0 (bytesOf qs) (laid 0 (bytesOf rs) o) (omega arith)
-    ∙ ap (λ (k : ℕ). laid k (bytesOf qs) (laid 0 (bytesOf rs) o)) at
-    ∙ laid-then 0 (bytesOf rs) (bytesOf qs) o (omega arith)
-    ∙ ap (λ (l : List ℕ). laid 0 l o) (sym (bytes-append rs qs))

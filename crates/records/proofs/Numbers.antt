@@ -10,8 +10,8 @@ use lib.Dec.{eqb}
 use lib.ListN.{length, getD, take, drop, replicate, length-append, length-drop}
 use lib.Seq.{getD-at, getD-drop, take-suc, drop-cons}
 use borrow.Author.Tests.{eqb-true, eq-eqb, ne-eqb}
-use Rattle.records.specs.Wire.{join, Bytes}
-use Rattle.records.specs.Sized.{number, clear, octetsOf}
+use Rattle.records.specs.Wire.{join}
+use Rattle.records.specs.Sized.{number, clear, octetsOf, Bytes}
 
 -- ---- Numbers of octets.
 -- The same octets elsewhere write the same number.
@@ -28,9 +28,9 @@ number-small t bytes k zero = omega arith
 number-small t bytes k (suc n) = omega (arith, number-small t bytes k n, bytes (k + n), pow-suc 256 n)
 
 -- Four octets one by one.
-pub number-four : (t : List ℕ) (k : ℕ) → number t k 4 ≡ join (getD t (k + 0) 0) (getD t (k + 1) 0) (getD t (k + 2) 0) (getD t (k + 3) 0)
+pub number-four : (t : List ℕ) (k : ℕ) → number t k 4 ≡ join (getD t k 0) (getD t (k + 1) 0) (getD t (k + 2) 0) (getD t (k + 3) 0)
 unfolding number
-number-four t k = omega arith
+number-four t k = simp add-zero (omega arith)
 
 -- Eight are four and four.
 pub number-eight : (t : List ℕ) (k : ℕ) → number t k 8 ≡ number t k 4 * 4294967296 + number t (k + 4) 4

@@ -6,7 +6,8 @@ use Prim.Native.Nat.{ℕ, zero, suc, _^_, _<_}
 use native.Mathlib.Omega.{arith}
 use lib.Dec.{ltb}
 use borrow.Author.Tests.{ltb-true}
-use Rattle.records.specs.Wire.{join, Bytes}
+use Rattle.records.specs.Wire.{join}
+use Rattle.records.specs.Sized.{Bytes}
 
 -- Is each element an octet?
 abbrev pub octets : List ℕ → Bool

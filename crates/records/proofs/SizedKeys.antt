@@ -1,5 +1,5 @@
 -- Keys of records and their bytes, over the size of a record: what the functions' proofs cite. Assumes nothing.
-use mathlib.Core.Path.{_≡_, sym, ap, _∙_}
+use mathlib.Core.Path.{_≡_, refl, sym, ap, _∙_}
 use mathlib.Core.List.{List, [], _∷_, _++_}
 use mathlib.Core.Logic.{inl, inr}
 use Prim.Native.Nat.{ℕ, _+_, _-_, _*_, _/_, _%_, _≤_}
@@ -8,9 +8,7 @@ use native.Mathlib.Omega.{arith}
 use lib.ListN.{length}
 use Rattle.theory.specs.Routes.{Route}
 use Rattle.words.specs.Keys.{keyOf}
-use Rattle.records.specs.Wire.{rawAt, routeAt, laid}
-use Rattle.records.specs.Sized.{IsSize, number, rawIn, routeIn, octetsOf, recordIn}
-use Rattle.records.proofs.SizedWire.{raw-at-8, route-at-8}
+use Rattle.records.specs.Sized.{IsSize, number, rawIn, routeIn, octetsOf, recordIn, laid}
 use Rattle.records.proofs.Laid.{laid-then}
 
 -- A size that is not 8 is 16.
@@ -19,11 +17,11 @@ size-long size (inl e) n = absurd (n e)
 size-long size (inr e) n = e
 
 -- In records of 8 bytes the key is the address with 32 zeros, in records of 16 the eight octets.
-pub raw-key-8 : (t : List ℕ) (i : ℕ) → rawAt t i .addr * 4294967296 ≡ keyOf 32 (rawIn 8 t i .addr)
-raw-key-8 t i = ap (λ (r : Route). r .addr * 4294967296) (sym (raw-at-8 t i))
+pub raw-key-8 : (t : List ℕ) (i : ℕ) → rawIn 8 t i .addr * 4294967296 ≡ keyOf 32 (rawIn 8 t i .addr)
+raw-key-8 t i = refl
 
-pub key-8 : (t : List ℕ) (i : ℕ) → routeAt t i .addr * 4294967296 ≡ keyOf 32 (routeIn 8 t i .addr)
-key-8 t i = ap (λ (r : Route). r .addr * 4294967296) (sym (route-at-8 t i))
+pub key-8 : (t : List ℕ) (i : ℕ) → routeIn 8 t i .addr * 4294967296 ≡ keyOf 32 (routeIn 8 t i .addr)
+key-8 t i = refl
 
 pub raw-key-16 : (t : List ℕ) (i : ℕ) → number t (16 * i) 8 ≡ keyOf 64 (rawIn 16 t i .addr)
 unfolding rawIn

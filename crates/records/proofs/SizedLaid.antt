@@ -8,8 +8,7 @@ use lib.ListN.{length, take, drop}
 use lib.Pow.{shl-shr}
 use Rattle.theory.specs.Routes.{Route}
 use Rattle.words.specs.Keys.{keyOf}
-use Rattle.records.specs.Wire.{laid}
-use Rattle.records.specs.Sized.{IsSize, recordIn, bytesIn}
+use Rattle.records.specs.Sized.{IsSize, recordIn, bytesIn, laid}
 use Rattle.records.proofs.Laid.{length-laid, laid-then, laid-lent}
 use Rattle.records.proofs.SizedWritten.{length-record, in-length-bytes}
 

@@ -1,6 +1,6 @@
 -- Laws of records read over their size, 8 bytes or 16: where a record lies, host bits, and a table's routes record by record. Assumes nothing.
 use mathlib.Core.Path.{_≡_, refl, sym, ap, ap₂, _∙_, subst}
-use mathlib.Core.Bool.{cond}
+use mathlib.Core.Bool.{Bool, true, false, cond}
 use mathlib.Core.List.{List, [], _∷_}
 use mathlib.Core.Logic.{inl, inr}
 use Prim.Native.Nat.{ℕ, zero, suc, _+_, _-_, _*_, _%_, _^_, _≤_, _<_}
@@ -12,11 +12,20 @@ use Rattle.theory.specs.Results.{startOf}
 use Rattle.theory.specs.Routes.{Route, Valid, All, cons, miss, hit, longer, lookup}
 use Rattle.theory.proofs.Masked.{masked-matches, masked-valid}
 use Rattle.theory.proofs.Numbered.{counted, numbered}
-use Rattle.records.specs.Wire.{Bytes}
-use Rattle.records.specs.Sized.{IsSize, octetsIn, widthIn, byteIn, number, rawIn, routeIn, routesFromIn, recordsIn, routesIn}
+use Rattle.records.specs.Sized.{IsSize, octetsIn, widthIn, byteIn, number, rawIn, routeIn, routesFromIn, recordsIn, routesIn, Bytes}
+use Rattle.records.specs.declared.Form.{Form}
+use Rattle.records.specs.Forms.{sizeOf}
 use Rattle.records.proofs.Numbers.{number-small}
 
 -- ---- The size.
+-- A form's size is one.
+pub form-size : (form : Form) → IsSize (sizeOf form)
+form-size form = go (form .long)
+  where
+    go : (long : Bool) → IsSize (cond long 16 8)
+    go true = inr refl
+    go false = inl refl
+
 pub size-some : (size : ℕ) → IsSize size → (8 ≤ size) × (size ≤ 16)
 size-some size (inl e) = (omega arith, omega arith)
 size-some size (inr e) = (omega arith, omega arith)

@@ -11,8 +11,7 @@ use lib.Seq.{getD-append-add, take-all, take-add, drop-drop, drop-cons}
 use Rattle.theory.specs.Routes.{Route, Valid, All, cons}
 use Rattle.theory.specs.Results.{masked}
 use Rattle.theory.proofs.Masked.{masked-same}
-use Rattle.records.specs.Wire.{Bytes}
-use Rattle.records.specs.Sized.{IsSize, octetsIn, widthIn, byteIn, number, rawIn, routeIn, routesFromIn, recordsIn, routesIn, RestZero, octetsOf, recordIn, bytesIn}
+use Rattle.records.specs.Sized.{IsSize, octetsIn, widthIn, byteIn, number, rawIn, routeIn, routesFromIn, recordsIn, routesIn, RestZero, octetsOf, recordIn, bytesIn, Bytes}
 use Rattle.records.proofs.Numbers.{number-cong, length-octets, number-octets, octets-number, take-zeros, bytes-after, byte-before, octets-bytes, zeros-bytes}
 use Rattle.records.proofs.SizedReading.{size-parts, size-width, width-most, records-whole}
 

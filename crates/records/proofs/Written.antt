@@ -1,39 +1,50 @@
--- From routes to bytes and back, at 8 bytes a record: reading the records of routes gives the routes. The theorems of SizedWritten at size 8. Assumes nothing.
-use mathlib.Core.Path.{_≡_, refl, sym, ap, _∙_, subst}
-use mathlib.Core.List.{List, _++_}
-use mathlib.Core.Logic.{inl}
-use Prim.Native.Nat.{ℕ, _+_, _*_, _<_}
+-- From routes to bytes and back at records of 8 bytes: the theorems of SizedWritten and SizedLaid at this size. Assumes nothing.
+use mathlib.Core.Path.{_≡_, ap₂}
+use mathlib.Core.List.{List, [], _∷_, _++_}
+use Prim.Native.Nat.{ℕ, _+_, _-_, _*_, _/_, _%_, _≤_, _<_}
 use native.Mathlib.Omega.{arith}
-use lib.ListN.{length}
+use lib.ListN.{length, take, drop}
 use Rattle.theory.specs.Routes.{Route, Valid, All}
-use Rattle.records.specs.Wire.{routesFrom, records, routes, Bytes, bytesOf}
-use Rattle.records.specs.Sized.{IsSize, routesFromIn, routesIn}
-use Rattle.records.proofs.SizedWritten.{in-length-bytes, in-routes-front, in-routes-bytes, in-bytes-small}
-use Rattle.records.proofs.SizedWire.{from-at-8, routes-at-8, bytes-at-8}
+use Rattle.records.specs.Wire.{routesFrom, records, routes, recordOf, bytesOf}
+use Rattle.records.specs.Sized.{Bytes, laid, octetsOf, recordIn}
+use Rattle.records.proofs.SizedWritten as sized
+use Rattle.records.proofs.SizedLaid.{in-bytes-append, in-length-records, in-records-lent}
+use Rattle.records.proofs.Reading.{eight}
 
-eight : IsSize 8
-eight = inl refl
+-- The bytes of a route's record, one by one.
+pub record-bytes : (r : Route)
+    → recordOf r
+    ≡ r .addr / 16777216 % 256 ∷ r .addr / 65536 % 256 ∷ r .addr / 256 % 256 ∷ r .addr % 256 ∷ r .len ∷ r .hop ∷ 0 ∷ 0 ∷ []
+unfolding recordIn octetsOf
+record-bytes r =
+    let a = r .addr in
+    let first : a / 256 / 256 / 256 ≡ a / 16777216 = omega arith in
+    let second : a / 256 / 256 ≡ a / 65536 = omega arith in
+    ap₂ (λ (x y : ℕ). x % 256 ∷ y % 256 ∷ a / 256 % 256 ∷ a % 256 ∷ r .len ∷ r .hop ∷ 0 ∷ 0 ∷ []) first second
 
--- Eight bytes a route.
 pub length-bytes : (rs : List Route) → length (bytesOf rs) ≡ 8 * length rs
-length-bytes rs = ap length (sym (bytes-at-8 rs)) ∙ in-length-bytes 8 eight rs
+length-bytes = sized.in-length-bytes 8 eight
 
--- A record a route.
 pub records-bytes : (rs : List Route) → records (bytesOf rs) ≡ length rs
-records-bytes rs = let e = length-bytes rs in omega arith
+records-bytes = sized.in-records-bytes 8 eight
 
--- The routes of routes' records, and of k records behind them, are those routes, and then those of the k.
 pub routes-front : (rs : List Route) → All (Valid 32) rs → (t : List ℕ) (k : ℕ) → routesFrom (bytesOf rs ++ t) 0 (length rs + k) ≡ rs ++ routesFrom t 0 k
-routes-front rs v t k =
-    sym (from-at-8 (bytesOf rs ++ t) 0 (length rs + k))
-    ∙ ap (λ (l : List ℕ). routesFromIn 8 (l ++ t) 0 (length rs + k)) (sym (bytes-at-8 rs))
-    ∙ in-routes-front 8 eight rs v t k
-    ∙ ap (λ (u : List Route). rs ++ u) (from-at-8 t 0 k)
+routes-front = sized.in-routes-front 8 eight
 
--- The routes of routes' records are those routes.
 pub routes-bytes : (rs : List Route) → All (Valid 32) rs → routes (bytesOf rs) ≡ rs
-routes-bytes rs v = sym (routes-at-8 (bytesOf rs)) ∙ ap (routesIn 8) (sym (bytes-at-8 rs)) ∙ in-routes-bytes 8 eight rs v
+routes-bytes = sized.in-routes-bytes 8 eight
 
--- Routes' records are bytes.
 pub bytes-small : (rs : List Route) → All (Valid 32) rs → All (λ r. r .hop < 256) rs → Bytes (bytesOf rs)
-bytes-small rs v h = subst Bytes (bytes-at-8 rs) (in-bytes-small 8 eight rs v h)
+bytes-small = sized.in-bytes-small 8 eight
+
+pub bytes-append : (rs qs : List Route) → bytesOf (rs ++ qs) ≡ bytesOf rs ++ bytesOf qs
+bytes-append = in-bytes-append 8
+
+pub length-records : (rs : List Route) (o : List ℕ) → 8 * length rs ≤ length o → length (laid 0 (bytesOf rs) o) ≡ length o
+length-records = in-length-records 8 eight
+
+pub records-lent : (rs qs : List Route) (o : List ℕ) → 8 * (length rs + length qs) ≤ length o
+    → let p = laid 0 (bytesOf rs) o in
+    take (8 * length rs) p ++ (laid 0 (bytesOf qs) (take (length p - 8 * length rs) (drop (8 * length rs) p)) ++ drop (length p - 8 * length rs) (drop (8 * length rs) p))
+    ≡ laid 0 (bytesOf (rs ++ qs)) o
+records-lent = in-records-lent 8 eight

@@ -1,4 +1,4 @@
--- The table on the wire, the same over the size of a record, and how its bytes are read.
-pub mod Wire
+-- The table on the wire over the size of a record, the same at 8 bytes, and how a table's bytes are read.
 pub mod Sized
+pub mod Wire
 pub mod Forms

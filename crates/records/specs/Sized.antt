@@ -1,12 +1,12 @@
 -- The table on the wire over the size of a record, in bytes: 8 for addresses of 32 bits, 16 for addresses of 64. The address stands in the first
--- half of a record, first octet first, then the length, the hop, and zeros. At size 8 each definition is that of Wire (proofs/SizedWire).
+-- half of a record, first octet first, then the length, the hop, and zeros.
 use Prim.Native.Nat.{ℕ, zero, suc, _+_, _-_, _*_, _/_, _%_, _≤_, _<_}
 use mathlib.Core.Path.{_≡_}
 use mathlib.Core.Bool.{Bool, true, _&&_}
 use mathlib.Core.List.{List, [], _∷_, _++_}
 use mathlib.Core.Logic.{_⊎_}
 use lib.Dec.{eqb}
-use lib.ListN.{length, getD, replicate}
+use lib.ListN.{length, getD, take, drop, replicate}
 use Rattle.theory.specs.Routes.{Route}
 use Rattle.theory.specs.Results.{masked}
 
@@ -60,11 +60,19 @@ recordsIn size t = length t / size
 unfoldable pub routesIn : ℕ → List ℕ → List Route
 routesIn size t = routesFromIn size t 0 (recordsIn size t)
 
+-- Each element is a byte.
+abbrev pub Bytes : List ℕ → Type 0
+Bytes t = (k : ℕ) → getD t k 0 < 256
+
 -- The bytes of record i behind its hop are zero.
 abbrev pub RestZero : ℕ → List ℕ → ℕ → Type 0
 RestZero size t i = (k : ℕ) → octetsIn size + 2 ≤ k → k < size → byteIn size t i k ≡ 0
 
 -- ---- From routes to bytes.
+
+-- A route from its parts.
+abbrev pub route : ℕ → ℕ → ℕ → Route
+route addr len hop = record { addr = addr; len = len; hop = hop }
 
 -- The last n octets of a number, the first the most significant.
 unfoldable pub octetsOf : ℕ → ℕ → List ℕ
@@ -83,3 +91,7 @@ bytesIn size (r ∷ rs) = recordIn size r ++ bytesIn size rs
 -- A table's bytes with the host bits masked.
 abbrev pub maskedIn : ℕ → List ℕ → List ℕ
 maskedIn size t = bytesIn size (routesIn size t)
+
+-- A list with bytes laid over it from place k on.
+unfoldable pub laid : ℕ → List ℕ → List ℕ → List ℕ
+laid k bytes o = take k o ++ (bytes ++ drop (k + length bytes) o)

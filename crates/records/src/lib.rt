@@ -6,11 +6,23 @@ use words::prefix::masked;
 ghost use mathlib.Core.Path.{_≡_};
 ghost use Prim.Native.Nat.{_+_, _*_, _<_, _≤_};
 ghost use lib.ListN.{length};
-ghost use Rattle.records.specs.Wire.{join, records, rawAt, routeAt, route, recordOf, laid};
+ghost use Rattle.records.specs.Forms.{sizeOf};
+ghost use Rattle.records.specs.Wire.{join, records, rawAt, routeAt, recordOf};
+ghost use Rattle.records.specs.Sized.{IsSize, route, laid};
 
-// How a table's bytes are read: under the strict choice a record with host bits is refused, else they are masked.
+// How a table's bytes are read: under the strict choice a record with host bits is refused, else they are masked; a long table has records of 16
+// bytes, with addresses of 64 bits, else they have 8, with addresses of 32.
 pub struct Form {
     pub strict: bool,
+    pub long: bool,
+}
+
+// The bytes of a record.
+pub fn size_of(form: Form) -> usize
+    ensures { λ r. ⌜ r ≡ sizeOf form ⌝ }
+    ensures { λ r. ⌜ IsSize r ⌝ }
+{
+    if form.long { 16 } else { 8 }
 }
 
 // Four octets as a number, the first the most significant.

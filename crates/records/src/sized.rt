@@ -5,12 +5,12 @@ use crate::raw_addr_at;
 use crate::write_record;
 use words::key::masked_key;
 ghost use mathlib.Core.Path.{_≡_};
-ghost use Prim.Native.Nat.{_+_, _-_, _*_, _/_, _^_, _<_, _≤_};
+ghost use Prim.Native.Nat.{_+_, _-_, _*_, _/_, _%_, _^_, _<_, _≤_};
 ghost use mathlib.Core.List.{[], _∷_};
 ghost use lib.ListN.{length};
 ghost use Rattle.words.specs.Keys.{keyOf};
-ghost use Rattle.records.specs.Wire.{join, route, laid};
-ghost use Rattle.records.specs.Sized.{IsSize, widthIn, number, recordsIn, rawIn, routeIn, recordIn};
+ghost use Rattle.records.specs.Wire.{join};
+ghost use Rattle.records.specs.Sized.{IsSize, widthIn, number, recordsIn, rawIn, routeIn, recordIn, route, laid};
 
 // Eight octets as a number, the first the most significant.
 fn join8(a: u8, b: u8, c: u8, d: u8, e: u8, f: u8, g: u8, h: u8) -> u64
@@ -74,6 +74,18 @@ pub fn key_at(table: &[u8], size: usize, i: usize) -> u64
         (addr_at(table, i) as u64) * 4294967296
     } else {
         masked_key(oct_at(table, 16 * i), length_at(table, 16, i))
+    }
+}
+
+// The key of an address. Of 32 bits, only the lower 32 of the number count.
+pub fn key_of(address: u64, size: usize) -> u64
+    requires { ⌜ IsSize size ⌝ }
+    ensures { λ r. ⌜ r ≡ keyOf (widthIn size) (address % 2 ^ widthIn size) ⌝ }
+{
+    if size == 8 {
+        address % 4294967296 * 4294967296
+    } else {
+        address
     }
 }
 

@@ -1,5 +1,2 @@
--- Laws of what replay keeps, of the rooms that it looks at, and of the ranks that it lends.
-pub mod KeptLaws
-pub mod RankLaws
-pub mod SpecialLaws
-pub mod ChipLaws
+-- Laws of what replay keeps for a case.
+pub mod AnswerLaws

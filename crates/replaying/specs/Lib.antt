@@ -1,7 +1,2 @@
--- What the program replay keeps.
-pub mod Kept
-pub mod Lines
-pub mod SpecialKept
-pub mod ChipKept
-pub mod LiveKept
-pub mod PlanKept
+-- What the program replay keeps for a case.
+pub mod Answers

@@ -46,8 +46,8 @@ pub past-later : (t : List ℕ) (m d i j : ℕ) → Table 32 (routes t) → i �
     → (m < routeAt t j .addr) ⊎ ((m ≡ routeAt t j .addr) × (d < routeAt t j .len))
 past-later t m d i j table le lt p = go (decLt i j)
   where
-    order : Ascending (run t 0 (records t))
-    order = rw (run-whole t) (table .order)
+    order : Ascending (run 8 t 0 (records t))
+    order = rw (run-whole 8 t) (table .order)
 
     next : Before (routeAt t i) (routeAt t j) → (m < routeAt t i .addr) ⊎ ((m ≡ routeAt t i .addr) × (d < routeAt t i .len))
         → (m < routeAt t j .addr) ⊎ ((m ≡ routeAt t j .addr) × (d < routeAt t j .len))
@@ -57,7 +57,7 @@ past-later t m d i j table le lt p = go (decLt i j)
     next (inr h) (inr q) = inr (q .0 ∙ h .0, omega (arith, q .1, h .1))
 
     go : Dec (i < j) → (m < routeAt t j .addr) ⊎ ((m ≡ routeAt t j .addr) × (d < routeAt t j .len))
-    go (yes h) = next (run-before t 0 (records t) i j order (omega arith) h lt) p
+    go (yes h) = next (run-before 8 t 0 (records t) i j order (omega arith) h lt) p
     go (no h) = let e : i ≡ j = omega arith in rw e at p
 
 -- ---- Records that are passed over.
@@ -73,10 +73,10 @@ module _ {t : List ℕ} {k x r : ℕ} where
   -- Left of x: longer prefixes of x start behind record k.
   pub skip-left : {d : ℕ} → Table 32 (routes t) → k < records t → d < 32 → routeAt t k .addr < startOf (32 - (d + 1)) x → Behind t k (startOf (32 - d) x) d r → Skipped t k x r
   skip-left {d} table up short left z =
-      record { high = z .high; other = λ i ge lt l le e q. go l le (z .past i ge lt) (run-rises t 0 (records t) i k order (omega arith) (omega arith) up) e q (decLt d l) }
+      record { high = z .high; other = λ i ge lt l le e q. go l le (z .past i ge lt) (run-rises 8 t 0 (records t) i k order (omega arith) (omega arith) up) e q (decLt d l) }
     where
-      order : Ascending (run t 0 (records t))
-      order = rw (run-whole t) (table .order)
+      order : Ascending (run 8 t 0 (records t))
+      order = rw (run-whole 8 t) (table .order)
 
       go : {a n : ℕ} (l : ℕ) → l ≤ 32 → (startOf (32 - d) x < a) ⊎ ((startOf (32 - d) x ≡ a) × (d < n)) → a ≤ routeAt t k .addr → a ≡ startOf (32 - l) x → n ≡ l → Dec (d < l) → ⊥
       go l le p up′ e q (yes h) = let s = start-rises (32 - (d + 1)) (32 - l) x (omega arith) in omega arith
@@ -92,33 +92,33 @@ module _ {t : List ℕ} {k x r : ℕ} where
 pub record Climbing (t : List ℕ) (x : ℕ) (hops : List ℕ) (k : ℕ) : Type 0 where
   pub size : length hops ≡ 33
   pub high : k ≤ records t
-  pub shown : (l : ℕ) → l ≤ 32 → getD hops l 0 ≡ numberOf (entry (run t k (records t)) (startOf (32 - l) x) l)
+  pub shown : (l : ℕ) → l ≤ 32 → getD hops l 0 ≡ numberOf (entry (run 8 t k (records t)) (startOf (32 - l) x) l)
 
 pub climbing-start : (t : List ℕ) (x : ℕ) → Climbing t x (replicate 33 noHop) (records t)
 climbing-start t x =
     record {
       size = length-replicate 33 noHop;
       high = omega arith;
-      shown = λ l le. getD-replicate 33 l noHop 0 (omega arith) ∙ ap (λ (u : List Route). numberOf (entry u (startOf (32 - l) x) l)) (sym (run-none t (records t) (records t) (omega arith)));
+      shown = λ l le. getD-replicate 33 l noHop 0 (omega arith) ∙ ap (λ (u : List Route). numberOf (entry u (startOf (32 - l) x) l)) (sym (run-none 8 t (records t) (records t) (omega arith)));
     }
 
 -- Records that are not a prefix change nothing there.
 entry-skip : (t : List ℕ) (a l n r : ℕ) → r + n ≤ records t → ((i : ℕ) → r ≤ i → i < r + n → routeAt t i .addr ≡ a → routeAt t i .len ≡ l → ⊥)
-    → entry (run t r (records t)) a l ≡ entry (run t (r + n) (records t)) a l
-entry-skip t a l zero r le f = let e : r ≡ r + 0 = omega arith in ap (λ (k : ℕ). entry (run t k (records t)) a l) e
+    → entry (run 8 t r (records t)) a l ≡ entry (run 8 t (r + n) (records t)) a l
+entry-skip t a l zero r le f = let e : r ≡ r + 0 = omega arith in ap (λ (k : ℕ). entry (run 8 t k (records t)) a l) e
 entry-skip t a l (suc n) r le f =
     let e : suc r + n ≡ r + suc n = omega arith in
-    ap (λ (u : List Route). entry u a l) (run-first t r (records t) (omega arith))
-    ∙ ap (λ (b : Bool). cond b (via (routeAt t r .hop)) (entry (run t (suc r) (records t)) a l)) (same-false (routeAt t r .addr) (routeAt t r .len) a l (f r (omega arith) (omega arith)))
+    ap (λ (u : List Route). entry u a l) (run-first 8 t r (records t) (omega arith))
+    ∙ ap (λ (b : Bool). cond b (via (routeAt t r .hop)) (entry (run 8 t (suc r) (records t)) a l)) (same-false (routeAt t r .addr) (routeAt t r .len) a l (f r (omega arith) (omega arith)))
     ∙ entry-skip t a l n (suc r) (omega arith) (λ i ge lt. f i (omega arith) (omega arith))
-    ∙ ap (λ (k : ℕ). entry (run t k (records t)) a l) e
+    ∙ ap (λ (k : ℕ). entry (run 8 t k (records t)) a l) e
 
 module _ {t : List ℕ} {x : ℕ} {hops : List ℕ} {k : ℕ} (z : Climbing t x hops k) where
   pub climbing-end : k ≤ 0 → hops ≡ row (rung 32 (routes t) x) 0 33
   climbing-end le =
       let e : k ≡ 0 = omega arith in
       row-is (rung 32 (routes t) x) hops (z .size) (λ l up. z .shown l up
-      ∙ ap (λ (u : List Route). numberOf (entry u (startOf (32 - l) x) l)) (ap (λ (j : ℕ). run t j (records t)) e ∙ run-whole t))
+      ∙ ap (λ (u : List Route). numberOf (entry u (startOf (32 - l) x) l)) (ap (λ (j : ℕ). run 8 t j (records t)) e ∙ run-whole 8 t))
 
   module _ {last : ℕ} (is : last + 1 ≡ k) where
     -- The last record is no prefix of x, nor are those passed over.
@@ -129,7 +129,7 @@ module _ {t : List ℕ} {x : ℕ} {hops : List ℕ} {k : ℕ} (z : Climbing t x 
           size = z .size;
           high = omega (arith, s .high, z .high);
           shown = λ l le. z .shown l le ∙ ap numberOf (sym (entry-skip t (startOf (32 - l) x) l (k - r) r (omega (arith, z .high)) (λ i ge lt p q. go i ge lt l le p q (decLt i last))
-              ∙ ap (λ (j : ℕ). entry (run t j (records t)) (startOf (32 - l) x) l) n));
+              ∙ ap (λ (j : ℕ). entry (run 8 t j (records t)) (startOf (32 - l) x) l) n));
         }
       where
         go : (i : ℕ) → r ≤ i → i < r + (k - r) → (l : ℕ) → l ≤ 32 → routeAt t i .addr ≡ startOf (32 - l) x → routeAt t i .len ≡ l → Dec (i < last) → ⊥
@@ -147,13 +147,13 @@ module _ {t : List ℕ} {x : ℕ} {hops : List ℕ} {k : ℕ} (z : Climbing t x 
           shown = λ l le. at l le (eqb (routeAt t last .len) l) refl ∙ ap (λ (u : List Route). numberOf (entry u (startOf (32 - l) x) l)) (sym first);
         }
       where
-        first : run t last (records t) ≡ routeAt t last ∷ run t k (records t)
+        first : run 8 t last (records t) ≡ routeAt t last ∷ run 8 t k (records t)
         first =
             let y : suc last ≡ k = omega arith in
-            run-first t last (records t) (omega (arith, z .high)) ∙ ap (λ (j : ℕ). routeAt t last ∷ run t j (records t)) y
+            run-first 8 t last (records t) (omega (arith, z .high)) ∙ ap (λ (j : ℕ). routeAt t last ∷ run 8 t j (records t)) y
 
         at : (l : ℕ) → l ≤ 32 → (b : Bool) → eqb (routeAt t last .len) l ≡ b
-            → getD (set hops (routeAt t last .len) (routeAt t last .hop)) l 0 ≡ numberOf (entry (routeAt t last ∷ run t k (records t)) (startOf (32 - l) x) l)
+            → getD (set hops (routeAt t last .len) (routeAt t last .hop)) l 0 ≡ numberOf (entry (routeAt t last ∷ run 8 t k (records t)) (startOf (32 - l) x) l)
         at l le true q =
             let p = eqb-true (routeAt t last .len) l q in
             rw (
@@ -170,7 +170,7 @@ module _ {t : List ℕ} {x : ℕ} {hops : List ℕ} {k : ℕ} (z : Climbing t x 
 -- A record of a table is valid.
 pub valid-at : (t : List ℕ) (i : ℕ) → Table 32 (routes t) → i < records t → Valid 32 (routeAt t i)
 valid-at t i table lt =
-    let v = record-within (whole-run 32 table) i (omega arith) lt in
+    let v = record-within (whole-run 8 32 table) i (omega arith) lt in
     record { short = v .short; clean = v .aligned; small = omega (arith, v .high, pow-pos (32 - routeAt t i .len)) }
 
 -- What the test of a record says.

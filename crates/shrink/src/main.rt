@@ -4,9 +4,11 @@ use libc::ENAMETOOLONG;
 use libc::STDIN_FILENO;
 use libc::STDOUT_FILENO;
 use program::answer_in;
+use records::Form;
 ghost use mathlib.Core.Path.{_≡_};
 ghost use Prim.Native.Nat.{_≤_};
 ghost use lib.ListN.{length};
+ghost use Rattle.records.specs.Forms.{byDefault};
 ghost use Rattle.text.specs.Text.{Put};
 ghost use Rattle.program.specs.Printed.{printedIn};
 ghost use Rattle.shrink.specs.Input.{judged};
@@ -105,16 +107,26 @@ fn kept(first: usize) -> usize
 // Lays what is printed for a table into the buffer, from its start, and says where it ends. The room has 160 words for each of the 5,153 nodes
 // that a table can have.
 fn answer(table: &[u8], mode: u32, default: u32, work: &mut [u32; 824480], out: &mut [u8]) -> usize
-    requires { ⌜ 24636 ≤ length (now out) ⌝ }
-    ensures { λ r. ⌜ Put (printedIn mode default 8200 824480 (now (table .entry))) 0 r (now (out .entry)) (now (out .exit)) ⌝ }
+    requires { ⌜ 49236 ≤ length (now out) ⌝ }
+    ensures { λ r. ⌜ Put (printedIn byDefault mode default 8200 824480 (now (table .entry))) 0 r (now (out .entry)) (now (out .exit)) ⌝ }
 {
-    answer_in(table, mode, default, work, out)
+    answer_in(
+        table,
+        Form {
+            strict: false,
+            long: false,
+        },
+        mode,
+        default,
+        work,
+        out,
+    )
 }
 
 // Reads the input and prints the answer.
 fn run(work: &mut [u32; 824480]) {
     let mut table = [0u8; 8200];
-    let mut out = [0u8; 24636];
+    let mut out = [0u8; 49236];
     let size = kept(io::read_full(STDIN_FILENO, &mut table));
     let end = answer(&table[..size], argument(1), argument(2), work, &mut out);
     io::write_all(STDOUT_FILENO, &out[..end]);

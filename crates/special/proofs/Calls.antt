@@ -11,13 +11,14 @@ use Rattle.refusals.specs.Order.{rank, First, None}
 use Rattle.refusals.proofs.Answered.{given-exactly, refused-exactly}
 use Rattle.refusals.proofs.Judged.{Broken}
 use Rattle.refusals.proofs.Ranked.{Ranked, ranked-append, singles}
-use Rattle.records.specs.Wire.{routes, Bytes}
+use Rattle.records.specs.Wire.{routes}
+use Rattle.records.specs.Sized.{Bytes}
 use Rattle.records.specs.declared.Form.{Form}
-use Rattle.records.proofs.HostBits.{route-valid}
+use Rattle.records.proofs.Reading.{route-valid}
 use Rattle.table.specs.Conditions.{Accepted}
 use Rattle.table.specs.TableRules.{tableRules}
-use Rattle.table.proofs.Accepted.{accepted-exactly}
-use Rattle.table.proofs.Tested.{table-tests, table-ranked, table-numbers}
+use Rattle.table.proofs.AtEight.{accepted-exactly}
+use Rattle.table.proofs.AtEight.{table-tests, table-ranked, table-numbers}
 use Rattle.special.specs.declared.Special.{Special}
 use Rattle.special.specs.declared.Special.the-variants.{At, Nothing, Refused}
 use Rattle.special.specs.Calls.{specialSays, specialRules, specialReply, SpecialCondition, no-edition, of-table}

@@ -14,6 +14,7 @@ use Rattle.theory.specs.Routes.{Route, matches, Valid, All, nil, cons, head, la
 use Rattle.theory.proofs.Blocks.{pow-pos, fewer-bits}
 use Rattle.theory.proofs.Routed.{matches-in}
 use Rattle.records.specs.Wire.{routeAt, routesFrom, records, routes}
+use Rattle.records.specs.Sized.{routesFromIn, routesIn}
 use Rattle.special.specs.Ranges.{liesIn, isSpecial, Place, nowhere, at, firstFrom, firstSpecial, LiesInOne, IsFirst}
 
 -- ---- One range: s is no longer than r and matches its address exactly when it has every address of r.
@@ -66,7 +67,7 @@ module _ (ranges : List Route) (t : List ℕ) where
   FirstOf i k (at n) = (n < i + k) × (lies n ≡ true) × ((j : ℕ) → i ≤ j → j < n → lies j ≡ false)
 
   first-of : (i k : ℕ) → FirstOf i k (firstFrom 32 ranges i (routesFrom t i k))
-  unfolding firstFrom routesFrom lies
+  unfolding firstFrom routesFromIn lies
   first-of i zero = λ j l h. absurd (omega arith)
   first-of i (suc k) = go (lies i) refl (firstFrom 32 ranges (suc i) (routesFrom t (suc i) k)) (first-of (suc i) k)
     where
@@ -104,7 +105,7 @@ module _ (ranges : List Route) (t : List ℕ) where
 
     -- The place that is answered is that of the first record that lies in one of the ranges.
     pub first-exactly : (p : Place) → (firstSpecial 32 ranges (routes t) ≡ p) ↔ IsFirst ranges t p
-    unfolding routes
+    unfolding routesIn
     first-exactly p =
         let is = first-is (firstSpecial 32 ranges (routes t)) (first-of 0 (records t)) in
         (λ e. subst (IsFirst ranges t) e is, λ f. place-one (firstSpecial 32 ranges (routes t)) p is f)

@@ -16,8 +16,10 @@ use Rattle.records.proofs.Octets.{octets, all-bytes}
 use Rattle.table.specs.Checking.{checkReply}
 use Rattle.table.specs.Conditions.{Accepted}
 use Rattle.table.specs.TableRules.{recordRules, rulesFrom, tableRules}
-use Rattle.table.proofs.Accepted.{accepted}
-use Rattle.table.proofs.Tables.{accepted-table}
+use Rattle.table.proofs.AtEight.{accepted}
+use Rattle.table.proofs.AtEight.{accepted-table}
+use Rattle.records.specs.Sized.{octetsOf, recordIn, bytesIn, clear, number, rawIn, routeIn, routesFromIn, routesIn}
+use Rattle.table.specs.SizedRules.{recordRulesIn, rulesFromIn, tableRulesIn}
 use Rattle.special.specs.Calls.{rangesReply, specialRules, specialReply}
 use Rattle.special.specs.Editions.{rfc5735, rfc6890, isEdition, Edition, rangesOf}
 use Rattle.special.specs.Ranges.{Ranges}
@@ -31,7 +33,7 @@ Sound ranges =
     × (routes (bytesOf ranges) ≡ ranges)
 
 tested : Sound rfc5735 × Sound rfc6890
-unfolding judge tableRules rulesFrom recordRules rawAt routeAt routesFrom routes bytesOf rfc5735 rfc6890
+unfolding judge tableRulesIn rulesFromIn recordRulesIn rawIn routeIn routesFromIn routesIn bytesIn recordIn octetsOf rfc5735 rfc6890 clear number
 tested = ((refl, refl, refl), (refl, refl, refl))
 
 -- ---- The editions.

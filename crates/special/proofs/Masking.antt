@@ -6,11 +6,12 @@ use mathlib.Core.List.{List, _∷_}
 use Prim.Native.Nat.{ℕ}
 use Rattle.refusals.specs.Rules.{Rule, rule, judge}
 use Rattle.refusals.proofs.Waived.{waived, waived-answer}
-use Rattle.records.specs.Wire.{routes, Bytes, maskedBytes}
+use Rattle.records.specs.Wire.{routes, maskedBytes}
+use Rattle.records.specs.Sized.{Bytes}
 use Rattle.records.specs.declared.Form.{Form}
 use Rattle.records.specs.Forms.{byDefault, strictly}
 use Rattle.table.specs.Conditions.{Accepted}
-use Rattle.table.proofs.Masking.{strict-waived, masked-routes, masked-rules}
+use Rattle.table.proofs.AtEight.{strict-waived, masked-routes, masked-rules}
 use Rattle.special.specs.declared.Special.{Special}
 use Rattle.special.specs.declared.Special.the-variants.{Refused}
 use Rattle.special.specs.Calls.{specialSays, specialRules, specialReply}

@@ -5,7 +5,8 @@ use mathlib.Core.List.{List, [], _∷_}
 use Prim.Native.Nat.{ℕ, suc, _+_, _<_}
 use native.Mathlib.Omega.{arith}
 use Rattle.theory.specs.Routes.{Route}
-use Rattle.records.specs.Wire.{routeAt, records, route}
+use Rattle.records.specs.Wire.{routeAt, records}
+use Rattle.records.specs.Sized.{route}
 use Rattle.records.proofs.Reading.{rest, rest-end, rest-next}
 use Rattle.special.specs.Ranges.{liesIn, isSpecial, nowhere, at, firstFrom}
 

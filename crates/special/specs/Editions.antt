@@ -6,7 +6,8 @@ use mathlib.Core.List.{List, [], _∷_}
 use mathlib.Core.Logic.{_⊎_}
 use lib.Dec.{eqb}
 use Rattle.theory.specs.Routes.{Route}
-use Rattle.records.specs.Wire.{join, route}
+use Rattle.records.specs.Wire.{join}
+use Rattle.records.specs.Sized.{route}
 
 -- The range of an address, by its octets, and a length.
 abbrev pub range : ℕ → ℕ → ℕ → ℕ → ℕ → Route

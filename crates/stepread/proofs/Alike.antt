@@ -5,7 +5,7 @@ use mathlib.Core.List.{List, [], _∷_, _++_}
 use native.Mathlib.Omega.{arith}
 use lib.ListN.{length, getD, take, drop}
 use lib.Seq.{take-suc, take-all, take-take, take-at}
-use Rattle.records.specs.Wire.{laid}
+use Rattle.records.specs.Sized.{laid}
 use Rattle.text.specs.Text.{Put}
 
 -- One byte more is the same.

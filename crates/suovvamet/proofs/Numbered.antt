@@ -4,26 +4,30 @@ use mathlib.Core.Path.{_≡_, refl, sym, ap, ap₂, _∙_}
 use mathlib.Core.Bool.{Bool, false}
 use mathlib.Core.List.{List}
 use mathlib.Core.Logic.{_↔_, _⊎_, inl, inr}
-use Prim.Native.Nat.{ℕ, _*_, _≤_, _<_}
+use Prim.Native.Nat.{ℕ, _≤_, _<_}
 use native.Mathlib.Omega.{arith}
 use lib.IntN.{ℤ}
 use lib.ListN.{length}
 use Rattle.lookup.specs.Calls.{lookupSays, heldSays}
 use Rattle.refusals.specs.Rules.{Reply, gives, refuses, judge}
-use Rattle.table.specs.TableRules.{tableRules}
-use Rattle.table.proofs.Accepted.{accepted-exactly, not-refused, accepted, refused-exactly}
-use Rattle.table.proofs.Tested.{table-numbers}
-use Rattle.table.specs.Conditions.{TableCondition}
+use Rattle.table.specs.SizedRules.{tableRulesIn}
+use Rattle.table.specs.SizedConditions.{TableConditionIn}
+use Rattle.table.specs.Conditions.{TableCondition, FormCondition}
+use Rattle.table.proofs.SizedTested.{in-table-numbers}
+use Rattle.table.proofs.SizedAccepted.{in-accepted-exactly, in-not-refused, in-accepted, in-refused-exactly}
 use Rattle.calls.specs.Conditions.{RewriteCondition, no-mode, retired, large-default, bad-ranks, of-table, short-work, short-output, CoverCondition, of-set, long-query, short-room}
 use Rattle.refusals.specs.Order.{First, None}
 use Rattle.refusals.proofs.Judged.{gives-exactly}
+use Rattle.records.specs.Sized.{IsSize}
 use Rattle.records.specs.Wire.{records, routes}
 use Rattle.records.specs.declared.Form.{Form}
-use Rattle.nodecount.specs.Nodes.{nodes}
-use Rattle.workroom.specs.Needed.{wordsSays}
+use Rattle.records.specs.Forms.{sizeOf}
+use Rattle.records.proofs.Reading.{eight}
+use Rattle.records.proofs.SizedReading.{form-size}
+use Rattle.workroom.specs.Needed.{wordsSays, wordsIn}
 use Rattle.workroom.specs.declared.WorkWords.{WorkWords}
 use Rattle.workroom.specs.declared.WorkWords.the-variants.{Words, Refused as NotNeeded}
-use Rattle.workroom.proofs.Exactly.{words-exactly}
+use Rattle.workroom.proofs.Exactly.{words-exactly, words-refused-exactly}
 use Rattle.calls.specs.Covering.{coveredBy, coversSays}
 use Rattle.calls.specs.Rewriting.{Written, rewrittenSays}
 use Rattle.calls.specs.declared.Rewritten.{Rewritten}
@@ -62,15 +66,15 @@ use Rattle.planner.proofs.Calls.{plan-refused}
 use Rattle.suovvamet.specs.Calls.{CheckPlanInC, PlanInC, RewriteInC, PlainInC, CoversInC, LookupInC, HeldInC, WordsInC, UnroutedInC, SpecialInC, ChipInC}
 
 -- ---- No condition has the number 0.
-table-number : {form : Form} {s : Bool} {t : List ℕ} {n i : ℕ} → TableCondition form s t n i → 1 ≤ n
-table-number {form} {s} {t} {n} {i} c = omega (arith, table-numbers form s t n i c .0)
+table-number : (size : ℕ) → IsSize size → {strict s : Bool} {t : List ℕ} {n i : ℕ} → TableConditionIn size strict s t n i → 1 ≤ n
+table-number size is {strict} {s} {t} {n} {i} c = omega (arith, in-table-numbers size is strict s t n i c .0)
 
 rewrite-number : {form : Form} {t : List ℕ} {mode default : ℕ} {ranks : List ℕ} {room words n i : ℕ} → RewriteCondition form t mode default ranks room words n i → 1 ≤ n
 rewrite-number (no-mode f) = omega arith
 rewrite-number (retired e) = omega arith
 rewrite-number (large-default e h) = omega arith
 rewrite-number (bad-ranks h f) = omega arith
-rewrite-number (of-table c) = table-number c
+rewrite-number {form} (of-table c) = table-number (sizeOf form) (form-size form) c
 rewrite-number (short-work h) = omega arith
 rewrite-number (short-output h) = omega arith
 
@@ -79,41 +83,41 @@ plain-number (no-plain-mode f g) = omega arith
 plain-number (plain-retired e) = omega arith
 plain-number (plain-large-default e h) = omega arith
 plain-number (plain-bad-ranks h f) = omega arith
-plain-number (of-plain-table c) = table-number c
+plain-number {form} (of-plain-table c) = table-number (sizeOf form) (form-size form) c
 plain-number (short-plain-output h) = omega arith
 
 cover-number : {form : Form} {t : List ℕ} {len words n i : ℕ} → CoverCondition form t len words n i → 1 ≤ n
-cover-number (of-set c) = table-number c
+cover-number {form} (of-set c) = table-number (sizeOf form) (form-size form) c
 cover-number (long-query h) = omega arith
 cover-number (short-room h) = omega arith
 
 unrouted-number : {form : Form} {t : List ℕ} {room n i : ℕ} → UnroutedCondition form t room n i → 1 ≤ n
-unrouted-number (of-map c) = table-number c
+unrouted-number {form} (of-map c) = table-number (sizeOf form) (form-size form) c
 unrouted-number (short-list h) = omega arith
 
 special-number : {form : Form} {t : List ℕ} {edition n i : ℕ} → SpecialCondition form t edition n i → 1 ≤ n
 special-number (no-edition f) = omega arith
-special-number (of-searched c) = table-number c
+special-number (of-searched c) = table-number 8 eight c
 
 load-number : {form : Form} {t : List ℕ} {size n i : ℕ} → LoadCondition form t size n i → 1 ≤ n
-load-number (of-loaded c) = table-number c
+load-number (of-loaded c) = table-number 8 eight c
 load-number (wrong-size f) = omega arith
 
 -- ---- Number 10 is the work room's alone.
-table-below : {form : Form} {s : Bool} {t : List ℕ} {n i : ℕ} → TableCondition form s t n i → n ≤ 8
-table-below {form} {s} {t} {n} {i} c = table-numbers form s t n i c .1
+table-below : (size : ℕ) → IsSize size → {strict s : Bool} {t : List ℕ} {n i : ℕ} → TableConditionIn size strict s t n i → n ≤ 8
+table-below size is {strict} {s} {t} {n} {i} c = in-table-numbers size is strict s t n i c .1
 
-rewrite-ten : {form : Form} {t : List ℕ} {mode default : ℕ} {ranks : List ℕ} {room words n i : ℕ} → RewriteCondition form t mode default ranks room words n i → n ≡ 10 → words < 160 * nodes 32 (routes t)
+rewrite-ten : {form : Form} {t : List ℕ} {mode default : ℕ} {ranks : List ℕ} {room words n i : ℕ} → RewriteCondition form t mode default ranks room words n i → n ≡ 10 → words < wordsIn (sizeOf form) t
 rewrite-ten (no-mode f) e = absurd (omega arith)
 rewrite-ten (retired p) e = absurd (omega arith)
 rewrite-ten (large-default d h) e = absurd (omega arith)
 rewrite-ten (bad-ranks h f) e = absurd (omega arith)
-rewrite-ten (of-table c) e = let k = table-below c in absurd (omega arith)
+rewrite-ten {form} (of-table c) e = let k = table-below (sizeOf form) (form-size form) c in absurd (omega arith)
 rewrite-ten (short-work h) e = h
 rewrite-ten (short-output h) e = absurd (omega arith)
 
-cover-ten : {form : Form} {t : List ℕ} {len words n i : ℕ} → CoverCondition form t len words n i → n ≡ 10 → words < 160 * nodes 32 (routes t)
-cover-ten (of-set c) e = let k = table-below c in absurd (omega arith)
+cover-ten : {form : Form} {t : List ℕ} {len words n i : ℕ} → CoverCondition form t len words n i → n ≡ 10 → words < wordsIn (sizeOf form) t
+cover-ten {form} (of-set c) e = let k = table-below (sizeOf form) (form-size form) c in absurd (omega arith)
 cover-ten (long-query h) e = absurd (omega arith)
 cover-ten (short-room h) e = h
 
@@ -198,7 +202,7 @@ module _ (t : List ℕ) (flags address len : ℕ) (work : List ℕ) {number cove
   given-cover : ((b : Bool) × (coversSays (ok .answer) ≡ gives b)) ↔ None (CoverCondition (formBy flags) t len (length work))
   given-cover =
       let exactly = covers-answered (formBy flags) t address len (length work) (ok .answer) w′ (ok .queried) in
-      (λ (b, e). exactly b .0 e .0, λ none. (coveredBy t address len, exactly _ .1 (none, refl)))
+      (λ (b, e). exactly b .0 e .0, λ none. (coveredBy (sizeOf (formBy flags)) t address len, exactly _ .1 (none, refl)))
 
   refused-cover : (n i : ℕ) → coversSays (ok .answer) ≡ refuses n i ↔ First (CoverCondition (formBy flags) t len (length work)) n i
   refused-cover n i =
@@ -214,66 +218,68 @@ module _ (t : List ℕ) (flags address len : ℕ) (work : List ℕ) {number cove
   covers-in-c-refused = numbered (coversSays (ok .answer)) given-cover refused-cover (λ n i f. cover-number (f .0)) (ok .number-is) (ok .index-is)
 
 -- ---- A call that judges a table, of a set or of a map, and nothing else.
-module _ {A : Type 0} (form : Form) (s : Bool) (t : List ℕ) (v : A) (q : Reply A) (judged : q ≡ judge (tableRules form s t) v) where
-  given-table : ((a : A) × (q ≡ gives a)) ↔ None (TableCondition form s t)
+module _ {A : Type 0} (size : ℕ) (is : IsSize size) (strict s : Bool) (t : List ℕ) (v : A) (q : Reply A) (judged : q ≡ judge (tableRulesIn size strict s t) v) where
+  given-table : ((a : A) × (q ≡ gives a)) ↔ None (TableConditionIn size strict s t)
   given-table = (
-    λ (a, e). accepted-exactly form s t .0 (accepted form s t v (sym judged ∙ e)),
-    λ none. (v, judged ∙ not-refused form s t v (accepted-exactly form s t .1 none)),
+    λ (a, e). in-accepted-exactly size is strict s t .0 (in-accepted size is strict s t v (sym judged ∙ e)),
+    λ none. (v, judged ∙ in-not-refused size is strict s t v (in-accepted-exactly size is strict s t .1 none)),
   )
 
-  refused-table : (n i : ℕ) → q ≡ refuses n i ↔ First (TableCondition form s t) n i
+  refused-table : (n i : ℕ) → q ≡ refuses n i ↔ First (TableConditionIn size strict s t) n i
   refused-table n i = (
-    λ e. refused-exactly form s t v n i .0 (sym judged ∙ e),
-    λ f. judged ∙ refused-exactly form s t v n i .1 f,
+    λ e. in-refused-exactly size is strict s t v n i .0 (sym judged ∙ e),
+    λ f. judged ∙ in-refused-exactly size is strict s t v n i .1 f,
   )
+
+  -- The number, for a call that answers so, is 0 exactly when no condition holds,
+  table-answered : {number index : ℕ} → number ≡ numberOf q → index ≡ indexOf q → number ≡ 0 ↔ None (TableConditionIn size strict s t)
+  table-answered e f = answered q given-table refused-table (λ n i c. table-number size is (c .0)) e f
+
+  -- and is, with the index, the first that does else.
+  table-refused : {number index : ℕ} → number ≡ numberOf q → index ≡ indexOf q → (n i : ℕ) → ((1 ≤ n) × (number ≡ n) × (index ≡ i)) ↔ First (TableConditionIn size strict s t) n i
+  table-refused e f = numbered q given-table refused-table (λ n i c. table-number size is (c .0)) e f
 
 -- ---- A lookup.
 module _ (t : List ℕ) (flags address : ℕ) {number found hop len index : ℕ} (ok : LookupInC t flags address number found hop len index) where
   -- The result is 0 exactly when no condition of document 01 holds.
-  pub lookup-in-c-answered : number ≡ 0 ↔ None (TableCondition (formBy flags) false t)
+  pub lookup-in-c-answered : number ≡ 0 ↔ None (FormCondition (formBy flags) false t)
   lookup-in-c-answered =
-      answered (lookupSays (ok .answer)) (given-table (formBy flags) false t _ _ (ok .looked)) (refused-table (formBy flags) false t _ _ (ok .looked))
-      (λ n i f. table-number (f .0)) (ok .number-is) (ok .index-is)
+      table-answered (sizeOf (formBy flags)) (form-size (formBy flags)) (formBy flags .strict) false t _ (lookupSays (ok .answer)) (ok .looked) (ok .number-is) (ok .index-is)
 
   -- Else it is, with the index, the first that holds.
-  pub lookup-in-c-refused : (n i : ℕ) → ((1 ≤ n) × (number ≡ n) × (index ≡ i)) ↔ First (TableCondition (formBy flags) false t) n i
+  pub lookup-in-c-refused : (n i : ℕ) → ((1 ≤ n) × (number ≡ n) × (index ≡ i)) ↔ First (FormCondition (formBy flags) false t) n i
   lookup-in-c-refused =
-      numbered (lookupSays (ok .answer)) (given-table (formBy flags) false t _ _ (ok .looked)) (refused-table (formBy flags) false t _ _ (ok .looked))
-      (λ n i f. table-number (f .0)) (ok .number-is) (ok .index-is)
+      table-refused (sizeOf (formBy flags)) (form-size (formBy flags)) (formBy flags .strict) false t _ (lookupSays (ok .answer)) (ok .looked) (ok .number-is) (ok .index-is)
 
 -- ---- Addresses held.
 module _ (t : List ℕ) (flags : ℕ) {number addresses index : ℕ} (ok : HeldInC t flags number addresses index) where
   -- The result is 0 exactly when no condition of document 01 holds.
   pub held-in-c-answered : number ≡ 0 ↔ None (TableCondition (formBy flags) false t)
   held-in-c-answered =
-      answered (heldSays (ok .answer)) (given-table (formBy flags) false t _ _ (ok .held)) (refused-table (formBy flags) false t _ _ (ok .held))
-      (λ n i f. table-number (f .0)) (ok .number-is) (ok .index-is)
+      table-answered 8 eight (formBy flags .strict) false t _ (heldSays (ok .answer)) (ok .held) (ok .number-is) (ok .index-is)
 
   -- Else it is, with the index, the first that holds.
   pub held-in-c-refused : (n i : ℕ) → ((1 ≤ n) × (number ≡ n) × (index ≡ i)) ↔ First (TableCondition (formBy flags) false t) n i
   held-in-c-refused =
-      numbered (heldSays (ok .answer)) (given-table (formBy flags) false t _ _ (ok .held)) (refused-table (formBy flags) false t _ _ (ok .held))
-      (λ n i f. table-number (f .0)) (ok .number-is) (ok .index-is)
+      table-refused 8 eight (formBy flags .strict) false t _ (heldSays (ok .answer)) (ok .held) (ok .number-is) (ok .index-is)
 
 -- ---- Work words.
 module _ (t : List ℕ) (flags isSet : ℕ) {number needed index : ℕ} (ok : WordsInC t flags isSet number needed index) where
   -- The result is 0 exactly when no condition of document 01 holds.
-  pub words-in-c-answered : number ≡ 0 ↔ None (TableCondition (formBy flags) (isSetBy isSet) t)
+  pub words-in-c-answered : number ≡ 0 ↔ None (FormCondition (formBy flags) (isSetBy isSet) t)
   words-in-c-answered =
-      answered (wordsSays (ok .answer)) (given-table (formBy flags) _ t _ _ (ok .replies)) (refused-table (formBy flags) _ t _ _ (ok .replies))
-      (λ n i f. table-number (f .0)) (ok .number-is) (ok .index-is)
+      table-answered (sizeOf (formBy flags)) (form-size (formBy flags)) (formBy flags .strict) (isSetBy isSet) t _ (wordsSays (ok .answer)) (ok .replies) (ok .number-is) (ok .index-is)
 
   -- Else it is, with the index, the first that holds.
-  pub words-in-c-refused : (n i : ℕ) → ((1 ≤ n) × (number ≡ n) × (index ≡ i)) ↔ First (TableCondition (formBy flags) (isSetBy isSet) t) n i
+  pub words-in-c-refused : (n i : ℕ) → ((1 ≤ n) × (number ≡ n) × (index ≡ i)) ↔ First (FormCondition (formBy flags) (isSetBy isSet) t) n i
   words-in-c-refused =
-      numbered (wordsSays (ok .answer)) (given-table (formBy flags) _ t _ _ (ok .replies)) (refused-table (formBy flags) _ t _ _ (ok .replies))
-      (λ n i f. table-number (f .0)) (ok .number-is) (ok .index-is)
+      table-refused (sizeOf (formBy flags)) (form-size (formBy flags)) (formBy flags .strict) (isSetBy isSet) t _ (wordsSays (ok .answer)) (ok .replies) (ok .number-is) (ok .index-is)
 
   module _ (zero : number ≡ 0) where
-    needed-is : (r : WorkWords) → ok .answer ≡ r → needed ≡ 160 * nodes 32 (routes t)
+    needed-is : (r : WorkWords) → ok .answer ≡ r → needed ≡ wordsIn (sizeOf (formBy flags)) t
     needed-is (Words n) e = ok .words-is ∙ ap wordsOf e ∙ sym (words-exactly (formBy flags) (isSetBy isSet) t (ok .answer) (ok .replies) n .0 e .1)
     needed-is (NotNeeded m i) e =
-        let k = table-number (refused-table (formBy flags) (isSetBy isSet) t _ _ (ok .replies) m i .0 (ap wordsSays e) .0) in
+        let k = table-number (sizeOf (formBy flags)) (form-size (formBy flags)) (words-refused-exactly (formBy flags) (isSetBy isSet) t (ok .answer) (ok .replies) m i .0 e .0) in
         let same = ok .number-is ∙ ap (λ (r : WorkWords). numberOf (wordsSays r)) e in
         absurd (omega arith)
 
@@ -296,7 +302,7 @@ module _ (t : List ℕ) (flags : ℕ) (o : List ℕ) {number count index : ℕ} 
       let exactly = unrouted-listed (formBy flags) t o (ok .answer) o′ (ok .lists) in
       let none = none-exactly (formBy flags) t (length o) in (
         λ (n, e). let f = exactly n .0 (listed-same (ok .answer) (Listing n) e) in none .1 (f .0, f .1),
-        λ no. let f = none .0 no in (length (holesOf t), ap listedSays (exactly (length (holesOf t)) .1 (f .0, f .1, refl))),
+        λ no. let f = none .0 no in (length (holesOf (sizeOf (formBy flags)) t), ap listedSays (exactly (length (holesOf (sizeOf (formBy flags)) t)) .1 (f .0, f .1, refl))),
       )
 
   refused-list : (n i : ℕ) → listedSays (ok .answer) ≡ refuses n i ↔ First (UnroutedCondition (formBy flags) t (length o)) n i

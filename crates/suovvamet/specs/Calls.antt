@@ -5,6 +5,7 @@ use mathlib.Core.Path.{_≡_}
 use mathlib.Core.List.{List}
 use lib.IntN.{ℤ}
 use lib.ListN.{length}
+use Rattle.records.specs.Forms.{sizeOf}
 use Rattle.lookup.specs.Calls.{lookupSays, lookupReply, heldSays, heldReply}
 use Rattle.lookup.specs.declared.answers.Lookup.{Lookup}
 use Rattle.lookup.specs.declared.answers.AddressesHeld.{AddressesHeld}
@@ -40,7 +41,7 @@ pub record RewriteInC (t : List ℕ) (flags mode default : ℕ) (ranks o work : 
 -- Of a rewrite by the plain engine, which is lent no room.
 pub record PlainInC (t : List ℕ) (flags mode default : ℕ) (ranks o : List ℕ) (number count : ℕ) (change : ℤ) (index : ℕ) (o′ : List ℕ) : Type 0 where
   pub answer : Rewritten
-  pub rewrites : RewritesBy (plainRules (formBy flags) t mode default ranks (length o)) t mode default ranks o answer o′
+  pub rewrites : RewritesBy (sizeOf (formBy flags)) (plainRules (formBy flags) t mode default ranks (length o)) t mode default ranks o answer o′
   pub number-is : number ≡ numberOf (rewrittenSays answer)
   pub index-is : index ≡ indexOf (rewrittenSays answer)
   pub count-is : count ≡ countOf answer

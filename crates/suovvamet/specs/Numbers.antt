@@ -1,6 +1,6 @@
 -- The flags of the calls, and their answers, in numbers. The count and the change of a rewrite are `countOf` and `changeOf` of the crate calls, the count
 -- of a list of what has no route is `listedCount` of the crate holes.
-use Prim.Native.Nat.{ℕ, _%_}
+use Prim.Native.Nat.{ℕ, _/_, _%_}
 use Rattle.refusals.specs.Rules.{Reply, gives, refuses}
 use Rattle.records.specs.declared.Form.{Form}
 use Rattle.lookup.specs.declared.answers.Lookup.{Lookup}
@@ -24,9 +24,9 @@ use Rattle.calls.specs.declared.Covers.the-variants.{Covered, Uncovered, Refuse
 
 -- ---- Of any call.
 
--- How a table is read: strictly where the lowest bit of the flags is set. The others are ignored.
+-- How a table is read: strictly where the lowest bit of the flags is set, and as one of records of 16 bytes where the next is. The others are ignored.
 abbrev pub formBy : ℕ → Form
-formBy flags = record { strict = not (eqb (flags % 2) 0) }
+formBy flags = record { strict = not (eqb (flags % 2) 0); long = not (eqb (flags / 2 % 2) 0) }
 
 -- Document 01's number of a refusal, 0 where there is none.
 abbrev pub numberOf : {A : Type 0} → Reply A → ℕ

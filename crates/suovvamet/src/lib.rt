@@ -28,12 +28,13 @@ ghost use Rattle.planner.specs.Planning.{plannedSays};
 ghost use Rattle.suovvamet.specs.Numbers.{formBy, numberOf, indexOf, coveredOf, foundOf, hopOf, lengthOf, addressesOf, wordsOf, namedOf, recordOf, slotsUsed, yesOf, givenOf, stepsGiven};
 ghost use Rattle.suovvamet.specs.Calls.{RewriteInC, PlainInC, CoversInC, LookupInC, HeldInC, WordsInC, UnroutedInC, SpecialInC, ChipInC, CheckPlanInC, PlanInC};
 
-// How a table is read: strictly where the lowest bit of the flags is set. The others are ignored.
+// How a table is read: strictly where the lowest bit of the flags is set, and as one of records of 16 bytes where the next is. The others are ignored.
 fn form_of(flags: u32) -> Form
     ensures { λ f. ⌜ f ≡ formBy flags ⌝ }
 {
     Form {
         strict: flags % 2 != 0,
+        long: flags / 2 % 2 != 0,
     }
 }
 
@@ -174,7 +175,7 @@ fn covers_covered(r: Covers) -> u32
 pub extern "C" fn suovvamet_covers(
     table: &[u8],
     flags: u32,
-    address: u32,
+    address: u64,
     length: u32,
     work: &mut [u32],
     covered: &mut u32,
@@ -244,7 +245,7 @@ fn lookup_length(r: Lookup) -> u32
 pub extern "C" fn suovvamet_lookup(
     table: &[u8],
     flags: u32,
-    address: u32,
+    address: u64,
     found: &mut u32,
     hop: &mut u32,
     length: &mut u32,

@@ -1,7 +1,6 @@
--- The laws of a table's check, in the order to read them. The theorems to look for, over the size of a record and at 8 bytes: Accepted.accepted-exactly and
--- refused-exactly, Tables.accepted-table, table-accepted and bytes-routes, Masking.strict-waived and masked-rules, those of Alone, of any call that judges a
--- table and nothing else, and of Checking, of the check. Over the size they are proved (Sized.., with `in-` before the name); AtSize8 says that at size 8
--- the rules and facts are those of records of 8 bytes, and gives the rest.
+-- The laws of a table's check, in the order to read them, over the size of a record. The theorems to look for: SizedAccepted.in-accepted-exactly and
+-- in-refused-exactly, SizedTables.in-accepted-table, in-table-accepted and in-bytes-routes, SizedMasking.in-strict-waived and in-masked-rules, those of
+-- SizedAlone, of any call that judges a table and nothing else, and of SizedChecking, of the check. AtEight has those that are cited at 8 bytes.
 pub mod SizedJudging
 pub mod SizedTested
 pub mod SizedAccepted
@@ -9,10 +8,4 @@ pub mod SizedTables
 pub mod SizedMasking
 pub mod SizedAlone
 pub mod SizedChecking
-pub mod AtSize8
-pub mod Tested
-pub mod Accepted
-pub mod Tables
-pub mod Masking
-pub mod Alone
-pub mod Checking
+pub mod AtEight

@@ -15,8 +15,7 @@ use Rattle.refusals.specs.Order.{First, None}
 use Rattle.refusals.proofs.Shown.{shown, decided}
 use Rattle.refusals.proofs.Judged.{gives-exactly, refuses-exactly}
 use Rattle.records.specs.Sized.{IsSize, recordsIn}
-use Rattle.table.specs.TableRules.{topHop}
-use Rattle.table.specs.SizedRules.{tableRulesIn}
+use Rattle.table.specs.SizedRules.{tableRulesIn, topHop}
 use Rattle.table.specs.SizedConditions.{RecordConditionIn, too-long, host-bits, bad-tail, not-after, TableConditionIn, not-whole, too-many, of-record, KeptIn, AcceptedIn}
 use Rattle.table.proofs.SizedTested.{in-length-shown, in-host-shown, in-tail-shown, in-order-shown, in-table-tests, in-table-ranked}
 

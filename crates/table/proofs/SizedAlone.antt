@@ -1,4 +1,4 @@
--- Any call that judges a table, of a set or of a map and read by a size strict, and nothing else: `says` is what its answers say, `r` its answer, `a` the
+-- Any call that judges a table, of a set or of a map and and nothing else: `says` is what its answers say, `r` its answer, `a` the
 -- value that it gives for an accepted table. Assumes nothing.
 use mathlib.Core.Path.{_≡_}
 use mathlib.Core.Bool.{Bool}

@@ -8,8 +8,7 @@ use Prim.Native.Nat.{ℕ, _/_}
 use native.Mathlib.Omega.{arith}
 use Rattle.refusals.specs.Rules.{Rule, judge}
 use Rattle.refusals.specs.Order.{First}
-use Rattle.records.specs.Wire.{Bytes}
-use Rattle.records.specs.Sized.{IsSize, recordsIn, maskedIn}
+use Rattle.records.specs.Sized.{IsSize, recordsIn, maskedIn, Bytes}
 use Rattle.table.specs.declared.Checked.{Checked}
 use Rattle.table.specs.declared.Checked.the-variants.{Valid, Refused}
 use Rattle.table.specs.Checking.{checkedSays, checkReplyIn}

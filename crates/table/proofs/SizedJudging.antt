@@ -10,8 +10,7 @@ use lib.ListN.{length}
 use borrow.Author.Tests.{eq-eqb, ne-eqb, le-leb, lt-leb}
 use Rattle.refusals.specs.Rules.{Rule, rule, gives, refuses, judge, broken}
 use Rattle.records.specs.Sized.{widthIn, routeIn, recordsIn}
-use Rattle.table.specs.TableRules.{before}
-use Rattle.table.specs.SizedRules.{hostKeptIn, tailKeptIn, inOrderIn, recordRulesIn, rulesFromIn, tableRulesIn}
+use Rattle.table.specs.SizedRules.{hostKeptIn, tailKeptIn, inOrderIn, recordRulesIn, rulesFromIn, tableRulesIn, before}
 
 -- ---- One record: rules 5 to 8 by the outcome of each.
 abbrev fourRules : ℕ → Bool → Bool → Bool → Bool → List Rule

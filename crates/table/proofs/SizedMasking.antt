@@ -13,12 +13,10 @@ use Rattle.theory.proofs.Lists.{all-map}
 use Rattle.refusals.specs.Rules.{Rule, rule, Reply, refuses, judge}
 use Rattle.refusals.proofs.Shown.{passes}
 use Rattle.refusals.proofs.Waived.{waived, waived-append, waived-answer}
-use Rattle.records.specs.Wire.{Bytes}
-use Rattle.records.specs.Sized.{IsSize, octetsIn, byteIn, routeIn, routesFromIn, recordsIn, routesIn, bytesIn, maskedIn}
+use Rattle.records.specs.Sized.{IsSize, octetsIn, byteIn, routeIn, routesFromIn, recordsIn, routesIn, bytesIn, maskedIn, Bytes}
 use Rattle.records.proofs.SizedReading.{records-whole, in-hop, in-valid, in-length-routes}
 use Rattle.records.proofs.SizedWritten.{in-length-bytes, in-routes-bytes, in-bytes-small, in-route-head, in-route-shift}
-use Rattle.table.specs.TableRules.{topHop, before}
-use Rattle.table.specs.SizedRules.{hostKeptIn, tailKeptIn, inOrderIn, recordRulesIn, rulesFromIn, tableRulesIn}
+use Rattle.table.specs.SizedRules.{hostKeptIn, tailKeptIn, inOrderIn, recordRulesIn, rulesFromIn, tableRulesIn, topHop, before}
 use Rattle.table.specs.SizedConditions.{HostKeptIn, AcceptedIn, LawfulIn}
 use Rattle.table.proofs.SizedTables.{in-lawful, in-accepted-written}
 use Rattle.table.proofs.SizedTested.{in-host-shown, clear-rest}

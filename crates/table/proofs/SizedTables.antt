@@ -2,7 +2,7 @@
 -- strictly accepted bytes are their routes written down. Assumes nothing.
 use Prim.{tt}
 use mathlib.Core.Path.{_≡_, refl, sym, ap, _∙_, subst}
-use mathlib.Core.Bool.{Bool, true}
+use mathlib.Core.Bool.{Bool, true, false}
 use mathlib.Core.List.{List, [], _∷_, _++_}
 use Prim.Native.Nat.{ℕ, zero, suc, _+_, _-_, _*_, _%_, _^_, _≤_, _<_}
 use native.Mathlib.Nat.{mul-comm, mul-mod-left}
@@ -12,18 +12,25 @@ use Rattle.theory.specs.Routes.{Route, Valid, All, nil, cons, Before, Ascending
 use Rattle.theory.proofs.Lists.{all-map}
 use Rattle.theory.proofs.Order.{before-trans}
 use Rattle.refusals.specs.Rules.{gives, judge}
-use Rattle.records.specs.Wire.{Bytes}
-use Rattle.records.specs.Sized.{IsSize, widthIn, rawIn, routeIn, routesFromIn, recordsIn, routesIn, recordIn, bytesIn}
+use Rattle.records.specs.Sized.{IsSize, widthIn, rawIn, routeIn, routesFromIn, recordsIn, routesIn, recordIn, bytesIn, Bytes}
 use Rattle.records.proofs.SizedReading.{records-whole, in-hop, in-raw, in-valid, in-length-from, in-length-routes}
 use Rattle.records.proofs.SizedWritten.{in-length-bytes, in-records-bytes, in-byte-shift, in-raw-shift, in-route-shift, in-hop-head, in-rest-head, in-rest-shift, in-raw-head, in-route-head, in-bytes-back}
-use Rattle.table.specs.TableRules.{topHop}
-use Rattle.table.specs.SizedRules.{tableRulesIn}
+use Rattle.table.specs.SizedRules.{tableRulesIn, topHop}
 use Rattle.table.specs.SizedConditions.{TailKeptIn, OrderKeptIn, AcceptedIn, LawfulIn}
 use Rattle.table.proofs.SizedAccepted.{in-not-refused, in-accepted}
 
 -- ---- The order.
 front : (r s : Route) (rs : List Route) → Before r s → Ascending (s ∷ rs) → Ascending (r ∷ s ∷ rs)
 front r s rs b (first bs a) = first (cons b (all-map (λ u c. before-trans r s u b c) bs)) (first bs a)
+
+-- Hops in range are below 64.
+pub hops-below : (s : Bool) {rs : List Route} → All (λ r. r .hop ≤ topHop s) rs → All (λ r. r .hop < 64) rs
+hops-below true h = all-map (λ r l. omega arith) h
+hops-below false h = all-map (λ r l. omega arith) h
+
+-- A set's hops are zero.
+pub set-hops : {rs : List Route} → All (λ r. r .hop ≤ topHop true) rs → All (λ r. r .hop ≡ 0) rs
+set-hops h = all-map (λ r l. omega arith) h
 
 module _ (size : ℕ) (is : IsSize size) where
   -- ---- From accepted bytes to routes.

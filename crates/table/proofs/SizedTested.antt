@@ -19,8 +19,7 @@ use Rattle.refusals.proofs.Ranked.{at, broken-append, broken-left, broken-right
 use Rattle.records.specs.Sized.{IsSize, octetsIn, widthIn, byteIn, clear, rawIn, routeIn, recordsIn, RestZero}
 use Rattle.records.proofs.SizedReading.{size-parts}
 use Rattle.records.proofs.Numbers.{clear-zero, zero-clear}
-use Rattle.table.specs.TableRules.{topHop, before}
-use Rattle.table.specs.SizedRules.{hostKeptIn, tailKeptIn, inOrderIn, recordRulesIn, rulesFromIn, tableRulesIn}
+use Rattle.table.specs.SizedRules.{hostKeptIn, tailKeptIn, inOrderIn, recordRulesIn, rulesFromIn, tableRulesIn, topHop, before}
 use Rattle.table.specs.SizedConditions.{LengthKeptIn, HostClearIn, HostKeptIn, TailKeptIn, OrderKeptIn, RecordConditionIn, too-long, host-bits, bad-tail, not-after, TableConditionIn, not-whole, too-many, of-record}
 
 -- ---- Each rule's test says whether its fact holds.

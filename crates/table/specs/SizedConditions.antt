@@ -1,6 +1,6 @@
 -- What the rules 3 to 8 mean over the size of a record, as facts: the conditions for a table's refusal, each by its number and, for 5 to 8, its record's
--- index (else 0), and what an accepted table keeps. `strict` says that a record with host bits is refused. At size 8 they are those of Conditions
--- (proofs/AtSize8). No contract cites these; theorems of proofs/ say that the replies are these facts.
+-- index (else 0), and what an accepted table keeps. `strict` says that a record with host bits is refused. No contract cites these; theorems of proofs/
+-- say that the replies are these facts.
 use Prim.{Unit}
 use Prim.Native.Nat.{ℕ, zero, suc, _+_, _-_, _%_, _^_, _≤_, _<_}
 use mathlib.Core.Path.{_≡_}
@@ -9,7 +9,7 @@ use mathlib.Core.List.{List}
 use lib.ListN.{length}
 use Rattle.theory.specs.Routes.{Route, All, Before, Table}
 use Rattle.records.specs.Sized.{octetsIn, widthIn, byteIn, rawIn, routeIn, recordsIn, RestZero}
-use Rattle.table.specs.TableRules.{topHop}
+use Rattle.table.specs.SizedRules.{topHop}
 
 -- ---- Of record i.
 

@@ -1,14 +1,18 @@
 -- The rules 3 to 8 over the size of a record, 8 bytes or 16, as tests, by document 01's numbers: addresses have 4 * size bits, and the bytes behind the
--- hop are zero. `strict` says that a record with host bits is refused. At size 8 they are those of TableRules (proofs/AtSize8).
+-- hop are zero. `strict` says that a record with host bits is refused.
 use Prim.Native.Nat.{ℕ, zero, suc, _+_, _-_, _*_, _%_}
-use mathlib.Core.Bool.{Bool, true, not, _||_, _&&_}
+use mathlib.Core.Bool.{Bool, true, cond, not, _||_, _&&_}
 use mathlib.Core.List.{List, [], _∷_, _++_}
-use lib.Dec.{leb, eqb}
+use lib.Dec.{leb, ltb, eqb}
 use lib.ListN.{length}
+use Rattle.theory.specs.Routes.{Route}
 use Rattle.words.specs.Prefix.{hostClear}
 use Rattle.refusals.specs.Rules.{Rule, rule}
 use Rattle.records.specs.Sized.{octetsIn, widthIn, byteIn, clear, rawIn, routeIn, recordsIn}
-use Rattle.table.specs.TableRules.{topHop, before}
+
+-- The largest hop: 0 in a set, 63 in a map.
+abbrev pub topHop : Bool → ℕ
+topHop isSet = cond isSet 0 63
 
 -- No host bits are set, where the choice is strict.
 abbrev pub hostKeptIn : ℕ → Bool → List ℕ → ℕ → Bool
@@ -17,6 +21,10 @@ hostKeptIn size strict t i = not strict || hostClear (widthIn size) (rawIn size 
 -- The byte after the length is a hop, and those behind it are zero.
 abbrev pub tailKeptIn : ℕ → Bool → List ℕ → ℕ → Bool
 tailKeptIn size isSet t i = leb (byteIn size t i (octetsIn size + 1)) (topHop isSet) && clear t (size * i + (octetsIn size + 2)) (octetsIn size - 2)
+
+-- One route stands strictly before another: by address, then by length.
+abbrev pub before : Route → Route → Bool
+before r s = ltb (r .addr) (s .addr) || (eqb (r .addr) (s .addr) && ltb (r .len) (s .len))
 
 -- Record i stands strictly after the one before it, if there is one.
 abbrev pub inOrderIn : ℕ → List ℕ → ℕ → Bool

@@ -11,8 +11,7 @@ ghost use Prim.Native.Nat.{_-_, _≤_, _<_};
 ghost use lib.ListN.{length};
 ghost use Rattle.refusals.specs.Rules.{broken};
 ghost use Rattle.records.specs.Sized.{IsSize, clear, recordsIn};
-ghost use Rattle.table.specs.TableRules.{topHop};
-ghost use Rattle.table.specs.SizedRules.{hostKeptIn, tailKeptIn, inOrderIn, recordRulesIn};
+ghost use Rattle.table.specs.SizedRules.{hostKeptIn, tailKeptIn, inOrderIn, recordRulesIn, topHop};
 
 // The largest hop.
 pub fn top_hop(is_set: bool) -> u8

@@ -6,7 +6,7 @@ use native.Mathlib.Numerals.{add-one}
 use native.Mathlib.Omega.{arith}
 use lib.ListN.{length, take, drop, set, length-append}
 use lib.Seq.{set-split}
-use Rattle.records.specs.Wire.{laid}
+use Rattle.records.specs.Sized.{laid}
 use Rattle.records.proofs.Laid.{laid-none, laid-then, length-laid}
 use Rattle.text.specs.Text.{Put}
 

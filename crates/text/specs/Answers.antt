@@ -6,7 +6,7 @@ use lib.IntN.{pos, _-ℤ_}
 use lib.ListN.{length, take}
 use Rattle.theory.specs.Routes.{Route}
 use Rattle.refusals.specs.Rules.{Reply, gives, refuses}
-use Rattle.records.specs.Wire.{routes}
+use Rattle.records.specs.Sized.{routesIn}
 use Rattle.lookup.specs.declared.answers.Lookup.{Lookup}
 use Rattle.lookup.specs.declared.answers.Lookup.the-variants.{Route as Found, NoRoute, Refused as NotLooked}
 use Rattle.lookup.specs.declared.answers.AddressesHeld.{AddressesHeld}
@@ -17,17 +17,18 @@ use Rattle.calls.specs.declared.Covers.{Covers}
 use Rattle.calls.specs.declared.Covers.the-variants.{Covered, Uncovered, Refused as NotAnswered}
 use Rattle.holes.specs.declared.Listed.{Listed}
 use Rattle.holes.specs.declared.Listed.the-variants.{Records as Listing, Refused as NotListed}
-use Rattle.text.specs.Text.{linesOf, changeLine, refusedLine, foundLine, addressesLine, totalEnd}
+use Rattle.text.specs.Text.{linesIn, changeLine, refusedLine, foundLine, addressesLine, totalEnd}
 
--- Of a rewrite that left the output o: the records' lines, then the change; or the refusal.
-unfoldable pub rewrittenText : Bool → Rewritten → List ℕ → List ℕ
-rewrittenText hops (Records count change) o = linesOf hops (routes (take (8 * count) o)) ++ changeLine change
-rewrittenText hops (NotWritten number index) o = refusedLine number index
+-- Of a rewrite that left the output o, of records of so many bytes: the records' lines, then the change; or the refusal. The addresses are in hex digits
+-- where `hex` says so.
+unfoldable pub rewrittenText : ℕ → Bool → Bool → Rewritten → List ℕ → List ℕ
+rewrittenText size hex hops (Records count change) o = linesIn size hex hops (routesIn size (take (size * count) o)) ++ changeLine change
+rewrittenText size hex hops (NotWritten number index) o = refusedLine number index
 
 -- Of the reply to a rewrite of a table with so many records: the lines of the result, then the change; or the refusal.
-unfoldable pub replyText : Bool → ℕ → Reply (List Route) → List ℕ
-replyText hops before (gives rs) = linesOf hops rs ++ changeLine (pos (length rs) -ℤ pos before)
-replyText hops before (refuses number index) = refusedLine number index
+unfoldable pub replyText : ℕ → Bool → Bool → ℕ → Reply (List Route) → List ℕ
+replyText size hex hops before (gives rs) = linesIn size hex hops rs ++ changeLine (pos (length rs) -ℤ pos before)
+replyText size hex hops before (refuses number index) = refusedLine number index
 
 -- Of the cover query: `covered`, `uncovered` or the refusal.
 unfoldable pub coversText : Covers → List ℕ
@@ -47,11 +48,11 @@ heldText (Count n) = addressesLine n
 heldText (NotCounted number index) = refusedLine number index
 
 -- Of a list of what has no route, in the output o: a prefix a line, then the total, if it is wanted; or the refusal.
-unfoldable pub listedText : Bool → Listed → List ℕ → List ℕ
-listedText total (Listing count) o = linesOf false (routes (take (8 * count) o)) ++ totalEnd total count
-listedText total (NotListed number index) o = refusedLine number index
+unfoldable pub listedText : ℕ → Bool → Bool → Listed → List ℕ → List ℕ
+listedText size hex total (Listing count) o = linesIn size hex false (routesIn size (take (size * count) o)) ++ totalEnd total count
+listedText size hex total (NotListed number index) o = refusedLine number index
 
 -- Of the reply to that call.
-unfoldable pub listText : Bool → Reply (List Route) → List ℕ
-listText total (gives rs) = linesOf false rs ++ totalEnd total (length rs)
-listText total (refuses number index) = refusedLine number index
+unfoldable pub listText : ℕ → Bool → Bool → Reply (List Route) → List ℕ
+listText size hex total (gives rs) = linesIn size hex false rs ++ totalEnd total (length rs)
+listText size hex total (refuses number index) = refusedLine number index

@@ -1,25 +1,22 @@
 -- The text of answers, as document 01's programs print it, in ASCII: each line ends in a line feed.
-use Prim.Native.Nat.{ℕ, zero, suc, _+_, _-_, _*_, _/_, _%_, _≤_}
+use Prim.Native.Nat.{ℕ, suc, _+_, _-_, _*_, _/_, _%_, _≤_}
 use mathlib.Core.Path.{_≡_}
-use mathlib.Core.Bool.{Bool, cond}
+use mathlib.Core.Bool.{Bool, false, cond}
 use mathlib.Core.List.{List, [], _∷_, _++_}
-use lib.Dec.{ltb}
+use lib.Dec.{eqb}
 use lib.IntN.{ℤ, pos, negsuc}
 use lib.ListN.{length}
 use Rattle.io.specs.Digits.{digits}
-use Rattle.records.specs.Wire.{laid}
+use Rattle.records.specs.Sized.{laid}
 use Rattle.theory.specs.Routes.{Route}
+use Rattle.text.specs.Places.{places}
+use Rattle.text.specs.Ipv6.{hex16, ipv6}
 
 -- ---- Numbers.
 
--- How many decimal digits a number has, if that is at most fuel + 1.
-unfoldable pub places : ℕ → ℕ → ℕ
-places zero n = 1
-places (suc fuel) n = cond (ltb n 10) 1 (suc (places fuel (n / 10)))
-
 -- A number of up to 20 digits in decimal, without leading zeros.
 unfoldable pub decimal : ℕ → List ℕ
-decimal n = digits 10 (places 19 n) n
+decimal n = digits 10 (places 10 19 n) n
 
 -- The number that digits read as, behind digits that read as v; and alone.
 unfoldable pub readFrom : ℕ → List ℕ → ℕ
@@ -44,14 +41,25 @@ dotted a = decimal (a / 16777216) ++ (46 ∷ decimal (a / 65536 % 256) ++ (46 �
 unfoldable pub hopEnd : Bool → ℕ → List ℕ
 hopEnd hops hop = cond hops (32 ∷ decimal hop) [] ++ (10 ∷ [])
 
--- A record's line: `10.0.0.0/8 1`, or `10.0.0.0/8` without the hop.
-unfoldable pub lineOf : Bool → Route → List ℕ
-lineOf hops r = dotted (r .addr) ++ (47 ∷ decimal (r .len) ++ hopEnd hops (r .hop))
+-- The address of a record of so many bytes: with dots at 8, at 16 as an IPv6 address or, where `hex` says so, in hex digits.
+unfoldable pub addressIn : ℕ → Bool → ℕ → List ℕ
+addressIn size hex a = cond (eqb size 8) (dotted a) (cond hex (hex16 a) (ipv6 a))
+
+-- A record's line: `10.0.0.0/8 1`, `2001:db8::/32 1` or `20010db800000000/32 1`, or the same without the hop.
+unfoldable pub lineIn : ℕ → Bool → Bool → Route → List ℕ
+lineIn size hex hops r = addressIn size hex (r .addr) ++ (47 ∷ decimal (r .len) ++ hopEnd hops (r .hop))
 
 -- The lines of records, one after another.
-unfoldable pub linesOf : Bool → List Route → List ℕ
-linesOf hops [] = []
-linesOf hops (r ∷ rs) = lineOf hops r ++ linesOf hops rs
+unfoldable pub linesIn : ℕ → Bool → Bool → List Route → List ℕ
+linesIn size hex hops [] = []
+linesIn size hex hops (r ∷ rs) = lineIn size hex hops r ++ linesIn size hex hops rs
+
+-- Those of records of 8 bytes.
+abbrev pub lineOf : Bool → Route → List ℕ
+lineOf hops r = lineIn 8 false hops r
+
+abbrev pub linesOf : Bool → List Route → List ℕ
+linesOf hops rs = linesIn 8 false hops rs
 
 -- The line `change N`.
 unfoldable pub changeLine : ℤ → List ℕ

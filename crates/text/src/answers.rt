@@ -14,38 +14,48 @@ use lookup::answers::AddressesHeld;
 use lookup::answers::Lookup;
 ghost use Prim.Native.Nat.{_+_, _*_, _≤_};
 ghost use lib.ListN.{length, take};
-ghost use Rattle.records.specs.Wire.{routes};
+ghost use Rattle.records.specs.Sized.{IsSize, routesIn};
 ghost use Rattle.calls.specs.Rewriting.{countOf};
 ghost use Rattle.holes.specs.Listing.{listedCount};
-ghost use Rattle.text.specs.Text.{Put, linesOf};
+ghost use Rattle.text.specs.Text.{Put, linesIn};
 ghost use Rattle.text.specs.Answers.{rewrittenText, coversText, lookupText, heldText, listedText};
 
 // The lines of the first records of an output.
-fn put_written(output: &[u8], count: usize, hops: bool, at: usize, out: &mut [u8]) -> usize
-    requires { ⌜ 8 * count ≤ length (now output) ⌝ }
-    requires { ⌜ at + 24 * count ≤ length (now out) ⌝ }
-    ensures { λ r. ⌜ Put (linesOf hops (routes (take (8 * count) (now (output .entry))))) at r (now (out .entry)) (now (out .exit)) ⌝ }
-    ensures { λ r. ⌜ r ≤ at + 24 * count ⌝ }
-{
-    let size = 8 * count;
-    put_records(&output[..size], hops, at, out)
-}
-
-// Of a rewrite, from the output that it left.
-pub fn put_rewritten(
-    answer: Rewritten,
+fn put_written(
     output: &[u8],
+    size: usize,
+    count: usize,
+    hex: bool,
     hops: bool,
     at: usize,
     out: &mut [u8],
 ) -> usize
-    requires { ⌜ 8 * countOf answer ≤ length (now output) ⌝ }
-    requires { ⌜ at + 24 * countOf answer + 36 ≤ length (now out) ⌝ }
-    ensures { λ r. ⌜ Put (rewrittenText hops answer (now (output .entry))) at r (now (out .entry)) (now (out .exit)) ⌝ }
+    requires { ⌜ IsSize size × (size * count ≤ length (now output)) ⌝ }
+    requires { ⌜ at + 3 * (size * count) ≤ length (now out) ⌝ }
+    ensures { λ r. ⌜ Put (linesIn size hex hops (routesIn size (take (size * count) (now (output .entry))))) at r (now (out .entry)) (now (out .exit)) ⌝ }
+    ensures { λ r. ⌜ r ≤ at + 3 * (size * count) ⌝ }
+{
+    let end = size * count;
+    put_records(&output[..end], size, hex, hops, at, out)
+}
+
+// Of a rewrite, from the output that it left, of records of `size` bytes; the addresses are in hex digits where `hex` says so.
+pub fn put_rewritten(
+    answer: Rewritten,
+    output: &[u8],
+    size: usize,
+    hex: bool,
+    hops: bool,
+    at: usize,
+    out: &mut [u8],
+) -> usize
+    requires { ⌜ IsSize size × (size * countOf answer ≤ length (now output)) ⌝ }
+    requires { ⌜ at + 3 * (size * countOf answer) + 36 ≤ length (now out) ⌝ }
+    ensures { λ r. ⌜ Put (rewrittenText size hex hops answer (now (output .entry))) at r (now (out .entry)) (now (out .exit)) ⌝ }
 {
     match answer {
         Rewritten::Records { count, change } => {
-            let end = put_written(output, count, hops, at, out);
+            let end = put_written(output, size, count, hex, hops, at, out);
             put_change(change, end, out)
         }
         Rewritten::Refused { number, index } => put_refused(number, index, at, out),
@@ -88,14 +98,22 @@ pub fn put_held(answer: AddressesHeld, at: usize, out: &mut [u8]) -> usize
 }
 
 // Of a list of what has no route, from the output that it left, with the total where that is wanted.
-pub fn put_listed(answer: Listed, output: &[u8], total: bool, at: usize, out: &mut [u8]) -> usize
-    requires { ⌜ 8 * listedCount answer ≤ length (now output) ⌝ }
-    requires { ⌜ at + 24 * listedCount answer + 36 ≤ length (now out) ⌝ }
-    ensures { λ r. ⌜ Put (listedText total answer (now (output .entry))) at r (now (out .entry)) (now (out .exit)) ⌝ }
+pub fn put_listed(
+    answer: Listed,
+    output: &[u8],
+    size: usize,
+    hex: bool,
+    total: bool,
+    at: usize,
+    out: &mut [u8],
+) -> usize
+    requires { ⌜ IsSize size × (size * listedCount answer ≤ length (now output)) ⌝ }
+    requires { ⌜ at + 3 * (size * listedCount answer) + 36 ≤ length (now out) ⌝ }
+    ensures { λ r. ⌜ Put (listedText size hex total answer (now (output .entry))) at r (now (out .entry)) (now (out .exit)) ⌝ }
 {
     match answer {
         Listed::Records(count) => {
-            let end = put_written(output, count, false, at, out);
+            let end = put_written(output, size, count, hex, false, at, out);
             put_total(count as u64, total, end, out)
         }
         Listed::Refused { number, index } => put_refused(number, index, at, out),

@@ -2,16 +2,17 @@
 
 pub mod answers;
 
-use records::addr_at;
-use records::hop_at;
-use records::len_at;
+use records::sized::hop_of;
+use records::sized::key_at;
+use records::sized::length_at;
 ghost use mathlib.Core.Path.{_≡_};
 ghost use mathlib.Core.List.{[], _∷_, _++_};
-ghost use Prim.Native.Nat.{_+_, _*_, _≤_, _<_};
+ghost use Prim.Native.Nat.{_+_, _-_, _*_, _/_, _^_, _≤_, _<_};
 ghost use lib.IntN.{natAbs};
 ghost use lib.ListN.{length};
-ghost use Rattle.records.specs.Wire.{records, routeAt, routes};
-ghost use Rattle.text.specs.Text.{Put, decimal, signed, dotted, hopEnd, lineOf, linesOf, changeLine, refusedLine, foundLine, addressesLine, unroutedLine, totalEnd};
+ghost use Rattle.records.specs.Sized.{IsSize, widthIn, recordsIn, routeIn, routesIn};
+ghost use Rattle.text.specs.Ipv6.{hex16, ipv6, groupPart};
+ghost use Rattle.text.specs.Text.{Put, decimal, signed, dotted, hopEnd, addressIn, lineIn, linesIn, changeLine, refusedLine, foundLine, addressesLine, unroutedLine, totalEnd};
 
 // One byte.
 fn put_byte(b: u8, at: usize, out: &mut [u8]) -> usize
@@ -78,6 +79,52 @@ pub fn put_dotted(address: u32, at: usize, out: &mut [u8]) -> usize
     put_octet((address % 256) as u8, 47, third, out)
 }
 
+// Where not all that is left is zero, a group of 16 bits in hex, without leading zeros, and a colon.
+fn put_group(group: u16, left: u64, at: usize, out: &mut [u8]) -> usize
+    requires { ⌜ at + 5 ≤ length (now out) ⌝ }
+    ensures { λ r. ⌜ Put (groupPart group left) at r (now (out .entry)) (now (out .exit)) ⌝ }
+    ensures { λ r. ⌜ r ≤ at + 5 ⌝ }
+{
+    if left == 0 {
+        return at;
+    }
+    let mut text = [0u8; 16];
+    let k = io::hex(group as u64, 1, &mut text);
+    let end = put_bytes(&text[..k], at, out);
+    put_byte(58, end, out)
+}
+
+// An address of 64 bits as the upper half of an IPv6 address, and a slash: the groups up to the last that is not zero, and `::`.
+pub fn put_ipv6(address: u64, at: usize, out: &mut [u8]) -> usize
+    requires { ⌜ at + 22 ≤ length (now out) ⌝ }
+    ensures { λ r. ⌜ Put (ipv6 address ++ (47 ∷ [])) at r (now (out .entry)) (now (out .exit)) ⌝ }
+    ensures { λ r. ⌜ r ≤ at + 22 ⌝ }
+{
+    if address == 0 {
+        return put_bytes(b"::/", at, out);
+    }
+    let second = address % 281474976710656;
+    let third = address % 4294967296;
+    let fourth = address % 65536;
+    let one = put_group((address / 281474976710656) as u16, address, at, out);
+    let two = put_group((second / 4294967296) as u16, second, one, out);
+    let three = put_group((third / 65536) as u16, third, two, out);
+    let four = put_group(fourth as u16, fourth, three, out);
+    put_bytes(b":/", four, out)
+}
+
+// An address of 64 bits in 16 hex digits, and a slash.
+pub fn put_hex16(address: u64, at: usize, out: &mut [u8]) -> usize
+    requires { ⌜ at + 17 ≤ length (now out) ⌝ }
+    ensures { λ r. ⌜ Put (hex16 address ++ (47 ∷ [])) at r (now (out .entry)) (now (out .exit)) ⌝ }
+    ensures { λ r. ⌜ r ≤ at + 17 ⌝ }
+{
+    let mut text = [0u8; 16];
+    let k = io::hex(address, 16, &mut text);
+    let end = put_bytes(&text[..k], at, out);
+    put_byte(47, end, out)
+}
+
 // A length and, where `hops` says so, one space and the hop; and the line feed.
 pub fn put_ending(len: u8, hop: u8, hops: bool, at: usize, out: &mut [u8]) -> usize
     requires { ⌜ at + 8 ≤ length (now out) ⌝ }
@@ -92,28 +139,66 @@ pub fn put_ending(len: u8, hop: u8, hops: bool, at: usize, out: &mut [u8]) -> us
     }
 }
 
-// The line of record i.
-fn put_record(table: &[u8], i: usize, hops: bool, at: usize, out: &mut [u8]) -> usize
-    requires { ⌜ i < records (now table) ⌝ }
-    requires { ⌜ at + 24 ≤ length (now out) ⌝ }
-    ensures { λ r. ⌜ Put (lineOf hops (routeAt (now (table .entry)) i)) at r (now (out .entry)) (now (out .exit)) ⌝ }
-    ensures { λ r. ⌜ r ≤ at + 24 ⌝ }
+// An address by its key, and a slash: with dots in records of 8 bytes; in records of 16 as an IPv6 address or, where `hex` says so, in hex digits.
+fn put_address(key: u64, size: usize, hex: bool, at: usize, out: &mut [u8]) -> usize
+    requires { ⌜ IsSize size ⌝ }
+    requires { ⌜ at + 2 * size ≤ length (now out) ⌝ }
+    ensures { λ r. ⌜ Put (addressIn size hex (key / 2 ^ (64 - widthIn size)) ++ (47 ∷ [])) at r (now (out .entry)) (now (out .exit)) ⌝ }
+    ensures { λ r. ⌜ r ≤ at + 2 * size ⌝ }
 {
-    let end = put_dotted(addr_at(table, i), at, out);
-    put_ending(len_at(table, i), hop_at(table, i), hops, end, out)
+    if size == 8 {
+        put_dotted((key / 4294967296) as u32, at, out)
+    } else if hex {
+        put_hex16(key, at, out)
+    } else {
+        put_ipv6(key, at, out)
+    }
+}
+
+// The line of record i. It has at most three times the record's bytes.
+fn put_record(
+    table: &[u8],
+    size: usize,
+    i: usize,
+    hex: bool,
+    hops: bool,
+    at: usize,
+    out: &mut [u8],
+) -> usize
+    requires { ⌜ IsSize size × (i < recordsIn size (now table)) ⌝ }
+    requires { ⌜ at + 3 * size ≤ length (now out) ⌝ }
+    ensures { λ r. ⌜ Put (lineIn size hex hops (routeIn size (now (table .entry)) i)) at r (now (out .entry)) (now (out .exit)) ⌝ }
+    ensures { λ r. ⌜ r ≤ at + 3 * size ⌝ }
+{
+    let end = put_address(key_at(table, size, i), size, hex, at, out);
+    put_ending(
+        length_at(table, size, i),
+        hop_of(table, size, i),
+        hops,
+        end,
+        out,
+    )
 }
 
 // The lines of a table's records.
-pub fn put_records(table: &[u8], hops: bool, at: usize, out: &mut [u8]) -> usize
-    requires { ⌜ at + 24 * records (now table) ≤ length (now out) ⌝ }
-    ensures { λ r. ⌜ Put (linesOf hops (routes (now (table .entry)))) at r (now (out .entry)) (now (out .exit)) ⌝ }
-    ensures { λ r. ⌜ r ≤ at + 24 * records (now (table .entry)) ⌝ }
+pub fn put_records(
+    table: &[u8],
+    size: usize,
+    hex: bool,
+    hops: bool,
+    at: usize,
+    out: &mut [u8],
+) -> usize
+    requires { ⌜ IsSize size ⌝ }
+    requires { ⌜ at + 3 * length (now table) ≤ length (now out) ⌝ }
+    ensures { λ r. ⌜ Put (linesIn size hex hops (routesIn size (now (table .entry)))) at r (now (out .entry)) (now (out .exit)) ⌝ }
+    ensures { λ r. ⌜ r ≤ at + 3 * length (now (table .entry)) ⌝ }
 {
-    let n = table.len() / 8;
+    let n = table.len() / size;
     let mut end = at;
     let mut i: usize = 0;
     while i < n {
-        end = put_record(table, i, hops, end, out);
+        end = put_record(table, size, i, hex, hops, end, out);
         i += 1;
     }
     end

@@ -36,13 +36,16 @@ same-test a b c d f g = go (eqb a b) refl
     go true e = sym (eq-eqb c d (f (eqb-true a b e)))
     go false e = sym (ne-eqb c d (λ q. eqb-false a b e (g q)))
 
--- Masked addresses are equal exactly when the addresses agree in their first n bits.
-pub masked-agree : (w n x y : ℕ) → x < 2 ^ w → y < 2 ^ w → n ≤ w → eqb (bitAnd x (maskOf w n)) (bitAnd y (maskOf w n)) ≡ agree w n x y
-masked-agree w n x y hx hy l =
-    ap₂ eqb (masked w x n hx l) (masked w y n hy l)
-    ∙ same-test (x / 2 ^ (w - n) * 2 ^ (w - n)) (y / 2 ^ (w - n) * 2 ^ (w - n)) (x / 2 ^ (w - n)) (y / 2 ^ (w - n))
+-- Starts of prefixes are equal exactly when the addresses agree in their first n bits.
+pub start-agree : (w n x y : ℕ) → eqb (startOf (w - n) x) (startOf (w - n) y) ≡ agree w n x y
+start-agree w n x y =
+    same-test (startOf (w - n) x) (startOf (w - n) y) (x / 2 ^ (w - n)) (y / 2 ^ (w - n))
     (λ e. sym (shl-shr (x / 2 ^ (w - n)) (w - n)) ∙ ap (λ (m : ℕ). m / 2 ^ (w - n)) e ∙ shl-shr (y / 2 ^ (w - n)) (w - n))
     (λ e. ap (λ (m : ℕ). m * 2 ^ (w - n)) e)
+
+-- So are masked addresses.
+pub masked-agree : (w n x y : ℕ) → x < 2 ^ w → y < 2 ^ w → n ≤ w → eqb (bitAnd x (maskOf w n)) (bitAnd y (maskOf w n)) ≡ agree w n x y
+masked-agree w n x y hx hy l = ap₂ eqb (masked w x n hx l) (masked w y n hy l) ∙ start-agree w n x y
 
 -- What the complement of a mask leaves of an address: its bits past the first n.
 pub host-bits : (w a n : ℕ) → n ≤ w → bitAnd a ((2 ^ w - 1) - maskOf w n) ≡ a % 2 ^ (w - n)

@@ -5,7 +5,7 @@ ghost use mathlib.Core.Bool.{_||_, _&&_};
 ghost use Prim.Native.Nat.{ℕ, _-_, _≤_};
 ghost use lib.Dec.{ltb, eqb};
 ghost use Rattle.theory.specs.Results.{startOf};
-ghost use Rattle.words.specs.Prefix.{hostClear};
+ghost use Rattle.words.specs.Prefix.{within, hostClear};
 ghost use Rattle.words.specs.Keys.{keyOf};
 
 // The key without the bits past the length: the key of the prefix's start. From length 64 on it is the key itself.
@@ -27,6 +27,16 @@ pub fn key_host_bits_clear(key: u64, len: u8) -> bool
     ensures { λ r. ⌜ ((w a : ℕ) → w ≤ 64 → key ≡ keyOf w a → r ≡ hostClear w a len) ⌝ }
 {
     masked_key(key, len) == key
+}
+
+// Does the prefix of `key` and `len` contain that of `other` and `other_len`? A prefix contains itself; bits past the lengths don't count.
+pub fn key_contains(key: u64, len: u8, other: u64, other_len: u8) -> bool
+    ensures { λ r. ⌜ ((w a b : ℕ) → w ≤ 64 → key ≡ keyOf w a → other ≡ keyOf w b → r ≡ within w a len b «other_len») ⌝ }
+{
+    if len > other_len {
+        return false;
+    }
+    masked_key(other, len) == masked_key(key, len)
 }
 
 // Key a and length l stand strictly before key b and length m. Keys stand as their addresses do.

@@ -3,9 +3,10 @@ use Prim.Native.Nat.{ℕ, _*_}
 use mathlib.Core.Bool.{Bool}
 use mathlib.Core.List.{List}
 use Rattle.refusals.specs.Rules.{Reply, gives, refuses, judge}
-use Rattle.records.specs.Wire.{routes}
+use Rattle.records.specs.Sized.{widthIn, routesIn}
 use Rattle.records.specs.declared.Form.{Form}
-use Rattle.table.specs.TableRules.{tableRules}
+use Rattle.records.specs.Forms.{sizeOf}
+use Rattle.table.specs.TableRules.{formRules}
 use Rattle.nodecount.specs.Nodes.{nodes}
 use Rattle.workroom.specs.declared.WorkWords.{WorkWords}
 use Rattle.workroom.specs.declared.WorkWords.the-variants.{Words, Refused}
@@ -15,6 +16,10 @@ abbrev pub wordsSays : WorkWords → Reply ℕ
 wordsSays (Words n) = gives n
 wordsSays (Refused number index) = refuses number index
 
--- The right reply for a table of a set or of a map, read by the form: 160 words for each node, by document 01.
+-- The words for a table of records of this size: 160 for each node, by document 01.
+abbrev pub wordsIn : ℕ → List ℕ → ℕ
+wordsIn size t = 160 * nodes (widthIn size) (routesIn size t)
+
+-- The right reply for a table of a set or of a map, read by the form.
 abbrev pub wordsReply : Form → Bool → List ℕ → Reply ℕ
-wordsReply form isSet t = judge (tableRules form isSet t) (160 * nodes 32 (routes t))
+wordsReply form isSet t = judge (formRules form isSet t) (wordsIn (sizeOf form) t)

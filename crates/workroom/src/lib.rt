@@ -2,8 +2,9 @@
 
 use nodecount::count_nodes;
 use records::Form;
+use records::size_of;
 use table::Checked;
-use table::check_table;
+use table::check_sized;
 ghost use mathlib.Core.Path.{_≡_};
 ghost use Rattle.workroom.specs.Needed.{wordsSays, wordsReply};
 
@@ -17,8 +18,10 @@ pub enum WorkWords {
 pub fn work_words(table: &[u8], form: Form, is_set: bool) -> WorkWords
     ensures { λ r. ⌜ wordsSays r ≡ wordsReply form «is_set» (now (table .entry)) ⌝ }
 {
-    match check_table(table, form, is_set) {
-        Checked::Valid(_) => WorkWords::Words(160 * count_nodes(table)),
+    let size = size_of(form);
+    let strict = form.strict;
+    match check_sized(table, size, strict, is_set) {
+        Checked::Valid(_) => WorkWords::Words(160 * count_nodes(table, size)),
         Checked::Refused { number, index } => WorkWords::Refused {
             number: number,
             index: index,

@@ -20,7 +20,7 @@ use Rattle.consistent.proofs.+aggregate_consistent_map.Lts-aggregate_co
 use Rattle.consistent.proofs.entries_of.Reads as entries-of-reads
 use Rattle.nodes.proofs.emit.emit_slot.Reads as emit-slot-reads
 use Rattle.nodes.proofs.emit.head_slots.Reads as head-slots-reads
-use Rattle.records.proofs.past.Reads as past-reads
+use Rattle.records.proofs.sized.past_sized.Reads as past-reads
 use Rattle.gather.proofs.covering_hops.Reads as covering-hops-reads
 use Rattle.gather.proofs.gather_run.Reads as gather-run-reads
 use Rattle.gather.proofs.slot_key.Reads as slot-key-reads
@@ -29,7 +29,7 @@ use Rattle.consistent.proofs.+aggregate_consistent_map.{statement}
 use Rattle.consistent.proofs.+aggregate_consistent_map.Tie.{close}
 
 abbrev μ-depth : Measures 2 kinds.ps ℕ
-μ-depth κs a = reach - a .1 .1 .1 .0
+μ-depth κs a = reach (a .1 .0) - a .1 .1 .1 .1 .0
 
 abbrev at : ℕ → In 2 kinds.ps
 at t = and 2 kinds.ps (is 2 kinds.ps μ-depth t) reads.Pre
@@ -60,18 +60,21 @@ claims t = (
 )
 
 abbrev Inv-loop : lts.InvT-loop
-Inv-loop table lo hi depth key inherited out₀ first end hops entries busy n₀ c₀ out n c =
-    Found table lo hi depth (key * 2) inherited first end hops entries × (Busy entries hops depth (key * 2) (mapSlot table first end hops depth (key * 2)) (run table lo hi) busy
-    × Walked entries hops depth (key * 2) (mapSlot table first end hops depth (key * 2)) c n out₀ out)
+Inv-loop table size lo hi depth key inherited out₀ first end hops entries busy n₀ c₀ out n c =
+    Found size table lo hi depth (key * 2) inherited first end hops entries × (Busy entries hops depth (key * 2) (mapSlot size table first end hops depth (key * 2)) (run size table lo hi) busy
+    × Walked size entries hops depth (key * 2) (mapSlot size table first end hops depth (key * 2)) c n out₀ out)
 
 abbrev μ-loop : lts.MeasureT-loop
-μ-loop table lo hi depth key inherited out₀ first end hops entries busy n₀ c₀ out n c = 32 - c
+μ-loop table size lo hi depth key inherited out₀ first end hops entries busy n₀ c₀ out n c = 32 - c
 
 gather-run-requires : (t : ℕ) → lts.Need-gather-run-requires (claims t) (at t) reads.Post Inv-loop μ-loop
 gather-run-requires t c κs = (c .before .before .before .before .pre .1 .0, ((refl, refl), λ b lt. (getD-replicate 63 b 0 0 lt, getD-replicate 63 b 0 0 lt)))
 
 covering-hops-requires : (t : ℕ) → lts.Need-covering-hops-requires (claims t) (at t) reads.Post Inv-loop μ-loop
-covering-hops-requires t c κs = let g = c .before .before .gather-run .ensures .0 in (ends-in (c .before .before .before .before .before .before .before .pre .1 .0) g, absent g)
+covering-hops-requires t c κs =
+    let g = c .before .before .gather-run .ensures .0 in
+    let n = c .before .before .before .before .before .before .before .pre .1 .0 in
+    (ends-in n g, (absent g, n .sized))
 
 entries-of-requires : (t : ℕ) → lts.Need-entries-of-requires (claims t) (at t) reads.Post Inv-loop μ-loop
 entries-of-requires t c κs = absent (c .before .before .before .before .before .before .gather-run .ensures .0)
@@ -96,14 +99,14 @@ loop-holds t c =
         covering = hops .ensures;
         bits = c .before .before .before .entries-of .ensures;
       },
-      (busy, walked-next busy (c .next-bit .ensures) (walked-none (start .args .out .now))),
+      (busy, walked-next busy (c .next-bit .ensures) (walked-none (start .pre .1 .0 .sized) (start .args .out .now))),
     )
 
 slot-key-requires : (t : ℕ) → lts.Need-slot-key-requires (claims t) (at t) reads.Post Inv-loop μ-loop
 slot-key-requires t c κs = search needs
 
-past-requires : (t : ℕ) → lts.Need-past-requires (claims t) (at t) reads.Post Inv-loop μ-loop
-past-requires t c κs = search needs
+past-sized-requires : (t : ℕ) → lts.Need-past-sized-requires (claims t) (at t) reads.Post Inv-loop μ-loop
+past-sized-requires t c κs = search needs
 
 sub-emit-slot : (t : ℕ) → lts.Need-sub-emit-slot (claims t) (at t) reads.Post Inv-loop μ-loop
 sub-emit-slot t c = search needs
@@ -118,22 +121,22 @@ emit-slot-requires : (t : ℕ) → lts.Need-emit-slot-requires (claims t) (at t)
 emit-slot-requires t c κs =
     let n = c .before .before .before .before .before .loop .inv .0 .node in
     let lt = c .before .before .before .before .loop-test .taken in
-    (lt, n .at .deep)
+    (lt, (n .at .deep, n .sized))
 
 -- The entries that begin at a slot are written once they come back.
 entered : (t : ℕ) (c : lts.After-slice-known2 (claims t) (at t) reads.Post Inv-loop μ-loop)
     → let a = c .before .before .before .before .before .before .before .before .before .before .before .before .before .before .before .before .before .before .before .before .before .before .before .before .args in
-    let run = c .before .before .before .before .before .before .before .before .before .before .before .before .before .before .before .before .before .before .before .gather-run .last .1 .1 .1 .1 .1 in
+    let run = c .before .before .before .before .before .before .before .before .before .before .before .before .before .before .before .before .before .before .before .gather-run .last .1 .1 .1 .1 .1 .1 in
     let hops = c .before .before .before .before .before .before .before .before .before .before .before .before .before .before .before .before .covering-hops .result in
     let lp = c .before .before .before .before .before .before .before .before .loop in
     let heads = c .before .before .emit-slot in
-    Begun (c .before .before .before .before .before .before .before .before .before .before .before .before .entries-of .result) hops (a .depth) (a .key * 2) (mapSlot (a .table .now) (run .0) (run .1 .0) hops (a .depth) (a .key * 2)) (lp .c)
-    (lp .n + heads .result) (a .out .now) (relaid (c .before .before .before .before .before .past .result) (heads .last .1 .1 .1 .1 .1 .0) (lp .out))
+    Begun (a .size) (c .before .before .before .before .before .before .before .before .before .before .before .before .entries-of .result) hops (a .depth) (a .key * 2) (mapSlot (a .size) (a .table .now) (run .0) (run .1 .0) hops (a .depth) (a .key * 2)) (lp .c)
+    (lp .n + heads .result) (a .out .now) (relaid (c .before .before .before .before .before .past-sized .result) (heads .last .1 .1 .1 .1 .1 .1 .0) (lp .out))
 entered t c =
     let heads = c .before .before .emit-slot in
     let lt = c .before .before .before .before .before .before .before .loop-test .taken in
     let key = c .before .before .before .before .before .before .slot-key .ensures .0 in
-    begun (c .before .before .before .before .before .before .before .before .loop .inv .1 .1) lt (c .before .before .before .before .before .past .ensures) key (heads .ensures) (c .before .out .given .1)
+    begun (c .before .before .before .before .before .before .before .before .loop .inv .1 .1) lt (c .before .before .before .before .before .past-sized .ensures) key (heads .ensures) (c .before .out .given .1)
 
 add-n : (t : ℕ) → lts.Need-add-n (claims t) (at t) reads.Post Inv-loop μ-loop
 add-n t c =
@@ -171,8 +174,8 @@ add-next-bit t c = search needs
 next-bit-requires-2 : (t : ℕ) → lts.Need-next-bit-requires-2 (claims t) (at t) reads.Post Inv-loop μ-loop
 next-bit-requires-2 t c κs = search needs
 
-past-requires-2 : (t : ℕ) → lts.Need-past-requires-2 (claims t) (at t) reads.Post Inv-loop μ-loop
-past-requires-2 t c κs = search needs
+past-sized-requires-2 : (t : ℕ) → lts.Need-past-sized-requires-2 (claims t) (at t) reads.Post Inv-loop μ-loop
+past-sized-requires-2 t c κs = search needs
 
 add-aggregate-consistent-map : (t : ℕ) → lts.Need-add-aggregate-consistent-map (claims t) (at t) reads.Post Inv-loop μ-loop
 add-aggregate-consistent-map t c = let deep = c .before .before .before .before .before .before .before .before .before .before .before .loop .inv .0 .node .at .deep in omega arith
@@ -189,7 +192,7 @@ part-aggregate-consistent-map-end t c = search needs
 -- A slot with records stands where its half says.
 place : (t : ℕ) (c : lts.After-slot-key (claims t) (at t) reads.Post Inv-loop μ-loop)
     → let a = c .before .before .before .before .before .before .before .before .before .before .before .before .before .before .before .before .before .before .args in
-    let run = c .before .before .before .before .before .before .before .before .before .before .before .before .before .gather-run .last .1 .1 .1 .1 .1 in
+    let run = c .before .before .before .before .before .before .before .before .before .before .before .before .before .gather-run .last .1 .1 .1 .1 .1 .1 in
     let lp = c .before .before .loop in
     getD (run .0) (31 + lp .c) 0 < getD (run .1 .0) (31 + lp .c) 0 → c .slot-key .result * 2 ≡ placeAt (slotSize (a .depth)) (a .key * 2) 5 (lp .c)
 place t c has =
@@ -228,7 +231,7 @@ loop-again t c =
     let call = c .before .before .aggregate-consistent-map in
     let key = place t (c .before .before .before .before .before .before .before .before .before .before .before .before .before) (c .before .before .before .before .before .if1 .taken) in
     let own = rw (map-child f (lp .c) _ key) at (call .ensures) in
-    let slot = walked-child (entered t (c .before .before .before .before .before .before .before)) (c .before .before .before .before .past2 .ensures) own
+    let slot = walked-child (entered t (c .before .before .before .before .before .before .before)) (c .before .before .before .before .past-sized2 .ensures) own
     (c .before .out2 .given .1) in
     (f, (lp .inv .1 .0, walked-next (lp .inv .1 .0) (c .before .before .before .before .before .before .next-bit2 .ensures) slot))
 
@@ -262,7 +265,7 @@ pub +aggregate-consistent-map-spec : {M : Type 1} → statement M
     (next-bit-requires t)
     (loop-holds t)
     (slot-key-requires t)
-    (past-requires t)
+    (past-sized-requires t)
     (sub-emit-slot t)
     (part-emit-slot-start t)
     (part-emit-slot-end t)
@@ -278,7 +281,7 @@ pub +aggregate-consistent-map-spec : {M : Type 1} → statement M
     (array-read-cover t)
     (add-next-bit t)
     (next-bit-requires-2 t)
-    (past-requires-2 t)
+    (past-sized-requires-2 t)
     (add-aggregate-consistent-map t)
     (sub-aggregate-consistent-map t)
     (part-aggregate-consistent-map-start t)

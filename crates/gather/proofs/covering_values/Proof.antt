@@ -10,10 +10,10 @@ use Rattle.gather.proofs.covering_values.Statement.{statement}
 use Rattle.gather.proofs.covering_values.Tie as tie
 
 abbrev Inv-loop : tie.InvT-loop
-Inv-loop table first end inherited hops₀ b₀ hops b = (b ≤ 31) × Covering table first end inherited hops b
+Inv-loop table size first end inherited hops₀ b₀ hops b = (b ≤ 31) × Covering size table first end inherited hops b
 
 abbrev μ-loop : tie.MeasureT-loop
-μ-loop table first end inherited hops₀ b₀ hops b = 31 - b
+μ-loop table size first end inherited hops₀ b₀ hops b = 31 - b
 
 loop-holds : tie.Need-loop-holds Inv-loop μ-loop
 loop-holds c = (omega arith, record { sized = refl; each = λ l j le lt h. absurd (omega arith) })
@@ -35,7 +35,8 @@ over-at-requires c κs = omega arith
 
 value-at-requires : tie.Need-value-at-requires Inv-loop μ-loop
 value-at-requires c κs =
-    c .before .before .before .before .before .before .before .pre (c .before .before .before .before .before .loop .b) (omega arith)
+    let pre = c .before .before .before .before .before .before .before .pre in
+    (pre .0 (c .before .before .before .before .before .loop .b) (omega arith), pre .1)
 
 array-write-hops : tie.Need-array-write-hops Inv-loop μ-loop
 array-write-hops c = omega arith
@@ -53,7 +54,7 @@ loop-again c =
     let h = c .before .before .before .before .before .loop-test .taken in (
       omega arith,
       covering-next (l .inv .1) (c .value-at .result) h
-          (c .value-at .ensures ∙ ap (valueOf (a .table .now) (getD (a .first .now) (l .b) 0) (getD (a .end .now) (l .b) 0)) (c .before .over-at .ensures)),
+          (c .value-at .ensures ∙ ap (valueOf (a .size) (a .table .now) (getD (a .first .now) (l .b) 0) (getD (a .end .now) (l .b) 0)) (c .before .over-at .ensures)),
     )
 
 returns : tie.Need-returns Inv-loop μ-loop

@@ -1,68 +1,24 @@
--- `gather::first_past` meets its contract. The loop's invariant: the records from i up to `at` stand at `last` or before it. Assumes nothing.
-use Prim.Native.Nat.{ℕ, suc, _+_, _-_, _*_, _≤_, _<_}
+-- `gather::first_past` meets its contract, by the loop for its size. Assumes nothing.
 use mathlib.Core.Path.{_≡_}
-use mathlib.Core.Logic.{_⊎_, inl, inr}
-use native.Mathlib.Nat.{eq-or-lt-of-le}
-use native.Mathlib.Omega.{arith}
-use borrow.Author.Needs.{needs}
-use Rattle.nodes.specs.Node.{wideAt}
+use Rattle.records.proofs.SizedKeys.{size-long}
 use Rattle.gather.proofs.first_past.Statement.{statement}
 use Rattle.gather.proofs.first_past.Tie as tie
 
-abbrev Inv-loop : tie.InvT-loop
-Inv-loop table i hi last limit at₀ at = (i ≤ at) × (at ≤ hi) × ((k : ℕ) → i ≤ k → k < at → wideAt table k .addr ≤ last * 2)
+first-past-short-requires : tie.Need-first-past-short-requires
+first-past-short-requires c κs = rw (c .if1 .taken) at (c .before .before .pre .1)
 
-abbrev μ-loop : tie.MeasureT-loop
-μ-loop table i hi last limit at₀ at = hi - at
+-- In the other branch a record has 16 bytes.
+long : (c : tie.Else1) → c .before .before .args .size ≡ 16
+long c = size-long (c .before .before .args .size) (c .before .before .pre .0) (c .if1 .left)
 
-cast-limit : tie.Need-cast-limit Inv-loop μ-loop
-cast-limit c = search needs
+first-past-long-requires : tie.Need-first-past-long-requires
+first-past-long-requires c κs = rw (long c) at (c .before .before .pre .1)
 
-loop-holds : tie.Need-loop-holds Inv-loop μ-loop
-loop-holds c = (omega arith, omega arith, λ k l h. absurd (omega arith))
+returns : tie.Need-returns
+returns c = rw (c .before .if1 .taken) (c .first-past-short .ensures)
 
-addr-at-requires : tie.Need-addr-at-requires Inv-loop μ-loop
-addr-at-requires c κs = omega arith
-
-returns : tie.Need-returns Inv-loop μ-loop
-returns c =
-    let l = c .before .before .before .loop in
-    ((omega arith, omega arith), (l .inv .2, λ h. omega (arith, c .before .addr-at .ensures)))
-
-add-at : tie.Need-add-at Inv-loop μ-loop
-add-at c = omega arith
-
-loop-less : tie.Need-loop-less Inv-loop μ-loop
-loop-less c = omega arith
-
-loop-again : tie.Need-loop-again Inv-loop μ-loop
-loop-again c =
-    let l = c .before .before .before .loop in
-    let a = c .before .before .before .before .before .args in
-    let here : wideAt (a .table .now) (l .at) .addr ≤ a .last * 2 = omega (arith, c .before .addr-at .ensures) in (
-      omega arith,
-      omega arith,
-      λ k low h. more (λ (n : ℕ). wideAt (a .table .now) n .addr ≤ a .last * 2) (l .at) k here (l .inv .2 k low) (eq-or-lt-of-le h),
-    )
-  where
-    more : (P : ℕ → Type 0) (n k : ℕ) → P n → (k < n → P k) → (suc k ≡ n + 1) ⊎ (suc k < n + 1) → P k
-    more P n k p q (inl e) = let z : k ≡ n = omega arith in rw z p
-    more P n k p q (inr h) = q (omega arith)
-
-returns-2 : tie.Need-returns-2 Inv-loop μ-loop
-returns-2 c = let l = c .before .loop in ((omega arith, omega arith), (l .inv .2, λ h. absurd (omega arith)))
+returns-2 : tie.Need-returns-2
+returns-2 c = rw (long (c .before)) (c .first-past-long .ensures)
 
 pub first-past-spec : {M : Type 1} → statement M
-first-past-spec =
-    tie.close
-    (tie.spec
-    Inv-loop
-    μ-loop
-    cast-limit
-    loop-holds
-    addr-at-requires
-    returns
-    add-at
-    loop-less
-    loop-again
-    returns-2)
+first-past-spec = tie.close (tie.spec first-past-short-requires first-past-long-requires returns returns-2)

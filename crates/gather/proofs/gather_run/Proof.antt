@@ -17,11 +17,11 @@ use Rattle.gather.proofs.gather_run.Statement.{statement}
 use Rattle.gather.proofs.gather_run.Tie as tie
 
 abbrev Inv-loop : tie.InvT-loop
-Inv-loop table lo hi depth key first₀ end₀ present₀ occupied₀ upto i₀ first end present occupied i =
-    (lo ≤ i) × (i ≤ hi) × Passed table lo i depth (key * 2) first end present × Slots first end occupied
+Inv-loop table size lo hi depth key first₀ end₀ present₀ occupied₀ upto i₀ first end present occupied i =
+    (lo ≤ i) × (i ≤ hi) × Passed size table lo i depth (key * 2) first end present × Slots first end occupied
 
 abbrev μ-loop : tie.MeasureT-loop
-μ-loop table lo hi depth key first₀ end₀ present₀ occupied₀ upto i₀ first end present occupied i = hi - i
+μ-loop table size lo hi depth key first₀ end₀ present₀ occupied₀ upto i₀ first end present occupied i = hi - i
 
 loop-holds : tie.Need-loop-holds Inv-loop μ-loop
 loop-holds c =
@@ -29,23 +29,25 @@ loop-holds c =
     let p = c .before .pre in (
       omega arith,
       p .0 .low,
-      passed-start (a .table .now) (a .lo) (a .depth) (a .key * 2) (a .first .now) (a .end .now) (p .1 .0 .0) (p .1 .0 .1) (p .1 .1),
+      passed-start (a .size) (a .table .now) (a .lo) (a .depth) (a .key * 2) (a .first .now) (a .end .now) (p .1 .0 .0) (p .1 .0 .1) (p .1 .1),
       slots-start (a .first .now) (a .end .now) (p .1 .1),
     )
 
-size-at-requires : tie.Need-size-at-requires Inv-loop μ-loop
-size-at-requires c κs = omega (arith, c .before .before .before .pre .0 .high)
+bits-at-requires : tie.Need-bits-at-requires Inv-loop μ-loop
+bits-at-requires c κs = (c .before .before .before .pre .0 .sized, omega (arith, c .before .before .before .pre .0 .high))
 
 level-of-requires : tie.Need-level-of-requires Inv-loop μ-loop
 level-of-requires c κs =
     let a = c .before .before .before .before .args in
     let l = c .before .before .loop in
     let n = c .before .before .before .before .pre .0 in
-    let w : Within wide (wide - a .depth) (a .key * 2) (wideAt (a .table .now) (l .i)) = node-within n (l .i) (l .inv .0) (c .before .loop-test .taken) in
-    (n .at .deep, let d = n .at .deep in omega (arith, w .deep, c .size-at .ensures))
+    let w : Within wide (wide - a .depth) (a .key * 2) (wideAt (a .size) (a .table .now) (l .i)) = node-within n (l .i) (l .inv .0) (c .before .loop-test .taken) in
+    (n .at .deep, let d = n .at .deep in omega (arith, w .deep, c .bits-at .ensures))
 
 half-at-requires : tie.Need-half-at-requires Inv-loop μ-loop
-half-at-requires c κs = omega (arith, c .before .before .before .before .before .pre .0 .high)
+half-at-requires c κs =
+    let n = c .before .before .before .before .before .pre .0 in
+    (n .sized, omega (arith, n .high))
 
 heap-index-requires : tie.Need-heap-index-requires Inv-loop μ-loop
 heap-index-requires c κs =
@@ -54,7 +56,7 @@ heap-index-requires c κs =
 
 -- The record that a turn takes in.
 abbrev taken : tie.After-heap-index Inv-loop μ-loop → Route
-taken c = wideAt (c .before .before .before .before .before .before .before .args .table .now) (c .before .before .before .before .before .loop .i)
+taken c = wideAt (c .before .before .before .before .before .before .before .args .size) (c .before .before .before .before .before .before .before .args .table .now) (c .before .before .before .before .before .loop .i)
 
 -- The place that the code finds is the record's.
 is-heap : (c : tie.After-heap-index Inv-loop μ-loop)
@@ -63,13 +65,13 @@ is-heap c =
     let a = c .before .before .before .before .before .before .before .args in
     let l = c .before .before .before .before .before .loop in
     let n = c .before .before .before .before .before .before .before .pre .0 in
-    let size = c .before .before .before .size-at in
+    let len = c .before .before .before .bits-at in
     let level = c .before .before .level-of in
     let addr = c .before .half-at in
     let w : Within wide (wide - a .depth) (a .key * 2) (taken c) = node-within n (l .i) (l .inv .0) (c .before .before .before .before .loop-test .taken) in
     let lies : In (wide - a .depth) (a .key * 2) (addr .result * 2) = omega (arith, addr .ensures, w .low, w .high, pow-pos (wide - taken c .len)) in
-    heap-is (a .depth) (a .key * 2) (taken c) (size .result) (level .result) (addr .result * 2) (c .heap-index .result)
-    (size .ensures .0) (level .ensures .0) (addr .ensures) (c .heap-index .ensures .0 (a .key * 2) (n .at) lies)
+    heap-is (a .depth) (a .key * 2) (taken c) (len .result) (level .result) (addr .result * 2) (c .heap-index .result)
+    (len .ensures .0) (level .ensures .0) (addr .ensures) (c .heap-index .ensures .0 (a .key * 2) (n .at) lies)
 
 is-small : (c : tie.After-heap-index Inv-loop μ-loop) → c .heap-index .result < 63
 is-small c = c .heap-index .ensures .1
@@ -77,7 +79,7 @@ is-small c = c .heap-index .ensures .1
 place-end-requires : tie.Need-place-end-requires Inv-loop μ-loop
 place-end-requires c κs =
     let n = c .before .before .before .before .before .before .before .pre .0 in
-    ((c .before .before .before .before .loop-test .taken, n .high), (is-small c, n .at))
+    ((c .before .before .before .before .loop-test .taken, (n .high, n .sized)), (is-small c, n .at))
 
 mul-first-of : tie.Need-mul-first-of Inv-loop μ-loop
 mul-first-of c = omega (arith, is-small (c .before))
@@ -121,7 +123,7 @@ with-slot-requires c κs = is-small (c .before .before .before .before .before)
 -- The records up to the place's end are all of that place.
 is-run : (c : tie.After-place-end Inv-loop μ-loop) (k : ℕ) → c .before .before .before .before .before .before .loop .i ≤ k → k < c .place-end .result
     → heapOf (c .before .before .before .before .before .before .before .before .args .depth) (c .before .before .before .before .before .before .before .before .args .key * 2)
-    (wideAt (c .before .before .before .before .before .before .before .before .args .table .now) k)
+    (wideAt (c .before .before .before .before .before .before .before .before .args .size) (c .before .before .before .before .before .before .before .before .args .table .now) k)
     ≡ c .before .heap-index .result
 is-run c k low h =
     let l = c .before .before .before .before .before .before .loop in
@@ -156,7 +158,7 @@ returns c =
     let l = c .before .loop in
     let a = c .before .before .before .args in
     let e : l .i ≡ a .hi = omega (arith, l .inv .1, c .loop-test .left) in
-    let g : Gathered (a .table .now) (a .lo) (a .hi) (a .depth) (a .key * 2) (l .first) (l .end) (l .present) = passed-done (c .before .before .before .pre .0) (rw e at (l .inv .2)) in
+    let g : Gathered (a .size) (a .table .now) (a .lo) (a .hi) (a .depth) (a .key * 2) (l .first) (l .end) (l .present) = passed-done (c .before .before .before .pre .0) (rw e at (l .inv .2)) in
     (g, slots-done g (l .occupied) (l .inv .3))
 
 pub gather-run-spec : {M : Type 1} → statement M
@@ -166,7 +168,7 @@ gather-run-spec =
     Inv-loop
     μ-loop
     loop-holds
-    size-at-requires
+    bits-at-requires
     level-of-requires
     half-at-requires
     heap-index-requires

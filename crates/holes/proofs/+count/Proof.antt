@@ -1,15 +1,15 @@
 -- `holes::count`, which calls itself on the halves of a position, meets its contract, by falling bits below the position. Assumes nothing.
-use Prim.Native.Nat.{ℕ, _+_, _-_, _*_, _<_}
-use mathlib.Core.Path.{_≡_, sym, ap, ap₂, subst, _∙_}
+use Prim.Native.Nat.{ℕ, _+_, _-_, _<_}
+use mathlib.Core.Path.{sym, ap, ap₂, subst, _∙_}
 use native.Mathlib.Omega.{arith}
-use lib.ListN.{length, length-append}
+use lib.ListN.{length}
 use borrow.Author.Needs.{needs}
 use borrow.Fn.Kinds.{In}
 use borrow.Fn.PlainCycle.{Measures, is, falls, and}
-use Rattle.holes.specs.Holes.{holesAt}
+use Rattle.records.specs.Sized.{widthIn}
 use Rattle.holes.specs.Kinds.{Halves, KindOf}
 use Rattle.holes.proofs.Most.{holes-few}
-use Rattle.holes.proofs.Positions.{halves-count}
+use Rattle.holes.proofs.Positions.{half-short, halves-count}
 use Rattle.holes.proofs.count.Reads as count
 use Rattle.holes.proofs.count.Kinds as count-kinds
 use Rattle.holes.proofs.+count.Lts-count as lts
@@ -18,7 +18,7 @@ use Rattle.holes.proofs.+count.{statement}
 use Rattle.holes.proofs.+count.Tie.{close}
 
 abbrev measure : Measures 1 count-kinds.ps ℕ
-measure κs a = 32 - a .1 .1 .1 .1 .0
+measure κs a = widthIn (a .1 .0) - a .1 .1 .1 .1 .1 .0
 
 abbrev entered : ℕ → In 1 count-kinds.ps
 entered t = and 1 count-kinds.ps (is 1 count-kinds.ps measure t) count.Pre
@@ -33,10 +33,10 @@ claims t = (kind-of-reads.Asked, kind-of-reads.Learnt, deeper t, count.Post)
 halves : (t : ℕ) (c : lts.After-known-told (claims t) (entered t) count.Post)
     → let a = c .before .before .before .before .before .args in
     let k = c .before .right .given .0 in
-    Halves (a .table .now) (a .lo) (a .hi) (a .len) (a .addr) (k .0) (k .1 .0)
+    Halves (a .size) (a .table .now) (a .lo) (a .hi) (a .len) (a .key) (k .0) (k .1 .0)
 halves t c =
     let a = c .before .before .before .before .before .args in
-    subst (KindOf (a .table .now) (a .lo) (a .hi) (a .len) (a .addr)) (c .before .right .given .1) (c .before .before .before .kind-of .ensures)
+    subst (KindOf (a .size) (a .table .now) (a .lo) (a .hi) (a .len) (a .key)) (c .before .right .given .1) (c .before .before .before .kind-of .ensures)
 
 kind-of-requires : (t : ℕ) → lts.Need-kind-of-requires (claims t) (entered t) count.Post
 kind-of-requires t c κs = c .before .pre .1 .0
@@ -51,39 +51,39 @@ enum-known-right : (t : ℕ) → lts.Need-enum-known-right (claims t) (entered t
 enum-known-right t c = search needs
 
 add-count : (t : ℕ) → lts.Need-add-count (claims t) (entered t) count.Post
-add-count t c = search needs
+add-count t c = let short = half-short (halves t c) in search needs
 
 count-requires : (t : ℕ) → lts.Need-count-requires (claims t) (entered t) count.Post
 count-requires t c κs =
     let start = c .before .before .before .before .before in
     let h = halves t c in
-    (omega (arith, start .pre .0, h .longer), ((omega (arith, h .longer), h .left-run), omega (arith, h .right-run .low, start .pre .1 .1)))
+    (omega (arith, start .pre .0, h .longer), (h .left-half, omega (arith, h .right-half .at .low, start .pre .1 .1)))
 
 add-count-2 : (t : ℕ) → lts.Need-add-count-2 (claims t) (entered t) count.Post
-add-count-2 t c = search needs
+add-count-2 t c = let short = half-short (halves t (c .before)) in search needs
 
 count-requires-2 : (t : ℕ) → lts.Need-count-requires-2 (claims t) (entered t) count.Post
 count-requires-2 t c κs =
     let start = c .before .before .before .before .before .before in
     let h = halves t (c .before) in
-    (omega (arith, start .pre .0, h .longer), ((omega (arith, h .longer), h .right-run), start .pre .1 .1))
+    (omega (arith, start .pre .0, h .longer), (h .right-half, start .pre .1 .1))
 
 add-result : (t : ℕ) → lts.Need-add-result (claims t) (entered t) count.Post
 add-result t c =
     let start = c .before .before .before .before .before .before .before in
     let sum = halves-count (halves t (c .before .before)) in
-    let few = holes-few (start .args .len) (start .pre .1 .0 .1) (start .pre .1 .1) in
+    let few = holes-few (start .pre .1 .0) (start .pre .1 .1) in
     omega (arith, c .before .count .ensures, c .count2 .ensures)
 
 returns : (t : ℕ) → lts.Need-returns (claims t) (entered t) count.Post
 returns t c =
     let a = c .before .before .before .before .args in
-    sym (ap length (subst (KindOf (a .table .now) (a .lo) (a .hi) (a .len) (a .addr)) (c .enum-told .given .1) (c .before .before .kind-of .ensures)))
+    sym (ap length (subst (KindOf (a .size) (a .table .now) (a .lo) (a .hi) (a .len) (a .key)) (c .enum-told .given .1) (c .before .before .kind-of .ensures)))
 
 returns-2 : (t : ℕ) → lts.Need-returns-2 (claims t) (entered t) count.Post
 returns-2 t c =
     let a = c .before .before .before .before .args in
-    sym (ap length (subst (KindOf (a .table .now) (a .lo) (a .hi) (a .len) (a .addr)) (c .enum-told2 .given .1) (c .before .before .kind-of .ensures)))
+    sym (ap length (subst (KindOf (a .size) (a .table .now) (a .lo) (a .hi) (a .len) (a .key)) (c .enum-told2 .given .1) (c .before .before .kind-of .ensures)))
 
 returns-3 : (t : ℕ) → lts.Need-returns-3 (claims t) (entered t) count.Post
 returns-3 t c = ap₂ _+_ (c .before .count .ensures) (c .count2 .ensures) ∙ sym (halves-count (halves t (c .before .before)))

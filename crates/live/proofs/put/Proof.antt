@@ -3,7 +3,7 @@ use mathlib.Core.Bool.{true}
 use mathlib.Core.Path.{_≡_}
 use native.Mathlib.Omega.{arith}
 use borrow.Author.Needs.{needs}
-use Rattle.records.specs.Wire.{route}
+use Rattle.records.specs.Sized.{route}
 use Rattle.nodecount.specs.Nodes.{nodes}
 use Rattle.liveroom.specs.Rooms.{shown, sound, live}
 use Rattle.liveroom.proofs.Holding.{held-live, held-dead}

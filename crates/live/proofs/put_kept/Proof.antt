@@ -5,7 +5,7 @@ use mathlib.Core.Path.{_≡_, sym, _∙_}
 use mathlib.Core.List.{List}
 use native.Mathlib.Omega.{arith}
 use borrow.Author.Needs.{needs}
-use Rattle.records.specs.Wire.{route}
+use Rattle.records.specs.Sized.{route}
 use Rattle.nodecount.specs.Nodes.{nodes}
 use Rattle.liveroom.specs.Inner.{isAt}
 use Rattle.liveroom.specs.Rooms.{countIn, shownFrom, shown, Words}

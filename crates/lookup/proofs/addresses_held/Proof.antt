@@ -5,7 +5,7 @@ use native.Mathlib.Omega.{arith}
 use borrow.Author.Needs.{needs}
 use Rattle.table.specs.Checking.{checkedSays}
 use Rattle.refusals.specs.Rules.{gives}
-use Rattle.table.proofs.Tables.{accepted-table}
+use Rattle.table.proofs.AtEight.{accepted-table}
 use Rattle.refusals.proofs.Judged.{gives-any, refuses-any}
 use Rattle.lookup.proofs.addresses_held.Statement.{statement}
 use Rattle.lookup.proofs.addresses_held.Tie as tie
@@ -18,7 +18,7 @@ enum-told c = search needs
 
 count-held-requires : tie.Need-count-held-requires
 count-held-requires c κs =
-    accepted-table _ _ _ false _ (λ k. omega (arith, c .before .before .before .shared-slice-known .given k))
+    accepted-table _ _ (c .before .before .before .before .args .form) false _ (λ k. omega (arith, c .before .before .before .shared-slice-known .given k))
     (sym (c .before .before .check-table .ensures) ∙ ap checkedSays (c .enum-told .given .1)) .0 .table
 
 enum-known-number : tie.Need-enum-known-number

@@ -23,7 +23,7 @@ use Rattle.maximal.proofs.is_absorbed.Reads as is-absorbed-reads
 use Rattle.cover.proofs.query.open_slots.Reads as open-slots-reads
 use Rattle.nodes.proofs.emit.emit_slot.Reads as emit-slot-reads
 use Rattle.nodes.proofs.emit.head_slots.Reads as head-slots-reads
-use Rattle.records.proofs.past.Reads as past-reads
+use Rattle.records.proofs.sized.past_sized.Reads as past-sized-reads
 use Rattle.gather.proofs.gather_run.Reads as gather-run-reads
 use Rattle.gather.proofs.slot_key.Reads as slot-key-reads
 use Rattle.words.proofs.bits.has_bit.Reads as has-bit-reads
@@ -34,7 +34,7 @@ use Rattle.maximal.proofs.+aggregate_set.{statement}
 use Rattle.maximal.proofs.+aggregate_set.Tie.{close}
 
 abbrev measure : Measures 3 kinds.ps ℕ
-measure κs a = reach - a .1 .1 .1 .0
+measure κs a = reach (a .1 .0) - a .1 .1 .1 .1 .0
 
 abbrev entered : ℕ → In 3 kinds.ps
 entered t = and 3 kinds.ps (is 3 kinds.ps measure t) walk.Pre
@@ -60,8 +60,8 @@ claims t = (
   next-bit-reads.Learnt,
   slot-key-reads.Asked,
   slot-key-reads.Learnt,
-  past-reads.Asked,
-  past-reads.Learnt,
+  past-sized-reads.Asked,
+  past-sized-reads.Learnt,
   emit-slot-reads.Asked,
   emit-slot-reads.Learnt,
   has-bit-reads.Asked,
@@ -73,11 +73,11 @@ claims t = (
 )
 
 abbrev Inv-loop : lts.InvT-loop
-Inv-loop table lo hi depth key above work top out₀ first end hops walked coverage entries pushed busy at₀ n₀ next₀ out at n next =
-    Walking table lo hi depth (key * 2) above work top first end hops walked entries pushed busy out₀ next at n out
+Inv-loop table size lo hi depth key above work top out₀ first end hops walked coverage entries pushed busy at₀ n₀ next₀ out at n next =
+    Walking size table lo hi depth (key * 2) above work top first end hops walked entries pushed busy out₀ next at n out
 
 abbrev μ-loop : lts.MeasureT-loop
-μ-loop table lo hi depth key above work top out₀ first end hops walked coverage entries pushed busy at₀ n₀ next₀ out at n next = 32 - next
+μ-loop table size lo hi depth key above work top out₀ first end hops walked coverage entries pushed busy at₀ n₀ next₀ out at n next = 32 - next
 
 gather-run-requires : (t : ℕ) → lts.Need-gather-run-requires (claims t) (entered t) walk.Post Inv-loop μ-loop
 gather-run-requires t c κs =
@@ -111,8 +111,9 @@ head-slots-requires t c κs = search needs
 
 add-at : (t : ℕ) → lts.Need-add-at (claims t) (entered t) walk.Post Inv-loop μ-loop
 add-at t c =
-    let pre = c .before .before .before .before .before .before .before .before .before .before .before .before .pre in
-    let w = word-read (pre .1 .0) (pre .1 .1) .within in
+    let start = c .before .before .before .before .before .before .before .before .before .before .before .before in
+    let w = word-read (start .pre .1 .0) (start .pre .1 .1) .within in
+    let fits = start .good .1 .1 .1 .1 .1 .1 .1 in
     search needs
 
 next-bit-requires : (t : ℕ) → lts.Need-next-bit-requires (claims t) (entered t) walk.Post Inv-loop μ-loop
@@ -152,8 +153,8 @@ slot-key-requires t c κs =
     let n = c .before .loop .inv .found .opened .node in
     (c .loop-test .taken, n .at)
 
-past-requires : (t : ℕ) → lts.Need-past-requires (claims t) (entered t) walk.Post Inv-loop μ-loop
-past-requires t c κs = search needs
+past-sized-requires : (t : ℕ) → lts.Need-past-sized-requires (claims t) (entered t) walk.Post Inv-loop μ-loop
+past-sized-requires t c κs = search needs
 
 sub-emit-slot : (t : ℕ) → lts.Need-sub-emit-slot (claims t) (entered t) walk.Post Inv-loop μ-loop
 sub-emit-slot t c = search needs
@@ -168,17 +169,17 @@ emit-slot-requires : (t : ℕ) → lts.Need-emit-slot-requires (claims t) (enter
 emit-slot-requires t c κs =
     let n = c .before .before .before .before .before .loop .inv .found .opened .node in
     let lt = c .before .before .before .before .loop-test .taken in
-    (lt, n .at .deep)
+    (lt, (n .at .deep, n .sized))
 
 -- The entries that begin at a slot are written once they come back.
 started : (t : ℕ) (c : lts.After-slice-known2 (claims t) (entered t) walk.Post Inv-loop μ-loop)
     → let a = c .before .before .before .before .before .before .before .before .before .before .before .before .before .before .before .before .before .before .before .before .before .before .args in
     let l = c .before .before .before .before .before .before .before .before .loop in
-    Begun (c .before .before .before .before .before .before .before .before .before .before .before .before .entries-of .result) (replicate 31 0) (a .depth) (a .key * 2)
-    (maximalSlot (a .table .now) (a .depth) (a .key * 2) (a .above) (c .before .before .before .before .before .before .before .before .before .before .before .before .before .before .before .before .gather-run .last .1 .1 .1 .1 .1 .0) (c .before .before .before .before .before .before .before .before .before .before .before .before .before .before .before .before .gather-run .last .1 .1 .1 .1 .1 .1 .0) (c .before .before .before .before .before .before .before .before .before .before .before .push-l4 .result))
-    (l .next) (l .n + c .before .before .emit-slot .result) (a .out .now) (relaid (c .before .before .before .before .before .past .result) (c .before .before .emit-slot .last .1 .1 .1 .1 .1 .0) (l .out))
+    Begun (a .size) (c .before .before .before .before .before .before .before .before .before .before .before .before .entries-of .result) (replicate 31 0) (a .depth) (a .key * 2)
+    (maximalSlot (a .size) (a .table .now) (a .depth) (a .key * 2) (a .above) (c .before .before .before .before .before .before .before .before .before .before .before .before .before .before .before .before .gather-run .last .1 .1 .1 .1 .1 .1 .0) (c .before .before .before .before .before .before .before .before .before .before .before .before .before .before .before .before .gather-run .last .1 .1 .1 .1 .1 .1 .1 .0) (c .before .before .before .before .before .before .before .before .before .before .before .push-l4 .result))
+    (l .next) (l .n + c .before .before .emit-slot .result) (a .out .now) (relaid (c .before .before .before .before .before .past-sized .result) (c .before .before .emit-slot .last .1 .1 .1 .1 .1 .1 .0) (l .out))
 started t c =
-    begun (c .before .before .before .before .before .before .before .before .loop .inv .done) (c .before .before .before .before .before .before .before .loop-test .taken) (c .before .before .before .before .before .past .ensures) (c .before .before .before .before .before .before .slot-key .ensures .0)
+    begun (c .before .before .before .before .before .before .before .before .loop .inv .done) (c .before .before .before .before .before .before .before .loop-test .taken) (c .before .before .before .before .before .past-sized .ensures) (c .before .before .before .before .before .before .slot-key .ensures .0)
     (c .before .before .emit-slot .ensures) (c .before .out .given .1)
 
 add-n : (t : ℕ) → lts.Need-add-n (claims t) (entered t) walk.Post Inv-loop μ-loop
@@ -199,8 +200,8 @@ cast-has-bit t c = search needs
 has-bit-requires : (t : ℕ) → lts.Need-has-bit-requires (claims t) (entered t) walk.Post Inv-loop μ-loop
 has-bit-requires t c κs = search needs
 
-past-requires-2 : (t : ℕ) → lts.Need-past-requires-2 (claims t) (entered t) walk.Post Inv-loop μ-loop
-past-requires-2 t c κs = search needs
+past-sized-requires-2 : (t : ℕ) → lts.Need-past-sized-requires-2 (claims t) (entered t) walk.Post Inv-loop μ-loop
+past-sized-requires-2 t c κs = search needs
 
 add-aggregate-set : (t : ℕ) → lts.Need-add-aggregate-set (claims t) (entered t) walk.Post Inv-loop μ-loop
 add-aggregate-set t c = search needs
@@ -272,7 +273,7 @@ loop-again t c =
     let e = sym (c .before .before .before .before .before .before .before .before .has-bit .ensures) ∙ c .before .before .before .before .before .before .before .if1 .taken in
     let call = c .before .before .before .aggregate-set in
     walk-child (c .before .before .before .before .before .before .before .before .before .before .before .before .before .before .before .before .before .before .loop .inv) (c .before .before .before .before .before .before .before .before .before .next-bit2 .ensures) (started t (c .before .before .before .before .before .before .before .before .before .before)) e (place t (c .before .before .before .before .before .before .before .before) (c .before .before .before .before .before .before .before .if1 .taken))
-    (c .before .before .before .before .before .is-absorbed .ensures) (call .ensures .0) (c .before .before .before .before .before .before .past2 .ensures) (call .ensures .1) (c .before .before .out2 .given .1)
+    (c .before .before .before .before .before .is-absorbed .ensures) (call .ensures .0) (c .before .before .before .before .before .before .past-sized2 .ensures) (call .ensures .1) (c .before .before .out2 .given .1)
 
 loop-less-2 : (t : ℕ) → lts.Need-loop-less-2 (claims t) (entered t) walk.Post Inv-loop μ-loop
 loop-less-2 t c = search needs
@@ -304,7 +305,7 @@ pub +aggregate-set-spec : {M : Type 1} → statement M
     (next-bit-requires t)
     (loop-holds t)
     (slot-key-requires t)
-    (past-requires t)
+    (past-sized-requires t)
     (sub-emit-slot t)
     (part-emit-slot-start t)
     (part-emit-slot-end t)
@@ -314,7 +315,7 @@ pub +aggregate-set-spec : {M : Type 1} → statement M
     (next-bit-requires-2 t)
     (cast-has-bit t)
     (has-bit-requires t)
-    (past-requires-2 t)
+    (past-sized-requires-2 t)
     (add-aggregate-set t)
     (mul-aggregate-set t)
     (array-read-aggregate-set t)

@@ -26,7 +26,7 @@ use Rattle.maximal.proofs.+collect_coverage.{statement}
 use Rattle.maximal.proofs.+collect_coverage.Tie.{close}
 
 abbrev measure : Measures 2 kinds.ps ℕ
-measure κs a = reach - a .1 .1 .1 .0
+measure κs a = reach (a .1 .0) - a .1 .1 .1 .1 .0
 
 abbrev entered : ℕ → In 2 kinds.ps
 entered t = and 2 kinds.ps (is 2 kinds.ps measure t) walk.Pre
@@ -57,12 +57,12 @@ claims t = (
 )
 
 abbrev Inv-loop : lts.InvT-loop
-Inv-loop table lo hi depth key work₀ top first end g under walked covered₀ at₀ k₀ work covered at k =
-    Collecting table lo hi depth (key * 2) first end (g .present) under walked top work₀ k at covered work
+Inv-loop table size lo hi depth key work₀ top first end g under walked covered₀ at₀ k₀ work covered at k =
+    Collecting size table lo hi depth (key * 2) first end (g .present) under walked top work₀ k at covered work
     × (0 < k → bit walked (k - 1) ≡ true)
 
 abbrev μ-loop : lts.MeasureT-loop
-μ-loop table lo hi depth key work₀ top first end g under walked covered₀ at₀ k₀ work covered at k = k
+μ-loop table size lo hi depth key work₀ top first end g under walked covered₀ at₀ k₀ work covered at k = k
 
 gather-run-requires : (t : ℕ) → lts.Need-gather-run-requires (claims t) (entered t) walk.Post Inv-loop μ-loop
 gather-run-requires t c κs =
@@ -169,8 +169,8 @@ slice-write-work t c =
     let w = c .before .before .loop .inv .0 in
     omega (arith, collect-least w, collect-within w)
 
-sub-t39 : (t : ℕ) → lts.Need-sub-t39 (claims t) (entered t) walk.Post Inv-loop μ-loop
-sub-t39 t c = omega (arith, collect-least (c .before .before .loop .inv .0))
+sub-t40 : (t : ℕ) → lts.Need-sub-t40 (claims t) (entered t) walk.Post Inv-loop μ-loop
+sub-t40 t c = omega (arith, collect-least (c .before .before .loop .inv .0))
 
 same-length : (t : ℕ) → lts.Need-same-length (claims t) (entered t) walk.Post Inv-loop μ-loop
 same-length t c = simp length-set (collect-length (c .before .before .loop .inv .0))
@@ -205,6 +205,6 @@ pub +collect-coverage-spec : {M : Type 1} → statement M
     (sub-work t)
     (mul-work t)
     (slice-write-work t)
-    (sub-t39 t)
+    (sub-t40 t)
     (same-length t)
     (returns t)

@@ -5,7 +5,11 @@ use native.Mathlib.Omega.{arith}
 use borrow.Author.Needs.{needs}
 use borrow.Fn.Kinds.{In}
 use borrow.Fn.PlainCycle.{Measures, is, falls, and}
-use Rattle.plain.specs.Positions.{setAt, Halved, PartOf}
+use Rattle.words.specs.Keys.{keyOf}
+use Rattle.records.specs.Sized.{widthIn}
+use Rattle.records.proofs.SizedReading.{width-most}
+use Rattle.plain.specs.Positions.{addressIn, setAt, Halved, PartOf}
+use Rattle.plain.proofs.Positions.{left-position, right-position}
 use Rattle.plain.proofs.Walk.{set-uniform, set-halves}
 use Rattle.plain.proofs.set_of.Reads as set-of
 use Rattle.plain.proofs.set_of.Kinds as set-of-kinds
@@ -17,7 +21,7 @@ use Rattle.plain.proofs.+set_of.{statement}
 use Rattle.plain.proofs.+set_of.Tie.{close}
 
 abbrev measure : Measures 1 set-of-kinds.ps ℕ
-measure κs a = 32 - a .1 .1 .1 .1 .0
+measure κs a = widthIn (a .1 .0) - a .1 .1 .1 .1 .1 .0
 
 abbrev entered : ℕ → In 1 set-of-kinds.ps
 entered t = and 1 set-of-kinds.ps (is 1 set-of-kinds.ps measure t) set-of.Pre
@@ -33,10 +37,11 @@ claims t =
 halves : (t : ℕ) (c : lts.After-known-told2 (claims t) (entered t) set-of.Post)
     → let a = c .before .before .before .before .before .args in
     let k = c .before .hop2 .given .0 in
-    (a .len < 32) × Halved 32 (a .table .now) (a .lo) (a .hi) (a .cover) (32 - (a .len + 1)) (a .addr) (k .0) (k .1 .0) (k .1 .1 .0) (k .1 .1 .1 .0)
+    (a .len < widthIn (a .size)) × (k .1 .1 .1 .0 ≡ keyOf (widthIn (a .size)) (addressIn (a .size) (k .1 .1 .1 .0)))
+    × Halved (a .size) (a .table .now) (a .lo) (a .hi) (a .cover) (widthIn (a .size) - (a .len + 1)) (addressIn (a .size) (a .key)) (k .0) (k .1 .0) (k .1 .1 .0) (addressIn (a .size) (k .1 .1 .1 .0))
 halves t c =
     let a = c .before .before .before .before .before .args in
-    subst (PartOf (a .table .now) (a .lo) (a .hi) (a .len) (a .addr) (a .cover)) (c .before .hop2 .given .1) (c .before .before .before .part-of .ensures)
+    subst (PartOf (a .size) (a .table .now) (a .lo) (a .hi) (a .len) (a .key) (a .cover)) (c .before .hop2 .given .1) (c .before .before .before .part-of .ensures)
 
 part-of-requires : (t : ℕ) → lts.Need-part-of-requires (claims t) (entered t) set-of.Post
 part-of-requires t c κs = c .before .pre .1
@@ -51,22 +56,30 @@ enum-known-hop-2 : (t : ℕ) → lts.Need-enum-known-hop-2 (claims t) (entered t
 enum-known-hop-2 t c = search needs
 
 add-set-of : (t : ℕ) → lts.Need-add-set-of (claims t) (entered t) set-of.Post
-add-set-of t c = search needs
+add-set-of t c =
+    let start = c .before .before .before .before .before in
+    let small = width-most (start .args .size) (start .pre .1 .0 .is-size) in
+    let lt = halves t c .0 in
+    search needs
 
 set-of-requires : (t : ℕ) → lts.Need-set-of-requires (claims t) (entered t) set-of.Post
 set-of-requires t c κs =
     let start = c .before .before .before .before .before in
     let h = halves t c in
-    (omega (arith, start .pre .0, h .0), ((omega (arith, h .0), h .1 .left-run), start .pre .1 .1))
+    (omega (arith, start .pre .0, h .0), (left-position _ (start .pre .1 .0) (h .0) (h .2), start .pre .1 .1))
 
 add-set-of-2 : (t : ℕ) → lts.Need-add-set-of-2 (claims t) (entered t) set-of.Post
-add-set-of-2 t c = search needs
+add-set-of-2 t c =
+    let start = c .before .before .before .before .before .before in
+    let small = width-most (start .args .size) (start .pre .1 .0 .is-size) in
+    let lt = halves t (c .before) .0 in
+    search needs
 
 set-of-requires-2 : (t : ℕ) → lts.Need-set-of-requires-2 (claims t) (entered t) set-of.Post
 set-of-requires-2 t c κs =
     let start = c .before .before .before .before .before .before in
     let h = halves t (c .before) in
-    (omega (arith, start .pre .0, h .0), ((omega (arith, h .0), h .1 .right-run), start .pre .1 .1))
+    (omega (arith, start .pre .0, h .0), (right-position _ (start .pre .1 .0) (h .0) (h .2) (h .1), start .pre .1 .1))
 
 combine-requires : (t : ℕ) → lts.Need-combine-requires (claims t) (entered t) set-of.Post
 combine-requires t c κs = search needs
@@ -74,7 +87,7 @@ combine-requires t c κs = search needs
 returns : (t : ℕ) → lts.Need-returns (claims t) (entered t) set-of.Post
 returns t c =
     let a = c .before .before .before .before .before .before .args in
-    let one = subst (PartOf (a .table .now) (a .lo) (a .hi) (a .len) (a .addr) (a .cover)) (c .before .before .hop .given .1)
+    let one = subst (PartOf (a .size) (a .table .now) (a .lo) (a .hi) (a .len) (a .key) (a .cover)) (c .before .before .hop .given .1)
     (c .before .before .before .before .part-of .ensures) in
     rw (set-uniform one) (c .alone .ensures)
 
@@ -83,11 +96,11 @@ returns-2 t c =
     let h = halves t (c .before .before .before) in
     let a = c .before .before .before .before .before .before .before .before .args in
     let k = c .before .before .before .before .hop2 .given .0 in
-    let bits : 32 - a .len ≡ suc (32 - (a .len + 1)) = omega (arith, h .0) in
-    rw (set-halves (h .1) bits)
+    let bits : widthIn (a .size) - a .len ≡ suc (widthIn (a .size) - (a .len + 1)) = omega (arith, h .0) in
+    rw (set-halves (h .2) bits)
     (c .combine .ensures
-    (setAt 32 (a .table .now) (k .1 .0) (k .1 .1 .0) (k .0) (32 - (a .len + 1)) (a .addr))
-    (setAt 32 (a .table .now) (k .1 .1 .0) (a .hi) (k .0) (32 - (a .len + 1)) (k .1 .1 .1 .0))
+    (setAt (a .size) (a .table .now) (k .1 .0) (k .1 .1 .0) (k .0) (widthIn (a .size) - (a .len + 1)) (addressIn (a .size) (a .key)))
+    (setAt (a .size) (a .table .now) (k .1 .1 .0) (a .hi) (k .0) (widthIn (a .size) - (a .len + 1)) (addressIn (a .size) (k .1 .1 .1 .0)))
     (c .before .before .set-of .ensures) (c .before .set-of2 .ensures))
 
 pub +set-of-spec : {M : Type 1} → statement M

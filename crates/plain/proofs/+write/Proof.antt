@@ -10,7 +10,12 @@ use borrow.Fn.Kinds.{In}
 use borrow.Fn.PlainCycle.{Measures, is, falls, and}
 use Rattle.theory.specs.Results.{Cand}
 use Rattle.plain.specs.Output.{Put}
-use Rattle.plain.specs.Positions.{setAt, entryAt, entriesAt, Halved, PartOf}
+use Rattle.words.specs.Keys.{keyOf}
+use Rattle.records.specs.Sized.{widthIn}
+use Rattle.records.proofs.SizedReading.{width-most}
+use Rattle.plain.specs.Positions.{addressIn, setAt, entryAt, entriesAt, Halved, PartOf}
+use Rattle.plain.proofs.Positions.{left-position, right-position}
+use Rattle.plain.proofs.Whole.{records-few}
 use Rattle.plain.proofs.Output.{put-then}
 use Rattle.plain.proofs.Walk.{entries-uniform, entries-halves, entries-few, entries-count}
 use Rattle.plain.proofs.write.Reads as write
@@ -20,12 +25,12 @@ use Rattle.hops.proofs.assign.Reads as assign-reads
 use Rattle.plain.proofs.part_of.Reads as part-of-reads
 use Rattle.plain.proofs.set_of.Reads as set-of-reads
 use Rattle.plain.proofs.write_entry.Reads as write-entry-reads
-use Rattle.records.proofs.past.Reads as past-reads
+use Rattle.records.proofs.sized.past_sized.Reads as past-sized-reads
 use Rattle.plain.proofs.+write.{statement}
 use Rattle.plain.proofs.+write.Tie.{close}
 
 abbrev measure : Measures 3 write-kinds.ps ℕ
-measure κs a = 32 - a .1 .1 .1 .1 .0
+measure κs a = widthIn (a .1 .0) - a .1 .1 .1 .1 .1 .0
 
 abbrev entered : ℕ → In 3 write-kinds.ps
 entered t = and 3 write-kinds.ps (is 3 write-kinds.ps measure t) write.Pre
@@ -43,43 +48,44 @@ claims t = (
   part-of-reads.Learnt,
   assign-reads.Asked,
   assign-reads.Learnt,
-  past-reads.Asked,
-  past-reads.Learnt,
+  past-sized-reads.Asked,
+  past-sized-reads.Learnt,
   deeper t,
   write.Post,
 )
 
 -- The candidates of the position, at the match.
 abbrev candidates : (t : ℕ) → lts.After-known-told (claims t) (entered t) write.Post → Cand
-candidates t c = let a = c .before .before .before .before .before .before .before .before .before .before .before .before .args in setAt 32 (a .table .now) (a .lo) (a .hi) (a .cover) (32 - a .len) (a .addr)
+candidates t c = let a = c .before .before .before .before .before .before .before .before .before .before .before .before .args in setAt (a .size) (a .table .now) (a .lo) (a .hi) (a .cover) (widthIn (a .size) - a .len) (addressIn (a .size) (a .key))
 
 -- The halves that it goes down to.
 halves : (t : ℕ) (c : lts.After-known-told (claims t) (entered t) write.Post)
     → let a = c .before .before .before .before .before .before .before .before .before .before .before .before .args in
     let k = c .before .hop .given .0 in
-    (a .len < 32) × Halved 32 (a .table .now) (a .lo) (a .hi) (a .cover) (32 - (a .len + 1)) (a .addr) (k .0) (k .1 .0) (k .1 .1 .0) (k .1 .1 .1 .0)
+    (a .len < widthIn (a .size)) × (k .1 .1 .1 .0 ≡ keyOf (widthIn (a .size)) (addressIn (a .size) (k .1 .1 .1 .0)))
+    × Halved (a .size) (a .table .now) (a .lo) (a .hi) (a .cover) (widthIn (a .size) - (a .len + 1)) (addressIn (a .size) (a .key)) (k .0) (k .1 .0) (k .1 .1 .0) (addressIn (a .size) (k .1 .1 .1 .0))
 halves t c =
     let a = c .before .before .before .before .before .before .before .before .before .before .before .before .args in
-    subst (PartOf (a .table .now) (a .lo) (a .hi) (a .len) (a .addr) (a .cover)) (c .before .hop .given .1) (c .before .before .before .part-of .ensures)
+    subst (PartOf (a .size) (a .table .now) (a .lo) (a .hi) (a .len) (a .key) (a .cover)) (c .before .hop .given .1) (c .before .before .before .part-of .ensures)
 
 -- Its entries are its own, then those of its halves, under the hop that it was assigned.
 entries : (t : ℕ) (c : lts.After-assign (claims t) (entered t) write.Post)
     → let a = c .before .before .before .before .before .before .before .before .before .before .before .before .before .args in
     let k = c .before .before .hop .given .0 in
-    entriesAt (a .ranks .now) 32 (a .table .now) (a .lo) (a .hi) (a .cover) (32 - a .len) (a .addr) (a .above)
-    ≡ (entryAt (a .ranks .now) 32 (candidates t (c .before)) (32 - a .len) (a .addr) (a .above)
-    ++ entriesAt (a .ranks .now) 32 (a .table .now) (k .1 .0) (k .1 .1 .0) (k .0) (32 - (a .len + 1)) (a .addr) (c .assign .result))
-    ++ entriesAt (a .ranks .now) 32 (a .table .now) (k .1 .1 .0) (a .hi) (k .0) (32 - (a .len + 1)) (k .1 .1 .1 .0) (c .assign .result)
+    entriesAt (a .ranks .now) (a .size) (a .table .now) (a .lo) (a .hi) (a .cover) (widthIn (a .size) - a .len) (addressIn (a .size) (a .key)) (a .above)
+    ≡ (entryAt (a .ranks .now) (a .size) (candidates t (c .before)) (widthIn (a .size) - a .len) (addressIn (a .size) (a .key)) (a .above)
+    ++ entriesAt (a .ranks .now) (a .size) (a .table .now) (k .1 .0) (k .1 .1 .0) (k .0) (widthIn (a .size) - (a .len + 1)) (addressIn (a .size) (a .key)) (c .assign .result))
+    ++ entriesAt (a .ranks .now) (a .size) (a .table .now) (k .1 .1 .0) (a .hi) (k .0) (widthIn (a .size) - (a .len + 1)) (addressIn (a .size) (k .1 .1 .1 .0)) (c .assign .result)
 entries t c =
     let a = c .before .before .before .before .before .before .before .before .before .before .before .before .before .args in
     let h = halves t (c .before) in
-    let bits : 32 - a .len ≡ suc (32 - (a .len + 1)) = omega (arith, h .0) in
-    entries-halves (h .1) bits (a .ranks .now) (a .above) (c .assign .result) (c .assign .ensures .0 (candidates t (c .before)) (c .before .before .before .before .before .before .before .before .before .set-of .ensures))
+    let bits : widthIn (a .size) - a .len ≡ suc (widthIn (a .size) - (a .len + 1)) = omega (arith, h .0) in
+    entries-halves (h .2) bits (a .ranks .now) (a .above) (c .assign .result) (c .assign .ensures .0 (candidates t (c .before)) (c .before .before .before .before .before .before .before .before .before .set-of .ensures))
 
 -- Its own entry was put.
 own : (t : ℕ) (c : lts.After-known-told (claims t) (entered t) write.Post)
     → let a = c .before .before .before .before .before .before .before .before .before .before .before .before .args in
-    Put (entryAt (a .ranks .now) 32 (candidates t c) (32 - a .len) (a .addr) (a .above)) (c .before .before .before .before .before .before .write-entry .result) (a .out .now) (c .before .before .before .before .before .before .write-entry .last .1 .1 .1 .1 .1 .0)
+    Put (a .size) (entryAt (a .ranks .now) (a .size) (candidates t c) (widthIn (a .size) - a .len) (addressIn (a .size) (a .key)) (a .above)) (c .before .before .before .before .before .before .write-entry .result) (a .out .now) (c .before .before .before .before .before .before .write-entry .last .1 .1 .1 .1 .1 .1 .0)
 own t c = c .before .before .before .before .before .before .write-entry .ensures (candidates t c) (c .before .before .before .before .before .before .before .before .set-of .ensures)
 
 -- All of them are few.
@@ -87,15 +93,18 @@ few : (t : ℕ) (c : lts.After-write (claims t) (entered t) write.Post)
     → let a = c .before .before .before .before .before .before .before .before .before .before .before .before .before .before .before .before .args in
     let k = c .before .before .before .before .before .hop .given .0 in
     c .before .before .before .before .before .before .before .before .before .before .write-entry .result + c .write .result
-    + length (entriesAt (a .ranks .now) 32 (a .table .now) (k .1 .1 .0) (a .hi) (k .0) (32 - (a .len + 1)) (k .1 .1 .1 .0) (c .before .before .before .assign .result)) < 2 ^ 33
+    + length (entriesAt (a .ranks .now) (a .size) (a .table .now) (k .1 .1 .0) (a .hi) (k .0) (widthIn (a .size) - (a .len + 1)) (addressIn (a .size) (k .1 .1 .1 .0)) (c .before .before .before .assign .result)) < 2 ^ 62
 few t c =
-    let a = c .before .before .before .before .before .before .before .before .before .before .before .before .before .before .before .before .args in
+    let start = c .before .before .before .before .before .before .before .before .before .before .before .before .before .before .before .before in
+    let a = start .args in
     let h = halves t (c .before .before .before .before) in
-    let bits : 32 - a .len ≡ suc (32 - (a .len + 1)) = omega (arith, h .0) in
+    let bits : widthIn (a .size) - a .len ≡ suc (widthIn (a .size) - (a .len + 1)) = omega (arith, h .0) in
     omega (
       arith,
-      entries-few (a .ranks .now) (a .table .now) (a .lo) (a .hi) (a .cover) (a .len) (a .addr) (a .above),
-      entries-count (h .1) bits (a .ranks .now) (a .above) (c .before .before .before .assign .result)
+      entries-few (a .ranks .now) (a .cover) (a .above) (start .pre .1 .0 .is-run),
+      start .pre .1 .0 .is-run .high,
+      records-few (a .size) (start .pre .1 .0 .is-size) (a .table .now),
+      entries-count (h .2) bits (a .ranks .now) (a .above) (c .before .before .before .assign .result)
           (c .before .before .before .assign .ensures .0 (candidates t (c .before .before .before .before)) (c .before .before .before .before .before .before .before .before .before .before .before .before .set-of .ensures)),
       own t (c .before .before .before .before) .counted,
       c .write .ensures .counted,
@@ -119,11 +128,15 @@ enum-known-hop t c = search needs
 assign-requires : (t : ℕ) → lts.Need-assign-requires (claims t) (entered t) write.Post
 assign-requires t c κs = search needs
 
-past-requires : (t : ℕ) → lts.Need-past-requires (claims t) (entered t) write.Post
-past-requires t c κs = search needs
+past-sized-requires : (t : ℕ) → lts.Need-past-sized-requires (claims t) (entered t) write.Post
+past-sized-requires t c κs = search needs
 
 add-write : (t : ℕ) → lts.Need-add-write (claims t) (entered t) write.Post
-add-write t c = search needs
+add-write t c =
+    let start = c .before .before .before .before .before .before .before .before .before .before .before .before .before .before in
+    let small = width-most (start .args .size) (start .pre .1 .0 .is-size) in
+    let lt = halves t (c .before .before) .0 in
+    search needs
 
 sub-write : (t : ℕ) → lts.Need-sub-write (claims t) (entered t) write.Post
 sub-write t c = search needs
@@ -138,16 +151,20 @@ write-requires : (t : ℕ) → lts.Need-write-requires (claims t) (entered t) wr
 write-requires t c κs =
     let start = c .before .before .before .before .before .before .before .before .before .before .before .before .before .before .before in
     let h = halves t (c .before .before .before) in
-    (omega (arith, start .pre .0, h .0), ((omega (arith, h .0), h .1 .left-run), start .pre .1 .1))
+    (omega (arith, start .pre .0, h .0), (left-position _ (start .pre .1 .0) (h .0) (h .2), start .pre .1 .1))
 
 add-done : (t : ℕ) → lts.Need-add-done (claims t) (entered t) write.Post
 add-done t c = let sum = few t (c .before .before) in omega arith
 
-past-requires-2 : (t : ℕ) → lts.Need-past-requires-2 (claims t) (entered t) write.Post
-past-requires-2 t c κs = search needs
+past-sized-requires-2 : (t : ℕ) → lts.Need-past-sized-requires-2 (claims t) (entered t) write.Post
+past-sized-requires-2 t c κs = c .before .before .before .before .before .before .before .before .before .before .before .before .before .before .before .before .before .before .pre .1 .0 .is-size
 
 add-write-2 : (t : ℕ) → lts.Need-add-write-2 (claims t) (entered t) write.Post
-add-write-2 t c = let pre = c .before .before .before .before .before .before .before .before .before .before .before .before .before .before .before .before .before .before .before .pre in search needs
+add-write-2 t c =
+    let start = c .before .before .before .before .before .before .before .before .before .before .before .before .before .before .before .before .before .before .before in
+    let small = width-most (start .args .size) (start .pre .1 .0 .is-size) in
+    let lt = halves t (c .before .before .before .before .before .before .before) .0 in
+    search needs
 
 sub-write-2 : (t : ℕ) → lts.Need-sub-write-2 (claims t) (entered t) write.Post
 sub-write-2 t c = search needs
@@ -162,7 +179,7 @@ write-requires-2 : (t : ℕ) → lts.Need-write-requires-2 (claims t) (entered t
 write-requires-2 t c κs =
     let start = c .before .before .before .before .before .before .before .before .before .before .before .before .before .before .before .before .before .before .before .before in
     let h = halves t (c .before .before .before .before .before .before .before .before) in
-    (omega (arith, start .pre .0, h .0), ((omega (arith, h .0), h .1 .right-run), start .pre .1 .1))
+    (omega (arith, start .pre .0, h .0), (right-position _ (start .pre .1 .0) (h .0) (h .2) (h .1), start .pre .1 .1))
 
 add-result : (t : ℕ) → lts.Need-add-result (claims t) (entered t) write.Post
 add-result t c =
@@ -176,8 +193,8 @@ same-length t c = search needs
 returns : (t : ℕ) → lts.Need-returns (claims t) (entered t) write.Post
 returns t c =
     let a = c .before .before .before .before .before .before .before .before .before .before .before .args in
-    let S = setAt 32 (a .table .now) (a .lo) (a .hi) (a .cover) (32 - a .len) (a .addr) in
-    let one = subst (PartOf (a .table .now) (a .lo) (a .hi) (a .len) (a .addr) (a .cover)) (c .enum-told .given .1) (c .before .before .part-of .ensures) in
+    let S = setAt (a .size) (a .table .now) (a .lo) (a .hi) (a .cover) (widthIn (a .size) - a .len) (addressIn (a .size) (a .key)) in
+    let one = subst (PartOf (a .size) (a .table .now) (a .lo) (a .hi) (a .len) (a .key) (a .cover)) (c .enum-told .given .1) (c .before .before .part-of .ensures) in
     rw (entries-uniform one (a .ranks .now) (a .above)) (c .before .before .before .before .before .write-entry .ensures S (c .before .before .before .before .before .before .before .set-of .ensures))
 
 same-length-2 : (t : ℕ) → lts.Need-same-length-2 (claims t) (entered t) write.Post
@@ -185,9 +202,10 @@ same-length-2 t c = search needs
 
 returns-2 : (t : ℕ) → lts.Need-returns-2 (claims t) (entered t) write.Post
 returns-2 t c =
-    put-then (entries t (c .before .before .before .before .before .before .before .before .before .before))
-    (put-then refl (own t (c .before .before .before .before .before .before .before .before .before .before .before)) (c .before .before .before .before .before .before .before .before .before .past .ensures .1) (c .before .before .before .before .before .before .before .write .ensures))
-    (c .before .before .before .before .past2 .ensures .1)
+    let is = c .before .before .before .before .before .before .before .before .before .before .before .before .before .before .before .before .before .before .before .before .before .before .before .pre .1 .0 .is-size in
+    put-then is (entries t (c .before .before .before .before .before .before .before .before .before .before))
+    (put-then is refl (own t (c .before .before .before .before .before .before .before .before .before .before .before)) (c .before .before .before .before .before .before .before .before .before .past-sized .ensures .1) (c .before .before .before .before .before .before .before .write .ensures))
+    (c .before .before .before .before .past-sized2 .ensures .1)
     (c .before .before .write2 .ensures)
 
 pub +write-spec : {M : Type 1} → statement M
@@ -199,14 +217,14 @@ pub +write-spec : {M : Type 1} → statement M
     (enum-told t)
     (enum-known-hop t)
     (assign-requires t)
-    (past-requires t)
+    (past-sized-requires t)
     (add-write t)
     (sub-write t)
     (part-write-start t)
     (part-write-end t)
     (write-requires t)
     (add-done t)
-    (past-requires-2 t)
+    (past-sized-requires-2 t)
     (add-write-2 t)
     (sub-write-2 t)
     (part-write-start-2 t)

@@ -4,7 +4,8 @@ use mathlib.Core.Path.{sym, ap, _∙_}
 use mathlib.Core.List.{[], _∷_}
 use borrow.Author.Needs.{needs}
 use Rattle.theory.proofs.Preserve.{back}
-use Rattle.records.specs.Wire.{route}
+use Rattle.records.specs.Sized.{widthIn, route}
+use Rattle.plain.specs.Positions.{addressIn}
 use Rattle.plain.proofs.Output.{put-none, put-one}
 use Rattle.plain.proofs.Walk.{entry-hole, entry-taken, entry-chosen}
 use Rattle.plain.proofs.write_entry.Statement.{statement}
@@ -22,8 +23,8 @@ returns-2 c = λ S p. put-none _ (entry-taken _ _ _ _ (c .before .before .before
 lowest-requires : tie.Need-lowest-requires
 lowest-requires c κs = search needs
 
-put-record-requires : tie.Need-put-record-requires
-put-record-requires c κs = search needs
+put-sized-requires : tie.Need-put-sized-requires
+put-sized-requires c κs = c .before .before .before .before .before .before .before .pre .0
 
 same-length : tie.Need-same-length
 same-length c = search needs
@@ -33,11 +34,11 @@ returns-3 c = λ S p.
     let start = c .before .before .before .before .before .before .before .before .before .before in
     let a = start .args in
     let least = c .before .before .before .lowest .ensures in
-    put-one (route (a .addr) (a .len) (c .before .before .before .lowest .result)) _ _
-    (entry-chosen (a .ranks .now) 32 (32 - a .len) (a .addr) (a .above) _ S _ p (c .before .before .before .before .before .before .before .if1 .left)
+    put-one (route (addressIn (a .size) (a .key)) (a .len) (c .before .before .before .lowest .result)) _ _
+    (entry-chosen (a .ranks .now) (a .size) (widthIn (a .size) - a .len) (addressIn (a .size) (a .key)) (a .above) _ S _ p (c .before .before .before .before .before .before .before .if1 .left)
     (λ s q. sym (c .before .before .before .before .before .if2 .left) ∙ c .before .before .before .before .before .before .has .ensures s q) (least .0)
-    ∙ ap (λ l. route (a .addr) l (c .before .before .before .lowest .result) ∷ []) (back 32 (a .len) (start .pre)))
-    (c .before .before .put-record .ensures)
+    ∙ ap (λ l. route (addressIn (a .size) (a .key)) l (c .before .before .before .lowest .result) ∷ []) (back (widthIn (a .size)) (a .len) (start .pre .1)))
+    (c .before .before .put-sized .ensures)
 
 pub write-entry-spec : {M : Type 1} → statement M
 write-entry-spec =
@@ -47,6 +48,6 @@ write-entry-spec =
     has-requires
     returns-2
     lowest-requires
-    put-record-requires
+    put-sized-requires
     same-length
     returns-3)

@@ -3,7 +3,7 @@ use mathlib.Core.Path.{_∙_, ap₂}
 use Prim.Native.Nat.{ℕ, _-_}
 use borrow.Author.Needs.{needs}
 use Rattle.theory.specs.Results.{startOf}
-use Rattle.records.specs.Wire.{routeAt}
+use Rattle.records.specs.Sized.{routeIn}
 use Rattle.records.proofs.addr_at.Statement.{statement}
 use Rattle.records.proofs.addr_at.Tie as tie
 
@@ -17,7 +17,7 @@ masked-requires : tie.Need-masked-requires
 masked-requires c κs = search needs
 
 returns : tie.Need-returns
-unfolding routeAt
+unfolding routeIn
 returns c = c .masked .ensures ∙ ap₂ (λ (l a : ℕ). startOf (32 - l) a) (c .before .len-at .ensures) (c .before .before .raw-addr-at .ensures)
 
 pub addr-at-spec : {M : Type 1} → statement M

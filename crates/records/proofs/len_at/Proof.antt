@@ -1,7 +1,7 @@
 -- `records::len_at` reads byte 4 of record i. Assumes nothing.
 use mathlib.Core.Path.{refl}
 use borrow.Author.Needs.{needs}
-use Rattle.records.specs.Wire.{rawAt, routeAt}
+use Rattle.records.specs.Sized.{rawIn, routeIn}
 use Rattle.records.proofs.len_at.Statement.{statement}
 use Rattle.records.proofs.len_at.Tie as tie
 
@@ -15,7 +15,7 @@ shared-slice-read-result : tie.Need-shared-slice-read-result
 shared-slice-read-result c = search needs
 
 returns : tie.Need-returns
-unfolding routeAt rawAt
+unfolding routeIn rawIn
 returns c = refl
 
 pub len-at-spec : {M : Type 1} → statement M

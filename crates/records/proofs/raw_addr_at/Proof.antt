@@ -1,7 +1,8 @@
 -- `records::raw_addr_at` joins the four octets of record i. Assumes nothing.
-use native.Mathlib.Nat.{add-zero}
+use mathlib.Core.Path.{sym, _∙_}
 use borrow.Author.Needs.{needs}
-use Rattle.records.specs.Wire.{rawAt}
+use Rattle.records.specs.Sized.{rawIn}
+use Rattle.records.proofs.Numbers.{number-four}
 use Rattle.records.proofs.raw_addr_at.Statement.{statement}
 use Rattle.records.proofs.raw_addr_at.Tie as tie
 
@@ -33,8 +34,8 @@ join4-requires : tie.Need-join4-requires
 join4-requires c κs = search needs
 
 returns : tie.Need-returns
-unfolding rawAt
-returns c = simp add-zero (c .join4 .ensures)
+unfolding rawIn
+returns c = c .join4 .ensures ∙ sym (number-four _ _)
 
 pub raw-addr-at-spec : {M : Type 1} → statement M
 raw-addr-at-spec =

@@ -1,8 +1,13 @@
 -- `records::write_record` stores the record's eight bytes one by one. Assumes nothing.
+use mathlib.Core.Path.{sym, ap, _∙_}
+use mathlib.Core.List.{List}
+use Prim.Native.Nat.{ℕ, _*_}
 use native.Mathlib.Omega.{arith}
 use lib.ListN.{length-set}
 use borrow.Author.Needs.{needs}
+use Rattle.records.specs.Sized.{route, laid}
 use Rattle.records.proofs.Laid.{stored-eight}
+use Rattle.records.proofs.Written.{record-bytes}
 use Rattle.records.proofs.write_record.Statement.{statement}
 use Rattle.records.proofs.write_record.Tie as tie
 
@@ -70,7 +75,9 @@ same-length : tie.Need-same-length
 same-length c = search needs
 
 returns : tie.Need-returns
-returns c = stored-eight _ _ _ _ _ _ _ _ _ _ (c .pre)
+returns c =
+    let a = c .args in
+    stored-eight _ _ _ _ _ _ _ _ _ _ (c .pre) ∙ ap (λ (l : List ℕ). laid (8 * a .at) l (a .out .now)) (sym (record-bytes (route (a .addr) (a .len) (a .hop))))
 
 pub write-record-spec : {M : Type 1} → statement M
 write-record-spec =

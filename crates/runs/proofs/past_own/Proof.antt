@@ -9,17 +9,17 @@ use Rattle.runs.proofs.past_own.Tie as tie
 returns : tie.Need-returns
 returns c = without (λ lt e. omega arith)
 
-len-at-requires : tie.Need-len-at-requires
-len-at-requires c κs = search needs
+length-at-requires : tie.Need-length-at-requires
+length-at-requires c κs = (c .before .before .pre .0, omega arith)
 
 add-result : tie.Need-add-result
 add-result c = search needs
 
 returns-2 : tie.Need-returns-2
-returns-2 c = with-own (omega arith) (sym (c .before .len-at .ensures) ∙ c .if2 .taken)
+returns-2 c = with-own (omega arith) (sym (c .before .length-at .ensures) ∙ c .if2 .taken)
 
 returns-3 : tie.Need-returns-3
-returns-3 c = without (λ lt e. c .if2 .left (c .before .len-at .ensures ∙ e))
+returns-3 c = without (λ lt e. c .if2 .left (c .before .length-at .ensures ∙ e))
 
 pub past-own-spec : {M : Type 1} → statement M
-past-own-spec = tie.close (tie.spec returns len-at-requires add-result returns-2 returns-3)
+past-own-spec = tie.close (tie.spec returns length-at-requires add-result returns-2 returns-3)

@@ -2,7 +2,8 @@
 use Prim.Native.Nat.{_-_, _≤_}
 use mathlib.Core.Path.{_≡_, refl, sym, _∙_}
 use native.Mathlib.Omega.{arith}
-use Rattle.records.specs.Wire.{records, routeAt, routes, route}
+use Rattle.records.specs.Wire.{records, routeAt, routes}
+use Rattle.records.specs.Sized.{route}
 use Rattle.records.proofs.Reading.{rest, rest-all}
 use Rattle.special.specs.Ranges.{liesIn, isSpecial}
 use Rattle.special.proofs.Scan.{range-met, range-passed, ranges-end}

@@ -1,7 +1,7 @@
 -- `steplines::put_step` meets its contract: the word, the prefix, the rest of the line. Assumes nothing.
 use mathlib.Core.List.{append-assoc}
 use native.Mathlib.Omega.{arith}
-use Rattle.text.specs.Text.{lineOf}
+use Rattle.text.specs.Text.{addressIn, lineIn}
 use Rattle.text.proofs.Puts.{put-as, put-then}
 use Rattle.steplines.specs.Lines.{stepLine}
 use borrow.Author.Needs.{needs}
@@ -31,7 +31,7 @@ same-length c = search needs
 
 -- src/lib.rt:41:1
 returns : tie.Need-returns
-unfolding stepLine lineOf
+unfolding stepLine lineIn addressIn
 returns c =
     let word = c .before .before .before .before .before .before .before .before .before .before .put-word .ensures in
     let prefix = c .before .before .before .before .before .before .put-dotted .ensures in

@@ -1,54 +1,64 @@
--- `answer` meets its contract: a right answer's text is the right reply's. Assumes nothing.
-use mathlib.Core.Bool.{false}
-use mathlib.Core.Path.{ap, _∙_}
-use Prim.Native.Nat.{ℕ}
-use native.Mathlib.Omega.{arith}
+-- `answer` meets its contract: the output that is lent has 8,192 records. Assumes nothing.
+use mathlib.Core.Bool.{Bool, cond}
+use mathlib.Core.Path.{_≡_, sym, ap, _∙_}
+use mathlib.Core.List.{List}
+use Prim.Native.Nat.{ℕ, _*_}
 use lib.ListN.{length-replicate}
-use Rattle.refusals.specs.Rules.{judge}
-use Rattle.records.specs.Forms.{byDefault}
-use Rattle.holes.specs.Listing.{holesOf, unroutedRules}
-use Rattle.text.specs.Answers.{listText}
+use Rattle.records.specs.Forms.{sizeOf, masking}
 use Rattle.text.proofs.Puts.{put-as}
-use Rattle.text.proofs.Replies.{listed-text, listed-fits}
-use Rattle.unrouted.specs.Printed.{printed}
+use Rattle.unrouted.specs.Printed.{printed, printedIn}
 use borrow.Author.Needs.{needs}
 use Rattle.unrouted.proofs.answer.Statement.{statement}
 use Rattle.unrouted.proofs.answer.Tie as tie
 
-slice-aggregate-unrouted : tie.Need-slice-aggregate-unrouted
-slice-aggregate-unrouted c = search needs
+-- What is printed with such an output.
+with-output : (long : Bool) (t : List ℕ) (room : ℕ) → room ≡ 8192 * sizeOf (masking long) → printedIn (masking long) room t ≡ printed long t
+unfolding printed
+with-output long t room e = ap (λ (n : ℕ). printedIn (masking long) n t) e
 
-unrouted-requires : tie.Need-unrouted-requires
-unrouted-requires c κs = search needs
+slice-aggregate-answer-in : tie.Need-slice-aggregate-answer-in
+slice-aggregate-answer-in c = search needs
 
-slice-aggregate-put-listed : tie.Need-slice-aggregate-put-listed
-slice-aggregate-put-listed c = search needs
-
-put-listed-requires : tie.Need-put-listed-requires
-put-listed-requires c κs =
-    let done = c .before .before .before .unrouted in
-    let fits = listed-fits _ _ _ _ _ (done .ensures) in
-    (fits, omega (arith, fits, done .kept .1 .1 .0, length-replicate {A = ℕ} 65536 0, c .before .before .before .before .before .before .before .pre))
+answer-in-requires : tie.Need-answer-in-requires
+answer-in-requires c κs = search needs
 
 same-length : tie.Need-same-length
 same-length c = search needs
 
 returns : tie.Need-returns
-unfolding printed
 returns c =
-    let t = c .before .before .before .before .before .before .before .before .before .before .args .table .now in
+    let long = c .before .before .before .before .before .before .if1 .taken in
+    let a = c .before .before .before .before .before .before .before .before .before .args in
     put-as
-    (listed-text _ _ _ _ false _ (c .before .before .before .before .before .before .unrouted .ensures)
-    ∙ ap (λ (room : ℕ). listText false (judge (unroutedRules byDefault t room) (holesOf t))) (length-replicate {A = ℕ} 65536 0))
-    (c .before .before .put-listed .ensures)
+    (with-output (a .long) (a .table .now) _ (length-replicate {A = ℕ} 131072 0 ∙ ap (λ (b : Bool). 8192 * cond b 16 8) (sym long)))
+    (c .before .before .before .answer-in .ensures)
+
+slice-aggregate-answer-in-2 : tie.Need-slice-aggregate-answer-in-2
+slice-aggregate-answer-in-2 c = search needs
+
+answer-in-requires-2 : tie.Need-answer-in-requires-2
+answer-in-requires-2 c κs = search needs
+
+same-length-2 : tie.Need-same-length-2
+same-length-2 c = search needs
+
+returns-2 : tie.Need-returns-2
+returns-2 c =
+    let long = c .before .before .before .before .before .before .if1 .left in
+    let a = c .before .before .before .before .before .before .before .before .before .args in
+    put-as
+    (with-output (a .long) (a .table .now) _ (length-replicate {A = ℕ} 65536 0 ∙ ap (λ (b : Bool). 8192 * cond b 16 8) (sym long)))
+    (c .before .before .before .answer-in2 .ensures)
 
 pub answer-spec : {M : Type 1} → statement M
 answer-spec =
     tie.close
     (tie.spec
-    slice-aggregate-unrouted
-    unrouted-requires
-    slice-aggregate-put-listed
-    put-listed-requires
+    slice-aggregate-answer-in
+    answer-in-requires
     same-length
-    returns)
+    returns
+    slice-aggregate-answer-in-2
+    answer-in-requires-2
+    same-length-2
+    returns-2)

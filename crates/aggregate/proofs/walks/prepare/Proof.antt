@@ -1,9 +1,13 @@
 -- `aggregate::walks::prepare` meets its contract: what a first walk laid is stored where it begins, and the other modes read nothing. Assumes nothing.
 use native.Mathlib.Omega.{arith}
 use borrow.Author.Needs.{needs}
+use Rattle.records.proofs.SizedReading.{size-some}
 use Rattle.aggregate.proofs.WalkLaws.{fill-le, laid-stored}
 use Rattle.aggregate.proofs.walks.prepare.Statement.{statement}
 use Rattle.aggregate.proofs.walks.prepare.Tie as tie
+
+div-records : tie.Need-div-records
+div-records c = omega (arith, size-some _ (c .before .before .pre .0 .0))
 
 cast-records : tie.Need-cast-records
 cast-records c = search needs
@@ -24,7 +28,7 @@ returns c =
 collect-sets-requires : tie.Need-collect-sets-requires
 collect-sets-requires c κs =
     let pre = c .before .before .before .before .before .pre in
-    (pre .0 .node, ((omega arith, fill-le (pre .1 .0)), (pre .1 .1, omega arith)))
+    (pre .0 .1 .node, ((omega arith, fill-le (pre .1 .0)), (pre .1 .1, omega arith)))
 
 same-length-2 : tie.Need-same-length-2
 same-length-2 c = search needs
@@ -43,6 +47,7 @@ pub prepare-spec : {M : Type 1} → statement M
 prepare-spec =
     tie.close
     (tie.spec
+    div-records
     cast-records
     collect-coverage-requires
     same-length

@@ -25,7 +25,7 @@ use Rattle.cover.proofs.query.+bit_covered.{statement}
 use Rattle.cover.proofs.query.+bit_covered.Tie.{close}
 
 abbrev measure : Measures 1 kinds.ps ℕ
-measure κs a = reach - a .1 .1 .1 .0
+measure κs a = reach (a .1 .0) - a .1 .1 .1 .1 .0
 
 abbrev entered : ℕ → In 1 kinds.ps
 entered t = and 1 kinds.ps (is 1 kinds.ps measure t) walk.Pre
@@ -58,11 +58,11 @@ claims t = (
 )
 
 abbrev Inv-loop : lts.InvT-loop
-Inv-loop table lo hi depth key b first end g under walked covered₀ next₀ covered next =
-    Answered table lo hi depth (key * 2) b first end (g .present) under walked covered next
+Inv-loop table size lo hi depth key b first end g under walked covered₀ next₀ covered next =
+    Answered size table lo hi depth (key * 2) b first end (g .present) under walked covered next
 
 abbrev μ-loop : lts.MeasureT-loop
-μ-loop table lo hi depth key b first end g under walked covered₀ next₀ covered next = 32 - next
+μ-loop table size lo hi depth key b first end g under walked covered₀ next₀ covered next = 32 - next
 
 gather-run-requires : (t : ℕ) → lts.Need-gather-run-requires (claims t) (entered t) walk.Post Inv-loop μ-loop
 gather-run-requires t c κs =

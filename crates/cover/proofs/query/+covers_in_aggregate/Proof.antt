@@ -25,7 +25,7 @@ use Rattle.cover.proofs.query.+covers_in_aggregate.{statement}
 use Rattle.cover.proofs.query.+covers_in_aggregate.Tie.{close}
 
 abbrev μ-covers-in-aggregate : Measures 1 covers-in-aggregate-kinds.ps ℕ
-μ-covers-in-aggregate κs a = reach - a .1 .1 .1 .0
+μ-covers-in-aggregate κs a = reach (a .1 .0) - a .1 .1 .1 .1 .0
 
 abbrev covers-in-aggregate-at : ℕ → In 1 covers-in-aggregate-kinds.ps
 covers-in-aggregate-at t =
@@ -64,9 +64,9 @@ covers-in-aggregate-heap-index-requires t c κs =
 
 -- What is known once the prefix's place is found.
 sought : (t : ℕ) (c : covers-in-aggregate-lts.After-heap-index (covers-in-aggregate-claims t) (covers-in-aggregate-at t) covers-in-aggregate.Post)
-    → Sought (c .before .before .before .before .before .before .args .table .now) (c .before .before .before .before .before .before .args .lo) (c .before .before .before .before .before .before .args .hi) (c .before .before .before .before .before .before .args .depth)
+    → Sought (c .before .before .before .before .before .before .args .size) (c .before .before .before .before .before .before .args .table .now) (c .before .before .before .before .before .before .args .lo) (c .before .before .before .before .before .before .args .hi) (c .before .before .before .before .before .before .args .depth)
     (c .before .before .before .before .before .before .args .key * 2) (c .before .before .before .before .before .before .args .query * 2) (c .before .before .before .before .before .before .args .len)
-    (c .before .before .gather-run .last .1 .1 .1 .1 .1 .0) (c .before .before .gather-run .last .1 .1 .1 .1 .1 .1 .0) (c .before .before .gather-run .result .present)
+    (c .before .before .gather-run .last .1 .1 .1 .1 .1 .1 .0) (c .before .before .gather-run .last .1 .1 .1 .1 .1 .1 .1 .0) (c .before .before .gather-run .result .present)
     (c .before .level-of .result) (c .heap-index .result)
 sought t c =
     let pre = c .before .before .before .before .before .before .pre .1 in
@@ -144,7 +144,7 @@ covers-in-aggregate-returns-5 : (t : ℕ) → covers-in-aggregate-lts.Need-retur
 covers-in-aggregate-returns-5 t c =
     let a = c .before .before .before .before .before .before .before .before .before .before .before .before .args in
     sym (none-covered wide (wide - a .len) (a .query * 2))
-    ∙ ap (λ (u : List Route). throughout (held wide u) (wide - a .len) (a .query * 2)) (sym (run-none (a .table .now) _ _ (c .if4 .left)))
+    ∙ ap (λ (u : List Route). throughout (held wide u) (wide - a .len) (a .query * 2)) (sym (run-none (a .size) (a .table .now) _ _ (c .if4 .left)))
     ∙ slot-answer (sought t (c .before .before .before .before .before .before)) false (c .before .before .before .before .before .if1 .left) (λ l j le lt e. sym (c .before .if3 .left) ∙ c .before .before .record-over2 .ensures l j le lt e)
 
 pub +covers-in-aggregate-spec : {M : Type 1} → statement M

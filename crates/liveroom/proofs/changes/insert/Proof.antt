@@ -5,7 +5,7 @@ use mathlib.Core.Path.{ap, _∙_}
 use native.Mathlib.Omega.{arith}
 use lib.ListN.{length-set, set}
 use borrow.Author.Needs.{needs}
-use Rattle.records.specs.Wire.{route}
+use Rattle.records.specs.Sized.{route}
 use Rattle.liveroom.specs.Inner.{written}
 use Rattle.liveroom.proofs.Moving.{insert-is}
 use Rattle.liveroom.proofs.changes.insert.Statement.{statement}

@@ -7,8 +7,8 @@ use native.Mathlib.Omega.{arith}
 use borrow.Author.Tests.{not-true, not-false}
 use borrow.Author.Needs.{needs}
 use Rattle.theory.specs.Routes.{Route}
-use Rattle.records.specs.Wire.{route}
-use Rattle.table.specs.TableRules.{before}
+use Rattle.records.specs.Sized.{route}
+use Rattle.table.specs.SizedRules.{before}
 use Rattle.nodecount.proofs.NodeCount.{root, passed}
 use Rattle.nodecount.specs.Nodes.{bare}
 use Rattle.liveroom.specs.Rooms.{shownFrom, sound, after, lawful}

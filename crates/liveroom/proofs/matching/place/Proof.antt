@@ -5,7 +5,7 @@ use mathlib.Core.Bool.{true, false}
 use mathlib.Core.Path.{_≡_, sym, ap₂, _∙_}
 use native.Mathlib.Omega.{arith}
 use borrow.Author.Needs.{needs}
-use Rattle.table.specs.TableRules.{before}
+use Rattle.table.specs.SizedRules.{before}
 use Rattle.nodecount.specs.Nodes.{bare}
 use Rattle.liveroom.specs.Rooms.{routeIn}
 use Rattle.liveroom.proofs.Placing.{before-below, before-above}

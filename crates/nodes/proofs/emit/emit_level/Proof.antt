@@ -25,7 +25,7 @@ rem-if1 c = rw (shifted-one (5 - c .before .args .l) (omega arith)) (pow-pos (5 
 returns : tie.Need-returns
 returns c =
     let start = c .before .before in
-    (omega arith, λ a half. rw (head-apart (start .args .entries) (start .args .hops .now) (start .args .depth) a (start .args .c) (start .args .l) (start .pre .0 .1 .0) (c .if1 .taken)) (wrote-none _ _))
+    (omega arith, λ a half. rw (head-apart (start .args .entries) (start .args .hops .now) (start .args .depth) a (start .args .c) (start .args .l) (start .pre .0 .1 .0) (c .if1 .taken)) (wrote-none (start .pre .0 .1 .1 .1) _ _))
 
 shl-b : tie.Need-shl-b
 shl-b c = search needs
@@ -55,10 +55,10 @@ returns-2 : tie.Need-returns-2
 returns-2 c =
     let start = c .before .before .before .before in
     let clear = sym (c .before .has-bit .ensures) ∙ not-true (c .before .has-bit .result) (c .if2 .taken) in
-    (omega arith, λ a half. rw (head-absent (start .args .entries) (start .args .hops .now) (start .args .depth) a (start .args .c) (start .args .l) (start .pre .0 .1 .0) (c .before .before .if1 .left) clear) (wrote-none _ _))
+    (omega arith, λ a half. rw (head-absent (start .args .entries) (start .args .hops .now) (start .args .depth) a (start .args .c) (start .args .l) (start .pre .0 .1 .0) (c .before .before .if1 .left) clear) (wrote-none (start .pre .0 .1 .1 .1) _ _))
 
-past-requires : tie.Need-past-requires
-past-requires c κs = search needs
+past-sized-requires : tie.Need-past-sized-requires
+past-sized-requires c κs = c .before .before .before .before .pre .0 .1 .1 .1
 
 sub-put : tie.Need-sub-put
 sub-put c = search needs
@@ -78,7 +78,7 @@ element-copy-out-put c =
     index-lt (start .args .l) (start .args .c) (start .pre .0 .1 .0) (start .pre .0 .0)
 
 put-requires : tie.Need-put-requires
-put-requires c κs = search needs
+put-requires c κs = (omega arith, c .before .before .before .before .before .before .before .pre .0 .1 .1 .1)
 
 add-result : tie.Need-add-result
 add-result c = search needs
@@ -89,10 +89,10 @@ same-length c = search needs
 returns-3 : tie.Need-returns-3
 returns-3 c =
     let start = c .before .before .before .before .before .before .before .before .before .before in
-    let past = c .before .before .before .before .before .past in
+    let past = c .before .before .before .before .before .past-sized in
     let has = c .before .before .before .before .before .before .before .has-bit in
     let there = sym (has .ensures) ∙ not-false (has .result) (c .before .before .before .before .before .before .if2 .left) in
-    (omega arith, λ a half. rw (head-entry (start .args .entries) (start .args .hops .now) (start .args .depth) a (start .args .c) (start .args .l) (start .pre .0 .1 .0) (c .before .before .before .before .before .before .before .before .if1 .left) there) (wrote-tail _ _ _ (past .ensures .1) (past .ensures .0) (c .before .before .put .ensures a half)))
+    (omega arith, λ a half. rw (head-entry (start .args .entries) (start .args .hops .now) (start .args .depth) a (start .args .c) (start .args .l) (start .pre .0 .1 .0) (c .before .before .before .before .before .before .before .before .if1 .left) there) (wrote-tail (start .pre .0 .1 .1 .1) _ _ _ (past .ensures .1) (past .ensures .0) (c .before .before .put .ensures a half)))
 
 pub emit-level-spec : {M : Type 1} → statement M
 emit-level-spec =
@@ -109,7 +109,7 @@ emit-level-spec =
     cast-has-bit
     has-bit-requires
     returns-2
-    past-requires
+    past-sized-requires
     sub-put
     part-put-start
     part-put-end

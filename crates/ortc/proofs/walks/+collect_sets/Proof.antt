@@ -30,7 +30,7 @@ use Rattle.ortc.proofs.walks.+collect_sets.Tie.{close}
 
 -- The bits below the node.
 abbrev μ : Measures 2 kinds.ps ℕ
-μ κs a = reach - a .1 .1 .1 .0
+μ κs a = reach (a .1 .0) - a .1 .1 .1 .1 .0
 
 -- What holds on entry at the measure t, and of a call below it.
 abbrev at-measure : ℕ → In 2 kinds.ps
@@ -67,13 +67,13 @@ claims t = (
 )
 
 abbrev Inv-loop : lts.InvT-loop
-Inv-loop table lo hi depth key inherited fill work₀ top first end covering slots₀ occupied at₀ k₀ work slots at k =
+Inv-loop table size lo hi depth key inherited fill work₀ top first end covering slots₀ occupied at₀ k₀ work slots at k =
     (k ≤ 32)
     × ((0 < k → bit occupied (k - 1) ≡ true)
-    × Collecting (answerIn (run table lo hi) (hopOf inherited) (hopOf fill)) covering fill depth (key * 2) (run table lo hi) k top at slots work₀ work)
+    × Collecting (answerIn (run size table lo hi) (hopOf inherited) (hopOf fill)) covering fill depth (key * 2) (run size table lo hi) k top at slots work₀ work)
 
 abbrev μ-loop : lts.MeasureT-loop
-μ-loop table lo hi depth key inherited fill work₀ top first end covering slots₀ occupied at₀ k₀ work slots at k = k
+μ-loop table size lo hi depth key inherited fill work₀ top first end covering slots₀ occupied at₀ k₀ work slots at k = k
 
 gather-run-requires : (t : ℕ) → lts.Need-gather-run-requires (claims t) (at-measure t) collect-sets.Post Inv-loop μ-loop
 gather-run-requires t c κs =
@@ -82,7 +82,8 @@ gather-run-requires t c κs =
 covering-hops-requires : (t : ℕ) → lts.Need-covering-hops-requires (claims t) (at-measure t) collect-sets.Post Inv-loop μ-loop
 covering-hops-requires t c κs =
     let g = c .before .before .gather-run .ensures .0 in
-    (ends-in (c .before .before .before .before .before .before .before .pre .1 .0) g, absent g)
+    let n = c .before .before .before .before .before .before .before .pre .1 .0 in
+    (ends-in n g, (absent g, n .sized))
 
 leaf-sets-requires : (t : ℕ) → lts.Need-leaf-sets-requires (claims t) (at-measure t) collect-sets.Post Inv-loop μ-loop
 leaf-sets-requires t c κs = search needs
@@ -216,8 +217,8 @@ push-sets-requires : (t : ℕ) → lts.Need-push-sets-requires (claims t) (at-me
 push-sets-requires t c κs =
     collecting-within (c .before .before .before .before .before .loop .inv .1 .1) (c .before .before .before .before .before .before .before .before .before .before .before .before .before .before .before .before .before .pre .1 .1 .1 .1) .1
 
-array-read-t56 : (t : ℕ) → lts.Need-array-read-t56 (claims t) (at-measure t) collect-sets.Post Inv-loop μ-loop
-array-read-t56 t c = search needs
+array-read-t57 : (t : ℕ) → lts.Need-array-read-t57 (claims t) (at-measure t) collect-sets.Post Inv-loop μ-loop
+array-read-t57 t c = search needs
 
 same-length : (t : ℕ) → lts.Need-same-length (claims t) (at-measure t) collect-sets.Post Inv-loop μ-loop
 same-length t c =
@@ -264,6 +265,6 @@ pub +collect-sets-spec : {M : Type 1} → statement M
     (loop-again t)
     (fold-sets-requires t)
     (push-sets-requires t)
-    (array-read-t56 t)
+    (array-read-t57 t)
     (same-length t)
     (returns t)

@@ -24,7 +24,7 @@ use Rattle.ortc.proofs.walks.+rewrite+rewrite_child.Lts-rewrite_child a
 use Rattle.hops.proofs.leaf_value.Reads as leaf-value-reads
 use Rattle.nodes.proofs.emit.emit_slot.Reads as emit-slot-reads
 use Rattle.nodes.proofs.emit.head_slots.Reads as head-slots-reads
-use Rattle.records.proofs.past.Reads as past-reads
+use Rattle.records.proofs.sized.past_sized.Reads as past-sized-reads
 use Rattle.gather.proofs.covering_hops.Reads as covering-hops-reads
 use Rattle.gather.proofs.gather_run.Reads as gather-run-reads
 use Rattle.gather.proofs.slot_key.Reads as slot-key-reads
@@ -37,10 +37,10 @@ use Rattle.ortc.proofs.walks.+rewrite+rewrite_child.Tie.{close}
 
 -- Twice the bits below, and one more for a slot, so that the number falls from a node to its slots and from a slot to its node.
 abbrev μ-rewrite : Measures 4 rewrite-kinds.ps ℕ
-μ-rewrite κs a = 2 * (reach - a .1 .1 .1 .0)
+μ-rewrite κs a = 2 * (reach (a .1 .0) - a .1 .1 .1 .1 .0)
 
 abbrev μ-child : Measures 4 child-kinds.ps ℕ
-μ-child κs a = 2 * (reach - a .1 .1 .1 .0) + 1
+μ-child κs a = 2 * (reach (a .1 .0) - a .1 .1 .1 .1 .0) + 1
 
 abbrev rewrite-at : ℕ → In 4 rewrite-kinds.ps
 rewrite-at t = and 4 rewrite-kinds.ps (is 4 rewrite-kinds.ps μ-rewrite t) rewrite.Pre
@@ -70,8 +70,8 @@ rewrite-claims t = (
   next-bit-reads.Learnt,
   slot-key-reads.Asked,
   slot-key-reads.Learnt,
-  past-reads.Asked,
-  past-reads.Learnt,
+  past-sized-reads.Asked,
+  past-sized-reads.Learnt,
   emit-slot-reads.Asked,
   emit-slot-reads.Learnt,
   child-below t,
@@ -82,12 +82,12 @@ abbrev child-claims : ℕ → child-lts.Claims
 child-claims t = (rewrite-below t, rewrite.Post, leaf-value-reads.Asked, leaf-value-reads.Learnt, emit-reads.Asked, emit-reads.Learnt)
 
 abbrev Inv-loop : rewrite-lts.InvT-loop
-Inv-loop table lo hi depth key inherited fill above ranks work top out₀ first end covering hops entries busy at₀ n₀ c₀ out at n c =
-    Opened (lowest ranks) table lo hi depth (key * 2) inherited fill above work top first end covering hops entries busy
-    × Walking (lowest ranks) table lo hi depth (key * 2) inherited fill above work top first end covering hops entries c at n out₀ out
+Inv-loop table size lo hi depth key inherited fill above ranks work top out₀ first end covering hops entries busy at₀ n₀ c₀ out at n c =
+    Opened (lowest ranks) size table lo hi depth (key * 2) inherited fill above work top first end covering hops entries busy
+    × Walking (lowest ranks) size table lo hi depth (key * 2) inherited fill above work top first end covering hops entries c at n out₀ out
 
 abbrev μ-loop : rewrite-lts.MeasureT-loop
-μ-loop table lo hi depth key inherited fill above ranks work top out₀ first end covering hops entries busy at₀ n₀ c₀ out at n c = 32 - c
+μ-loop table size lo hi depth key inherited fill above ranks work top out₀ first end covering hops entries busy at₀ n₀ c₀ out at n c = 32 - c
 
 rewrite-gather-run-requires : (t : ℕ) → rewrite-lts.Need-gather-run-requires (rewrite-claims t) (rewrite-at t) rewrite.Post Inv-loop μ-loop
 rewrite-gather-run-requires t c κs = (c .before .before .before .before .before .before .pre .1 .0, ((refl, refl), λ b lt. (getD-replicate 63 b 0 0 lt, getD-replicate 63 b 0 0 lt)))
@@ -95,7 +95,8 @@ rewrite-gather-run-requires t c κs = (c .before .before .before .before .before
 rewrite-covering-hops-requires : (t : ℕ) → rewrite-lts.Need-covering-hops-requires (rewrite-claims t) (rewrite-at t) rewrite.Post Inv-loop μ-loop
 rewrite-covering-hops-requires t c κs =
     let found = c .before .before .gather-run .ensures .0 in
-    (ends-in (c .before .before .before .before .before .before .before .before .before .pre .1 .0) found, absent found)
+    let n = c .before .before .before .before .before .before .before .before .before .pre .1 .0 in
+    (ends-in n found, (absent found, n .sized))
 
 rewrite-assign-nodes-requires : (t : ℕ) → rewrite-lts.Need-assign-nodes-requires (rewrite-claims t) (rewrite-at t) rewrite.Post Inv-loop μ-loop
 rewrite-assign-nodes-requires t c κs =
@@ -131,8 +132,8 @@ rewrite-slot-key-requires t c κs =
     let n = c .before .loop .inv .0 .node in
     (c .loop-test .taken, n .at)
 
-rewrite-past-requires : (t : ℕ) → rewrite-lts.Need-past-requires (rewrite-claims t) (rewrite-at t) rewrite.Post Inv-loop μ-loop
-rewrite-past-requires t c κs = search needs
+rewrite-past-sized-requires : (t : ℕ) → rewrite-lts.Need-past-sized-requires (rewrite-claims t) (rewrite-at t) rewrite.Post Inv-loop μ-loop
+rewrite-past-sized-requires t c κs = search needs
 
 rewrite-sub-emit-slot : (t : ℕ) → rewrite-lts.Need-sub-emit-slot (rewrite-claims t) (rewrite-at t) rewrite.Post Inv-loop μ-loop
 rewrite-sub-emit-slot t c = search needs
@@ -147,19 +148,19 @@ rewrite-emit-slot-requires : (t : ℕ) → rewrite-lts.Need-emit-slot-requires (
 rewrite-emit-slot-requires t c κs =
     let n = c .before .before .before .before .before .loop .inv .0 .node in
     let lt = c .before .before .before .before .loop-test .taken in
-    (lt, n .at .deep)
+    (lt, (n .at .deep, n .sized))
 
 -- The entries that begin at a slot are written once they come back.
 started : (t : ℕ) (c : rewrite-lts.After-slice-known2 (rewrite-claims t) (rewrite-at t) rewrite.Post Inv-loop μ-loop)
     → let a = c .before .before .before .before .before .before .before .before .before .before .before .before .before .before .before .before .before .before .before .before .before .before .before .before .before .before .before .args in
-    let found = c .before .before .before .before .before .before .before .before .before .before .before .before .before .before .before .before .before .before .before .before .gather-run .last .1 .1 .1 .1 .1 in
+    let found = c .before .before .before .before .before .before .before .before .before .before .before .before .before .before .before .before .before .before .before .before .gather-run .last .1 .1 .1 .1 .1 .1 in
     let covering = c .before .before .before .before .before .before .before .before .before .before .before .before .before .before .before .before .before .covering-hops .result in
     let node = c .before .before .before .before .before .before .before .before .before .before .before .before .before .before .before .before .assign-nodes .result in
     let l = c .before .before .before .before .before .before .before .before .loop in
-    Begun (node .entries) (node .hops) (a .depth) (a .key * 2) (slotRewrite (lowest (a .ranks .now)) (a .table .now) (found .0) (found .1 .0) covering (node .hops) (a .depth) (a .key * 2) (a .fill)) (l .c)
-    (l .n + c .before .before .emit-slot .result) (a .out .now) (relaid (c .before .before .before .before .before .past .result) (c .before .before .emit-slot .last .1 .1 .1 .1 .1 .0) (l .out))
+    Begun (a .size) (node .entries) (node .hops) (a .depth) (a .key * 2) (slotRewrite (lowest (a .ranks .now)) (a .size) (a .table .now) (found .0) (found .1 .0) covering (node .hops) (a .depth) (a .key * 2) (a .fill)) (l .c)
+    (l .n + c .before .before .emit-slot .result) (a .out .now) (relaid (c .before .before .before .before .before .past-sized .result) (c .before .before .emit-slot .last .1 .1 .1 .1 .1 .1 .0) (l .out))
 started t c =
-    begun (c .before .before .before .before .before .before .before .before .loop .inv .1 .walked) (c .before .before .before .before .before .before .before .loop-test .taken) (c .before .before .before .before .before .past .ensures) (c .before .before .before .before .before .before .slot-key .ensures .0)
+    begun (c .before .before .before .before .before .before .before .before .loop .inv .1 .walked) (c .before .before .before .before .before .before .before .loop-test .taken) (c .before .before .before .before .before .past-sized .ensures) (c .before .before .before .before .before .before .slot-key .ensures .0)
     (c .before .before .emit-slot .ensures) (c .before .out .given .1)
 
 rewrite-add-n : (t : ℕ) → rewrite-lts.Need-add-n (rewrite-claims t) (rewrite-at t) rewrite.Post Inv-loop μ-loop
@@ -168,8 +169,8 @@ rewrite-add-n t c =
     let most = opened-most (c .before .before .before .before .before .before .before .before .loop .inv .0) (lowest-chooses (c .before .before .before .before .before .before .before .before .before .before .before .before .before .before .before .before .before .before .before .before .before .before .before .before .before .before .before .args .ranks .now)) in
     omega (arith, c .before .before .before .before .before .before .before .before .before .before .before .before .before .before .before .before .before .before .before .before .before .before .before .before .before .before .before .good)
 
-rewrite-past-requires-2 : (t : ℕ) → rewrite-lts.Need-past-requires-2 (rewrite-claims t) (rewrite-at t) rewrite.Post Inv-loop μ-loop
-rewrite-past-requires-2 t c κs = search needs
+rewrite-past-sized-requires-2 : (t : ℕ) → rewrite-lts.Need-past-sized-requires-2 (rewrite-claims t) (rewrite-at t) rewrite.Post Inv-loop μ-loop
+rewrite-past-sized-requires-2 t c κs = search needs
 
 rewrite-add-rewrite-child : (t : ℕ) → rewrite-lts.Need-add-rewrite-child (rewrite-claims t) (rewrite-at t) rewrite.Post Inv-loop μ-loop
 rewrite-add-rewrite-child t c = search needs
@@ -216,7 +217,7 @@ rewrite-part-rewrite-child-end t c = search needs
 -- A slot with records stands where its half says.
 place : (t : ℕ) (c : rewrite-lts.After-slot-key (rewrite-claims t) (rewrite-at t) rewrite.Post Inv-loop μ-loop)
     → let a = c .before .before .before .before .before .before .before .before .before .before .before .before .before .before .before .before .before .before .before .before .before .args in
-    let found = c .before .before .before .before .before .before .before .before .before .before .before .before .before .before .gather-run .last .1 .1 .1 .1 .1 in
+    let found = c .before .before .before .before .before .before .before .before .before .before .before .before .before .before .gather-run .last .1 .1 .1 .1 .1 .1 in
     let l = c .before .before .loop in
     getD (found .0) (31 + l .c) 0 < getD (found .1 .0) (31 + l .c) 0 → c .slot-key .result * 2 ≡ placeAt (slotSize (a .depth)) (a .key * 2) 5 (l .c)
 place t c has =
@@ -237,7 +238,10 @@ rewrite-rewrite-child-requires t c κs =
           omega (arith, o .node .at .deep),
           (
             (o .covers-low (l .c) lt, (start .pre .1 .1 .0 .1 .0, o .hops-low (l .c) lt)),
-            λ has. rw (place t (c .before .before .before .before .before .before .before .before) has) (child-stored o (l .c) lt (l .inv .1 .ahead) has),
+            (
+              λ has. rw (place t (c .before .before .before .before .before .before .before .before) has) (child-stored o (l .c) lt (l .inv .1 .ahead) has),
+              o .node .sized,
+            ),
           ),
         ),
       ),
@@ -269,7 +273,7 @@ rewrite-loop-again t c =
       o,
       walking-on o (c .next-bit2 .ensures)
           (record {
-            walked = walked-child (started t (c .before .before .before .before .before .before .before)) (c .before .before .before .before .before .before .past2 .ensures) (does .1 .1 _ (sym (key .slot-key .ensures .0)) (λ has. sym (place t key has))) (c .before .before .before .out2 .given .1);
+            walked = walked-child (started t (c .before .before .before .before .before .before .before)) (c .before .before .before .before .before .before .past-sized2 .ensures) (does .1 .1 _ (sym (key .slot-key .ensures .0)) (λ has. sym (place t key has))) (c .before .before .before .out2 .given .1);
             ahead = ahead-child o (l .c) lt (l .inv .1 .ahead) (does .0) (λ has. rw (place t key has) at (does .1 .0 has));
           }),
     )
@@ -284,7 +288,7 @@ child-rewrite-requires : (t : ℕ) → child-lts.Need-rewrite-requires (child-cl
 child-rewrite-requires t c κs =
     let pre = c .before .before .before .before .before .before .pre .1 in
     let has = c .before .if1 .taken in
-    (omega (arith, c .before .before .before .before .before .before .pre .0), (pre .0 has, (pre .1 .1 .0, pre .1 .1 .1 has)))
+    (omega (arith, c .before .before .before .before .before .before .pre .0), (pre .0 has, (pre .1 .1 .0, pre .1 .1 .1 .0 has)))
 
 child-same-length : (t : ℕ) → child-lts.Need-same-length (child-claims t) (child-at t) child.Post
 child-same-length t c = search needs
@@ -298,7 +302,9 @@ child-leaf-value-requires : (t : ℕ) → child-lts.Need-leaf-value-requires (ch
 child-leaf-value-requires t c κs = search needs
 
 child-emit-requires : (t : ℕ) → child-lts.Need-emit-requires (child-claims t) (child-at t) child.Post
-child-emit-requires t c κs = omega (arith, c .before .before .before .before .before .before .before .pre .1 .1 .0)
+child-emit-requires t c κs =
+    let pre = c .before .before .before .before .before .before .before .pre .1 in
+    (omega (arith, pre .1 .0), pre .1 .1 .1 .1)
 
 child-same-length-2 : (t : ℕ) → child-lts.Need-same-length-2 (child-claims t) (child-at t) child.Post
 child-same-length-2 t c = search needs
@@ -309,7 +315,7 @@ child-returns-2 t c =
     let low = c .before .before .before .before .before .before .before .before .before .before .pre .1 .1 .1 .0 in
     let v = c .before .before .before .leaf-value in
     let none : p .hi ≤ p .lo = omega arith in
-    (λ le. refl, (λ has. absurd (omega arith), λ a half is. rw (leaf-rewrite (lowest (p .ranks .now)) (lowest-chooses (p .ranks .now)) (p .table .now) (p .lo) (p .hi) (p .depth) a (p .covering) (p .fill) (v .result) (p .above) none (c .before .before .before .before .before .before .before .before .before .before .pre .1 .1 .0) (v .ensures .1 (low .0) (low .1 .0)) (low .1 .1) (v .ensures .0)) (c .before .before .emit .ensures a half)))
+    (λ le. refl, (λ has. absurd (omega arith), λ a half is. rw (leaf-rewrite (lowest (p .ranks .now)) (lowest-chooses (p .ranks .now)) (p .size) (p .table .now) (p .lo) (p .hi) (p .depth) a (p .covering) (p .fill) (v .result) (p .above) none (c .before .before .before .before .before .before .before .before .before .before .pre .1 .1 .0) (v .ensures .1 (low .0) (low .1 .0)) (low .1 .1) (v .ensures .0)) (c .before .before .emit .ensures a half)))
 
 pub +rewrite+rewrite-child-spec : {M : Type 1} → statement M
 +rewrite+rewrite-child-spec =
@@ -323,13 +329,13 @@ pub +rewrite+rewrite-child-spec : {M : Type 1} → statement M
     (rewrite-next-bit-requires t)
     (rewrite-loop-holds t)
     (rewrite-slot-key-requires t)
-    (rewrite-past-requires t)
+    (rewrite-past-sized-requires t)
     (rewrite-sub-emit-slot t)
     (rewrite-part-emit-slot-start t)
     (rewrite-part-emit-slot-end t)
     (rewrite-emit-slot-requires t)
     (rewrite-add-n t)
-    (rewrite-past-requires-2 t)
+    (rewrite-past-sized-requires-2 t)
     (rewrite-add-rewrite-child t)
     (rewrite-mul-rewrite-child t)
     (rewrite-array-read-rewrite-child t)

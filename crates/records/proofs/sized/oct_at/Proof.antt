@@ -61,13 +61,13 @@ join8-requires c κs = search needs
 
 -- Its octets one by one.
 low : (t : List ℕ) (k : ℕ) → number t (k + 4) 4 ≡ join (getD t (k + 4) 0) (getD t (k + 5) 0) (getD t (k + 6) 0) (getD t (k + 7) 0)
-low t k = number-four t (k + 4) ∙ simp (add-assoc, add-zero)
+low t k = number-four t (k + 4) ∙ simp add-assoc
 
 octets : (t : List ℕ) (k : ℕ)
     → number t k 8
     ≡ join (getD t k 0) (getD t (k + 1) 0) (getD t (k + 2) 0) (getD t (k + 3) 0) * 4294967296
     + join (getD t (k + 4) 0) (getD t (k + 5) 0) (getD t (k + 6) 0) (getD t (k + 7) 0)
-octets t k = number-eight t k ∙ ap₂ (λ (x y : ℕ). x * 4294967296 + y) (number-four t k ∙ simp add-zero) (low t k)
+octets t k = number-eight t k ∙ ap₂ (λ (x y : ℕ). x * 4294967296 + y) (number-four t k) (low t k)
 
 returns : tie.Need-returns
 returns c = c .join8 .ensures ∙ sym (octets _ _)

@@ -4,8 +4,7 @@ use Prim.Native.Nat.{ℕ, _-_, _/_, _^_}
 use native.Mathlib.Nat.{mul-zero}
 use native.Mathlib.Omega.{arith}
 use borrow.Author.Needs.{needs}
-use Rattle.records.specs.Wire.{route, laid}
-use Rattle.records.specs.Sized.{widthIn, recordIn}
+use Rattle.records.specs.Sized.{widthIn, recordIn, route, laid}
 use Rattle.records.proofs.sized.put_sized.Statement.{statement}
 use Rattle.records.proofs.sized.put_sized.Tie as tie
 

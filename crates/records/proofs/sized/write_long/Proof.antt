@@ -2,7 +2,7 @@
 use mathlib.Core.Path.{ap, _∙_}
 use Prim.Native.Nat.{_+_}
 use borrow.Author.Needs.{needs}
-use Rattle.records.specs.Wire.{route, laid}
+use Rattle.records.specs.Sized.{route, laid}
 use Rattle.records.proofs.SizedKeys.{lastEight, laid-long}
 use Rattle.records.proofs.sized.write_long.Statement.{statement}
 use Rattle.records.proofs.sized.write_long.Tie as tie

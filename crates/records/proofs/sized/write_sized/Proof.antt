@@ -1,13 +1,10 @@
 -- `records::sized::write_sized` writes a record of 8 bytes or of 16. Assumes nothing.
-use mathlib.Core.Path.{sym, ap, _∙_}
-use mathlib.Core.List.{List}
+use mathlib.Core.Path.{ap, _∙_}
 use Prim.Native.Nat.{ℕ, _+_, _*_, _/_, _≤_}
 use native.Mathlib.Omega.{arith}
 use lib.ListN.{length}
 use borrow.Author.Needs.{needs}
-use Rattle.records.specs.Wire.{route, laid}
-use Rattle.records.specs.Sized.{recordIn}
-use Rattle.records.proofs.SizedWire.{record-at-8}
+use Rattle.records.specs.Sized.{recordIn, route, laid}
 use Rattle.records.proofs.SizedKeys.{size-long}
 use Rattle.records.proofs.sized.write_sized.Statement.{statement}
 use Rattle.records.proofs.sized.write_sized.Tie as tie
@@ -36,9 +33,7 @@ same-length c = search needs
 
 returns : tie.Need-returns
 returns c =
-    let a = c .before .before .before .before .before .before .args in
-    rw (c .before .before .before .before .if1 .taken)
-    (c .before .before .write-record .ensures ∙ ap (λ (l : List ℕ). laid (8 * a .at) l (a .out .now)) (sym (record-at-8 (route (a .key / 4294967296) (a .len) (a .hop)))))
+    rw (c .before .before .before .before .if1 .taken) (c .before .before .write-record .ensures)
 
 same-length-2 : tie.Need-same-length-2
 same-length-2 c = search needs

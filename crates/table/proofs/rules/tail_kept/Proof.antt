@@ -6,7 +6,7 @@ use borrow.Author.Tests.{le-leb, lt-leb}
 use borrow.Author.Needs.{needs}
 use Rattle.records.specs.Sized.{octetsIn, byteIn, clear}
 use Rattle.records.proofs.SizedReading.{size-some, size-parts, record-fits, in-hop}
-use Rattle.table.specs.TableRules.{topHop}
+use Rattle.table.specs.SizedRules.{topHop}
 use Rattle.table.proofs.rules.tail_kept.Statement.{statement}
 use Rattle.table.proofs.rules.tail_kept.Tie as tie
 

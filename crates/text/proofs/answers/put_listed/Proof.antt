@@ -1,5 +1,6 @@
 -- `answers::put_listed` meets its contract: the lines of the records that were written, then the total, if it is wanted; or the refusal. Assumes nothing.
 use mathlib.Core.Path.{sym, ap}
+use Prim.Native.Nat.{_*_}
 use native.Mathlib.Omega.{arith}
 use borrow.Author.Needs.{needs}
 use Rattle.holes.specs.Listing.{listedCount}
@@ -14,15 +15,15 @@ enum-known-answer c = search needs
 
 put-written-requires : tie.Need-put-written-requires
 put-written-requires c κs =
-    let count = ap listedCount (c .before .before .answer .given .1) in
-    let pre = c .before .before .before .before .before .before .pre in
-    (omega (arith, pre .0), omega (arith, pre .1))
+    let s = c .before .before .before .before .before .before in
+    let bytes = ap (λ (r : Listed). s .args .size * listedCount r) (c .before .before .answer .given .1) in
+    ((s .pre .0 .0, omega (arith, s .pre .0 .1, bytes)), omega (arith, s .pre .1, bytes))
 
 put-total-requires : tie.Need-put-total-requires
 put-total-requires c κs =
-    let count = ap listedCount (c .before .before .before .before .before .before .answer .given .1) in
-    let pre = c .before .before .before .before .before .before .before .before .before .before .pre in
-    omega (arith, pre .1, c .before .before .before .put-written .ensures .1)
+    let s = c .before .before .before .before .before .before .before .before .before .before in
+    let bytes = ap (λ (r : Listed). s .args .size * listedCount r) (c .before .before .before .before .before .before .answer .given .1) in
+    omega (arith, s .pre .1, c .before .before .before .put-written .ensures .1, bytes)
 
 enum-known-answer-2 : tie.Need-enum-known-answer-2
 enum-known-answer-2 c = search needs
@@ -37,7 +38,7 @@ returns : tie.Need-returns
 unfolding listedText
 returns c =
     let a = c .before .before .before .before .before .before .before .before .before .before .before .before .before .args in
-    put-as (sym (ap (λ (r : Listed). listedText (a .total) r (a .output .now)) (c .before .before .before .before .before .before .before .before .before .answer .given .1)))
+    put-as (sym (ap (λ (r : Listed). listedText (a .size) (a .hex) (a .total) r (a .output .now)) (c .before .before .before .before .before .before .before .before .before .answer .given .1)))
     (put-then (c .before .before .before .before .before .before .put-written .ensures .0) (c .before .before .put-total .ensures))
 
 same-length-2 : tie.Need-same-length-2
@@ -47,7 +48,7 @@ returns-2 : tie.Need-returns-2
 unfolding listedText
 returns-2 c =
     let a = c .before .before .before .before .before .before .before .before .before .args in
-    put-as (sym (ap (λ (r : Listed). listedText (a .total) r (a .output .now)) (c .before .before .before .before .before .answer2 .given .1)))
+    put-as (sym (ap (λ (r : Listed). listedText (a .size) (a .hex) (a .total) r (a .output .now)) (c .before .before .before .before .before .answer2 .given .1)))
     (c .before .before .put-refused .ensures)
 
 pub put-listed-spec : {M : Type 1} → statement M

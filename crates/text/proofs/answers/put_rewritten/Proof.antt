@@ -1,5 +1,6 @@
 -- `answers::put_rewritten` meets its contract: the lines of the records that were written, then the change; or the refusal. Assumes nothing.
 use mathlib.Core.Path.{sym, ap}
+use Prim.Native.Nat.{_*_}
 use native.Mathlib.Omega.{arith}
 use mir.Syntax.{w64}
 use mir.ValLaws.{toZ-ofZ}
@@ -17,15 +18,15 @@ enum-known-answer c = search needs
 
 put-written-requires : tie.Need-put-written-requires
 put-written-requires c κs =
-    let count = ap countOf (c .before .before .answer .given .1) in
-    let pre = c .before .before .before .before .before .before .pre in
-    (omega (arith, pre .0), omega (arith, pre .1))
+    let s = c .before .before .before .before .before .before in
+    let bytes = ap (λ (r : Rewritten). s .args .size * countOf r) (c .before .before .answer .given .1) in
+    ((s .pre .0 .0, omega (arith, s .pre .0 .1, bytes)), omega (arith, s .pre .1, bytes))
 
 put-change-requires : tie.Need-put-change-requires
 put-change-requires c κs =
-    let count = ap countOf (c .before .before .before .before .before .before .answer .given .1) in
-    let pre = c .before .before .before .before .before .before .before .before .before .before .pre in
-    omega (arith, pre .1, c .before .before .before .put-written .ensures .1)
+    let s = c .before .before .before .before .before .before .before .before .before .before in
+    let bytes = ap (λ (r : Rewritten). s .args .size * countOf r) (c .before .before .before .before .before .before .answer .given .1) in
+    omega (arith, s .pre .1, c .before .before .before .put-written .ensures .1, bytes)
 
 enum-known-answer-2 : tie.Need-enum-known-answer-2
 enum-known-answer-2 c = search needs
@@ -41,7 +42,7 @@ unfolding rewrittenText
 returns c =
     let a = c .before .before .before .before .before .before .before .before .before .before .before .before .before .args in
     let answer = c .before .before .before .before .before .before .before .before .before .answer in
-    put-as (sym (ap (λ (r : Rewritten). rewrittenText (a .hops) r (a .output .now)) (answer .given .1)))
+    put-as (sym (ap (λ (r : Rewritten). rewrittenText (a .size) (a .hex) (a .hops) r (a .output .now)) (answer .given .1)))
     (put-then (c .before .before .before .before .before .before .put-written .ensures .0) (put-as (ap changeLine (toZ-ofZ w64 (answer .given .0 .1 .0) (record { sfits = c .before .before .before .before .before .before .before .before .known-told .given .1 .0 .1 }))) (c .before .before .put-change .ensures)))
 
 same-length-2 : tie.Need-same-length-2
@@ -51,7 +52,7 @@ returns-2 : tie.Need-returns-2
 unfolding rewrittenText
 returns-2 c =
     let a = c .before .before .before .before .before .before .before .before .before .args in
-    put-as (sym (ap (λ (r : Rewritten). rewrittenText (a .hops) r (a .output .now)) (c .before .before .before .before .before .answer2 .given .1)))
+    put-as (sym (ap (λ (r : Rewritten). rewrittenText (a .size) (a .hex) (a .hops) r (a .output .now)) (c .before .before .before .before .before .answer2 .given .1)))
     (c .before .before .put-refused .ensures)
 
 pub put-rewritten-spec : {M : Type 1} → statement M

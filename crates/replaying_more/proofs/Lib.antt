@@ -1,0 +1,3 @@
+-- Laws of what replay keeps for special use and the chip loader.
+pub mod SpecialLaws
+pub mod ChipLaws

@@ -42,17 +42,17 @@ same-table {s} {t} o p e k = same-entries p o (λ a l. go a l (entry s a l) refl
                 ap routed (ap₂ (entry t) (sym (z .2)) (sym (z .3)) ∙ k (z .0) (z .1))
 
 -- The routes that the steps put.
-abbrev routesPut : List Step → List Route
+abbrev pub routesPut : List Step → List Route
 routesPut [] = []
 routesPut (putting r ∷ ss) = r ∷ routesPut ss
 routesPut (taking a l ∷ ss) = routesPut ss
 
-all-puts : (P : Route → Type 0) (ss : List Step) → ((j : ℕ) (r : Route) → j < length ss → nth ss j ≡ putting r → P r) → All P (routesPut ss)
+pub all-puts : (P : Route → Type 0) (ss : List Step) → ((j : ℕ) (r : Route) → j < length ss → nth ss j ≡ putting r → P r) → All P (routesPut ss)
 all-puts P [] f = nil
 all-puts P (putting r ∷ ss) f = cons (f zero r (omega arith) refl) (all-puts P ss (λ j q lt e. f (suc j) q (omega arith) e))
 all-puts P (taking a l ∷ ss) f = all-puts P ss (λ j q lt e. f (suc j) q (omega arith) e)
 
-sounds-valid : {w : ℕ} (ss : List Step) → Sounds w ss → All (Valid w) (routesPut ss)
+pub sounds-valid : {w : ℕ} (ss : List Step) → Sounds w ss → All (Valid w) (routesPut ss)
 sounds-valid [] z = nil
 sounds-valid (putting r ∷ ss) z = cons (z .0) (sounds-valid ss (z .1))
 sounds-valid (taking a l ∷ ss) z = sounds-valid ss (z .1)
@@ -69,7 +69,7 @@ all-unpart {P} p (r ∷ t) z = go (p r) refl z (λ y. all-unpart p t y)
 
 module _ (old : List Route) where
   -- Does old lack the prefix of r?
-  abbrev lacks : Route → Bool
+  abbrev pub lacks : Route → Bool
   lacks r = not (present old (r .addr) (r .len))
 
   lacks-none : (r : Route) → entry old (r .addr) (r .len) ≡ none → lacks r ≡ true
@@ -77,14 +77,14 @@ module _ (old : List Route) where
 
   -- What holds of old's routes, and of those put whose prefix old lacks, and is a matter of the prefix alone, holds of every route on the way.
   module _ (P : Route → Type 0) (moves : (r s : Route) → r .addr ≡ s .addr → r .len ≡ s .len → P r → P s) (all : All P old) where
-    of-put : (r : Route) → (lacks r ≡ true → P r) → P r
+    pub of-put : (r : Route) → (lacks r ≡ true → P r) → P r
     of-put r f = go (entry old (r .addr) (r .len)) refl
       where
         go : (v : Answer) → entry old (r .addr) (r .len) ≡ v → P r
         go none e = f (lacks-none r e)
         go (via h) e = let z = entry-member old (r .addr) (r .len) e in moves (z .0) r (z .2) (z .3) (all-member all (z .1))
 
-    spread : (k : ℕ) (ss : List Step) {t : List Route} → All (λ r. lacks r ≡ true → P r) (routesPut ss) → All P t → All P (after k ss t)
+    pub spread : (k : ℕ) (ss : List Step) {t : List Route} → All (λ r. lacks r ≡ true → P r) (routesPut ss) → All P t → All P (after k ss t)
     spread zero ss f z = z
     spread (suc k) [] f z = z
     spread (suc k) (putting r ∷ ss) (cons f fs) z = spread k ss fs (all-put r (of-put r f) z)

@@ -554,7 +554,15 @@ fn step_or_record(installed: &[u8], new: &[u8], n: usize, index: usize, count: u
 }
 
 // The prefix that was looked at is done with.
-fn go_on(installed: &[u8], new: &[u8], n: usize, fresh: bool, index: usize, place: usize, count: usize) -> Check
+fn go_on(
+    installed: &[u8],
+    new: &[u8],
+    n: usize,
+    fresh: bool,
+    index: usize,
+    place: usize,
+    count: usize,
+) -> Check
     requires { ⌜ Table 32 (routes (now installed)) × Table 32 (routes (now new)) ⌝ }
     requires { ⌜ (index < n) × (place ≤ 1024) ⌝ }
     ensures { λ r. ⌜ r ≡ goOnOf (now (installed .entry)) (now (new .entry)) n fresh index place count ⌝ }
@@ -566,7 +574,16 @@ fn go_on(installed: &[u8], new: &[u8], n: usize, fresh: bool, index: usize, plac
 }
 
 // The step has been judged.
-fn judged(n: usize, index: usize, count: usize, strict: bool, put: bool, addr: u32, len: u8, hop: u8) -> Check
+fn judged(
+    n: usize,
+    index: usize,
+    count: usize,
+    strict: bool,
+    put: bool,
+    addr: u32,
+    len: u8,
+    hop: u8,
+) -> Check
     requires { ⌜ index < n ⌝ }
     ensures { λ r. ⌜ r ≡ judgedOf n index count strict put addr len hop ⌝ }
 {
@@ -598,7 +615,11 @@ fn is_fresh(put: bool, found: u8, stood: u8) -> bool
     ensures { λ r. ⌜ r ≡ freshOf put found stood ⌝ }
 {
     if put {
-        if found == UNSEEN { stood == NO_HOP } else { false }
+        if found == UNSEEN {
+            stood == NO_HOP
+        } else {
+            false
+        }
     } else {
         false
     }
@@ -648,7 +669,17 @@ fn classed(installed: &[u8], new: &[u8], n: usize, c: Check, p: Pass) -> Check
     if p.good {
         return go_on(installed, new, n, c.fresh, c.index, c.place, c.count);
     }
-    cover_at(installed, new, n, c.fresh, c.index, c.place, c.count, p.x, c.len)
+    cover_at(
+        installed,
+        new,
+        n,
+        c.fresh,
+        c.index,
+        c.place,
+        c.count,
+        p.x,
+        c.len,
+    )
 }
 
 // Is y, behind x, still in the prefix of this length that holds x?
@@ -673,7 +704,17 @@ fn covering(installed: &[u8], new: &[u8], n: usize, c: Check, p: Pass) -> Check
     }
     let y = behind(masked(p.x, p.found), p.found);
     if remains(p.x, y, c.len) {
-        return cover_at(installed, new, n, c.fresh, c.index, c.place, c.count, y, c.len);
+        return cover_at(
+            installed,
+            new,
+            n,
+            c.fresh,
+            c.index,
+            c.place,
+            c.count,
+            y,
+            c.len,
+        );
     }
     go_on(installed, new, n, c.fresh, c.index, c.place, c.count)
 }

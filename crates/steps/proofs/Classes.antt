@@ -1,38 +1,30 @@
--- What is enough to know of steps to call them hitless, by classes. The class of a prefix are the addresses that it holds and no longer prefix does, among
+-- What is enough to know of steps to call them hitless. The class of a prefix are the addresses that it holds and no longer prefix does, among
 -- those of old and those that are put: at any time they have one answer, that of the prefixes that hold all of them. So it is enough that the steps can be
 -- done, that they end with as many routes as new has, and that each prefix has in the end what new has there and its class, where it is not empty, old
--- or new answers. Over any width. Assumes nothing.
-use Prim.Native.Nat.{ℕ, zero, suc, _-_, _*_, _/_, _^_, _≤_, _<_}
-use mathlib.Core.Path.{_≡_, refl, sym, ap, ap₂, subst, _∙_}
-use mathlib.Core.Bool.{Bool, true, false, not, true≢false, false≢true}
-use mathlib.Core.List.{List, [], _∷_, _++_}
+-- or new answers (`enough-classes`); and it is needed (`class-needed`). Over any width. Assumes nothing.
+use Prim.Native.Nat.{ℕ, zero, suc, _-_, _*_, _^_, _≤_, _<_}
+use mathlib.Core.Path.{_≡_, refl, sym, ap, _∙_}
+use mathlib.Core.Bool.{true, not, false≢true}
+use mathlib.Core.List.{List, _++_}
 use mathlib.Core.Logic.{_⊎_, inl, inr}
 use native.Mathlib.Decide.{decLt}
 use native.Mathlib.Nat.{eq-or-lt-of-le}
 use native.Mathlib.Omega.{arith}
 use lib.ListN.{length}
 use Rattle.theory.specs.Results.{startOf}
-use Rattle.theory.specs.Routes.{Route, matches, Match, miss, hit, lookup, Answer, none, via, under, answer, Valid, All, nil, cons, Table, Member, head, later}
+use Rattle.theory.specs.Routes.{Route, matches, Match, miss, hit, lookup, Answer, none, via, under, answer, Valid, All, Table, Member}
 use Rattle.theory.specs.Longest.{IsLongest}
 use Rattle.theory.specs.Shapes.{routed}
 use Rattle.theory.proofs.Blocks.{aligned-start, in-start, in→block, fewer-bits}
 use Rattle.theory.proofs.Lists.{all-append, all-map, all-member, member-left, member-right, member-append, member-all}
 use Rattle.theory.proofs.LongestMatch.{lookup-found, lookup-none}
 use Rattle.positions.specs.Runs.{orElse}
-use Rattle.steps.specs.Steps.{Step, putting, taking, same, entry, present, can, apply, after, OldOrNew, Hitless, Sounds}
+use Rattle.steps.specs.Steps.{Step, putting, entry, can, after, OldOrNew, Hitless, Sounds}
 use Rattle.steps.specs.Views.{rung, best}
-use Rattle.steps.proofs.Entries.{none-via, ascending-distinct, member-entry, entry-member}
+use Rattle.steps.proofs.Entries.{none-via, ascending-distinct, member-entry}
 use Rattle.steps.proofs.Rungs.{best-alike, match-start, start-match, rung-member, rung-route, answer-best}
 use Rattle.steps.proofs.Turns.{nth, possible-from, table-after}
-use Rattle.steps.proofs.Enough.{same-table, routesPut, all-puts, sounds-valid, lacks, of-put, spread}
-
--- What a step puts is among what the steps put.
-put-among : (ss : List Step) (j : ℕ) (r : Route) → j < length ss → nth ss j ≡ putting r → Member r (routesPut ss)
-put-among [] j r lt e = absurd (omega arith)
-put-among (putting s ∷ ss) zero r lt e = let q : s ≡ r = cc in rw q head
-put-among (putting s ∷ ss) (suc j) r lt e = later (put-among ss j r (omega arith) e)
-put-among (taking a l ∷ ss) zero r lt e = let z : _≡_ {A = ℕ} 0 1 = cc in absurd (omega arith)
-put-among (taking a l ∷ ss) (suc j) r lt e = put-among ss j r (omega arith) e
+use Rattle.steps.proofs.Puts.{same-table, routesPut, put-among, all-puts, sounds-valid, lacks, of-put, spread}
 
 -- ---- The answer of a class.
 

@@ -26,13 +26,12 @@ use table::check_table;
 use words::prefix::host_bits_clear;
 use words::prefix::masked;
 ghost use mathlib.Core.Path.{_≡_};
-ghost use mathlib.Core.Bool.{_&&_, _||_};
-ghost use Prim.Native.Nat.{ℕ, _+_, _-_, _^_, _%_, _≤_, _<_};
+ghost use mathlib.Core.Bool.{_&&_};
+ghost use Prim.Native.Nat.{_+_, _-_, _^_, _%_, _≤_, _<_};
 ghost use lib.Dec.{eqb};
 ghost use Rattle.theory.specs.Routes.{Table};
 ghost use Rattle.words.specs.Prefix.{agree};
-ghost use Rattle.positions.specs.Runs.{noHop};
-ghost use Rattle.records.specs.Wire.{records, routeAt, routes};
+ghost use Rattle.records.specs.Wire.{records, routes};
 ghost use Rattle.checking.specs.Passes.{findingOf, emptyPass, puts, leftOf, nearerOf, stillOf, ownNow, answeredOf, ownedOf, passedOf, behindOf, nextFrom};
 ghost use Rattle.checking.specs.Checking.{hostKeptOf, hopKeptOf, stepKept, countedOf, sameFrom, overOf, judgingOf, pickingOf, seekOf, bestIn, classPassBy, ownOf, classOf, knownLonger, unlessFound, coverOf, recordOrEnd, stepOrRecord, goOnOf, judgedOf, stoodOf, freshOf, metOf, keptOwnOf, classedOf, remainsOf, coveringOf, seenOf, MaySee, Begun};
 

@@ -4,7 +4,7 @@
 use hops::NO_HOP;
 ghost use mathlib.Core.Path.{_≡_};
 ghost use Prim.Native.Nat.{suc, _≤_};
-ghost use Rattle.checking.specs.Marks.{aloneOf, fineOf, isFine, clearedOf, markOf, markedOf, bareOf, marksUpto};
+ghost use Rattle.checking.specs.Marks.{aloneOf, fineOf, isFine, markOf, markedOf, bareOf, marksUpto};
 
 pub struct Marks {
     pub fair: u64,

@@ -1,8 +1,8 @@
 -- `checking::next_from` meets its contract. Assumes nothing.
 use borrow.Author.Needs.{needs}
-use mathlib.Core.Path.{_≡_, refl, sym, ap, _∙_}
+use mathlib.Core.Path.{_≡_, sym, ap, _∙_}
 use native.Mathlib.Omega.{arith}
-use Prim.Native.Nat.{ℕ, _+_, _-_, _≤_}
+use Prim.Native.Nat.{_+_, _-_, _≤_}
 use Rattle.checking.specs.Passes.{nextFrom}
 use Rattle.checking.proofs.Stepping.{next-bare, next-hop, next-none}
 use Rattle.checking.proofs.next_from.Statement.{statement}

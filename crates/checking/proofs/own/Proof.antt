@@ -1,5 +1,5 @@
 -- `checking::own` meets its contract. Assumes nothing.
-use borrow.Author.Tests.{lt-ltb, le-ltb, eq-eqb, ne-eqb}
+use borrow.Author.Tests.{eq-eqb, ne-eqb}
 use Rattle.checking.proofs.own.Statement.{statement}
 use Rattle.checking.proofs.own.Tie as tie
 

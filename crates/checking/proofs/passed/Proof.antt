@@ -1,7 +1,7 @@
 -- `checking::passed` meets its contract. Assumes nothing.
 use Rattle.checking.specs.Passes.{puts}
 use Rattle.checking.proofs.Stepping.{passed-answers, passed-own}
-use mathlib.Core.Path.{_≡_, refl, sym, ap, _∙_}
+use mathlib.Core.Path.{sym, _∙_}
 use borrow.Author.Tests.{lt-ltb, le-ltb, eq-eqb, ne-eqb}
 use borrow.Author.Needs.{needs}
 use Rattle.checking.proofs.passed.Statement.{statement}

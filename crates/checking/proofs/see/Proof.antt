@@ -1,5 +1,5 @@
 -- `checking::see` meets its contract. Assumes nothing.
-use mathlib.Core.Path.{_≡_, refl, sym, ap, _∙_}
+use mathlib.Core.Path.{_∙_}
 use Rattle.checking.specs.Passes.{puts}
 use Rattle.checking.proofs.Stepping.{seen-by}
 use borrow.Author.Needs.{needs}

@@ -1,5 +1,5 @@
 -- `checking::still` meets its contract. Assumes nothing.
-use borrow.Author.Tests.{lt-ltb, le-ltb, eq-eqb, ne-eqb}
+use borrow.Author.Tests.{lt-ltb, le-ltb}
 use Rattle.checking.proofs.still.Statement.{statement}
 use Rattle.checking.proofs.still.Tie as tie
 

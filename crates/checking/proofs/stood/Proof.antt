@@ -1,5 +1,5 @@
 -- `checking::stood` meets its contract. Assumes nothing.
-use borrow.Author.Tests.{lt-ltb, le-ltb, eq-eqb, ne-eqb}
+use borrow.Author.Tests.{eq-eqb, ne-eqb}
 use borrow.Author.Needs.{needs}
 use Rattle.checking.proofs.stood.Statement.{statement}
 use Rattle.checking.proofs.stood.Tie as tie

@@ -1,5 +1,5 @@
 -- `checking::unless_found` meets its contract. Assumes nothing.
-use borrow.Author.Tests.{lt-ltb, le-ltb, eq-eqb, ne-eqb}
+use borrow.Author.Tests.{lt-ltb, le-ltb}
 use Rattle.checking.proofs.unless_found.Statement.{statement}
 use Rattle.checking.proofs.unless_found.Tie as tie
 

@@ -1,5 +1,5 @@
 -- `checking::marks::alone` meets its contract. Assumes nothing.
-use borrow.Author.Tests.{lt-ltb, le-ltb, eq-eqb, ne-eqb}
+use borrow.Author.Tests.{lt-ltb, le-ltb}
 use borrow.Author.Needs.{needs}
 use Rattle.checking.proofs.marks.alone.Statement.{statement}
 use Rattle.checking.proofs.marks.alone.Tie as tie

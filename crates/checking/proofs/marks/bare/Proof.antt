@@ -1,5 +1,5 @@
 -- `checking::marks::bare` meets its contract. Assumes nothing.
-use borrow.Author.Tests.{lt-ltb, le-ltb, eq-eqb, ne-eqb}
+use borrow.Author.Tests.{eq-eqb, ne-eqb}
 use Rattle.checking.proofs.marks.bare.Statement.{statement}
 use Rattle.checking.proofs.marks.bare.Tie as tie
 

@@ -1,5 +1,5 @@
 -- `checking::marks::is_fine` meets its contract. Assumes nothing.
-use borrow.Author.Tests.{lt-ltb, le-ltb, eq-eqb, ne-eqb}
+use borrow.Author.Tests.{lt-ltb, le-ltb}
 use borrow.Author.Needs.{needs}
 use Rattle.checking.proofs.marks.is_fine.Statement.{statement}
 use Rattle.checking.proofs.marks.is_fine.Tie as tie

@@ -1,6 +1,6 @@
 -- `checking::marks::marked` meets its contract. Assumes nothing.
-use mathlib.Core.Path.{_≡_, refl, sym, ap, _∙_}
-use borrow.Author.Tests.{lt-ltb, le-ltb, eq-eqb, ne-eqb}
+use mathlib.Core.Path.{sym, _∙_}
+use borrow.Author.Tests.{lt-ltb, le-ltb}
 use borrow.Author.Needs.{needs}
 use Rattle.checking.proofs.marks.marked.Statement.{statement}
 use Rattle.checking.proofs.marks.marked.Tie as tie

@@ -1,8 +1,8 @@
 -- `checking::marks::marks_of` meets its contract. Assumes nothing.
 use borrow.Author.Needs.{needs}
-use mathlib.Core.Path.{_≡_, refl, sym, ap, _∙_}
+use mathlib.Core.Path.{_≡_, ap, _∙_}
 use native.Mathlib.Omega.{arith}
-use Prim.Native.Nat.{ℕ, suc, _+_, _-_, _≤_}
+use Prim.Native.Nat.{suc, _+_, _-_, _≤_}
 use Rattle.checking.specs.Marks.{fineOf, marksUpto}
 use Rattle.checking.proofs.Stepping.{marks-none, marks-next}
 use Rattle.checking.proofs.marks.marks_of.Statement.{statement}

@@ -25,14 +25,13 @@ use Rattle.plans.specs.declared.answers.Judged.{Judged}
 use Rattle.plans.specs.declared.answers.Judged.the-variants as judged
 use Rattle.checking.specs.declared.Stage.the-variants.{Yes, No, Refused}
 use Rattle.checking.specs.declared.Check.{Check}
-use Rattle.checking.specs.Passes.{puts, emptyPass}
+use Rattle.checking.specs.Passes.{puts}
 use Rattle.plans.specs.Following.{stepAt, followedOf, MayFollow}
 use Rattle.checking.specs.Checking.{sameFrom, unchangedOf, MaySee, overOf, judgingOf, pickingOf, seenOf, begunBy, begunOf}
 use Rattle.plans.specs.Following.{verdictOf}
 use Rattle.plans.specs.Judging.{stepOf, checkRules, Accepts, Judges}
-use Rattle.plans.proofs.Followed.{followed-none}
 use Rattle.plans.proofs.Rules.{kept, old-refused, new-refused, all-kept, step-refused}
-use Rattle.plans.proofs.Deciding.{Fine, lawful, lawful′, rank, Done, Going, pick-next, goes, falls, going-follow, going-see, going-end}
+use Rattle.plans.proofs.Deciding.{Fine, lawful, lawful′, rank, Going, pick-next, goes, falls, going-follow, going-see, going-end}
 
 -- ---- No steps.
 

@@ -1,17 +1,19 @@
--- What the fold over a node's places needs of a laid run: it is a run there, and the runs above it are what they were.
+-- Runs that are combined and laid: what is laid is a run, and the runs above it are what they were.
 use Prim.Native.Nat.{ℕ, zero, suc, _+_, _-_, _^_, _≤_, _<_}
 use mathlib.Core.Path.{_≡_, refl, sym, ap, _∙_}
 use mathlib.Core.Bool.{Bool, true, false, cond}
 use mathlib.Core.List.{List, [], _∷_, _++_, append-assoc}
 use native.Mathlib.Omega.{arith}
 use lib.Dec.{eqb, ltb}
-use lib.ListN.{length, take, drop, length-append, length-drop, take-append-drop}
-use lib.Seq.{slice, take-at, drop-at, drop-drop, length-take-le, take-append-add, drop-append-add, take-append-seam}
+use lib.ListN.{length, take, drop, length-append}
+use lib.Seq.{slice, take-at, drop-at, drop-drop, length-take-le}
 use Rattle.theory.specs.Results.{Cand, hole, of, has, insert, union, common, orUnion, combine, sets}
 use Rattle.theory.specs.Routes.{Answer}
-use Rattle.theory.specs.Shapes.{Sorted}
+use Rattle.theory.specs.Shapes.{Above, Sorted}
 use Rattle.theory.proofs.Chosen.{sorted-common, sorted-union}
-use Rattle.hopruns.specs.Runs.{Run, Pushed, candOf, hopsOf, combined, Below}
+use Rattle.nodes.specs.Room.{Pushed}
+use Rattle.nodes.proofs.RoomLaws.{pushed-length}
+use Rattle.hopruns.specs.Runs.{Run, Below, noHop, candOf, hopsOf, combined}
 use Rattle.hopruns.proofs.Laying.{drop-take}
 
 -- The run that combines two is ascending.
@@ -55,14 +57,18 @@ combined-below n (h ∷ s) (k ∷ t) p q = go (common (h ∷ s) (k ∷ t)) (belo
     go [] r = below-union n (h ∷ s) (k ∷ t) p q
     go (j ∷ c) r = r
 
+-- An ascending list below n has at most n numbers.
+above-few : (n h : ℕ) (s : List ℕ) → Above h s → Sorted s → Below n s → h < n → h + length s < n
+above-few n h [] a p q lt = omega arith
+above-few n h (k ∷ s) a p q lt = omega (arith, above-few n k s (p .0) (p .1) (q .1) (q .0), a .0)
+
+pub sorted-few : (n : ℕ) (s : List ℕ) → Sorted s → Below n s → length s ≤ n
+sorted-few n [] p q = omega arith
+sorted-few n (h ∷ s) p q = omega (arith, above-few n h s (p .0) (p .1) (q .1) (q .0))
+
 module _ {ws o o′ : List ℕ} {top r : ℕ} (p : Pushed ws top r o o′) (fits : top ≤ length o) where
   head : length (take r o) ≡ r
   head = length-take-le r o (omega (arith, p .ends))
-
-  -- The room is as long as it was.
-  pub laid-length : length o′ ≡ length o
-  laid-length =
-      omega (arith, ap length (p .laid), length-append (take r o) (ws ++ drop top o), length-append ws (drop top o), head, length-drop top o, p .ends)
 
   -- What is laid stands there.
   pub laid-slice : slice r top o′ ≡ ws
@@ -73,8 +79,8 @@ module _ {ws o o′ : List ℕ} {top r : ℕ} (p : Pushed ws top r o o′) (fits
       ∙ ap (take (top - r)) (drop-at (take r o) (ws ++ drop top o) r head)
       ∙ take-at ws (drop top o) (top - r) (sym z)
 
-  pub laid-run : Sorted ws → Run o′ r top
-  laid-run s = record { order = omega (arith, p .ends); within = omega (arith, laid-length); sorted = rw laid-slice s }
+  pub laid-run : Sorted ws → Below noHop ws → Run o′ r top
+  laid-run s b = record { order = omega (arith, p .ends); within = omega (arith, pushed-length p fits); sorted = rw laid-slice s; hops = rw laid-slice b }
 
   -- What stands from top on is as it was.
   above : drop top o′ ≡ drop top o
@@ -91,7 +97,13 @@ module _ {ws o o′ : List ℕ} {top r : ℕ} (p : Pushed ws top r o o′) (fits
       drop-take i e o′ ∙ ap (take (e - i)) same ∙ sym (drop-take i e o)
 
   pub kept-run : (i e : ℕ) → top ≤ i → Run o i e → Run o′ i e
-  kept-run i e le q = record { order = q .order; within = omega (arith, laid-length, q .within); sorted = rw (kept-slice i e le) (q .sorted) }
+  kept-run i e le q =
+      record {
+        order = q .order;
+        within = omega (arith, pushed-length p fits, q .within);
+        sorted = rw (kept-slice i e le) (q .sorted);
+        hops = rw (kept-slice i e le) (q .hops);
+      }
 
 -- The candidates of a position from the runs of its halves: what one turn of the fold shows.
 pub fold-turn : (f : ℕ → Answer) (n a : ℕ) (s t : List ℕ) → candOf s ≡ sets f n a → candOf t ≡ sets f n (a + 2 ^ n)

@@ -4,9 +4,9 @@ use mathlib.Core.Path.{_≡_, refl, sym, ap, _∙_}
 use mathlib.Core.List.{List, [], _∷_, _++_, append-assoc, append-nil}
 use native.Mathlib.Nat.{add-zero}
 use native.Mathlib.Omega.{arith}
-use lib.ListN.{length, getD, take, drop, length-append, length-drop, length-take, take-append-drop}
-use lib.Seq.{slice, take-nil, take-at, drop-at, getD-drop, drop-drop, length-take-le, drop-append-le, take-append-le}
-use Rattle.hopruns.specs.Runs.{Run, Pushed}
+use lib.ListN.{length, getD, take, drop, length-append, length-drop, take-append-drop}
+use lib.Seq.{slice, take-nil, take-at, drop-at, getD-drop, drop-drop, length-take-le}
+use Rattle.nodes.specs.Room.{Pushed}
 
 -- A slice is the words from its start, so many.
 pub drop-take : (i e : ℕ) (l : List ℕ) → drop i (take e l) ≡ take (e - i) (drop i l)
@@ -86,10 +86,6 @@ laying-end {whole} {o} {o′} {at} {n} l =
     let same : whole ≡ l .done = l .parts ∙ append-nil (l .done) in
     let z : n ≡ at + length whole = omega (arith, laying-left l) in
     record { ends = refl; laid = l .laid ∙ ap (λ (u : List ℕ). take at o ++ (u ++ drop n o)) (sym same) ∙ ap (λ (k : ℕ). take at o ++ (whole ++ drop k o)) z }
-
--- Nothing is laid.
-pub pushed-none : (ws o : List ℕ) (top : ℕ) → ws ≡ [] → Pushed ws top top o o
-pushed-none ws o top e = rw e (record { ends = add-zero top; laid = sym (take-append-drop top o) })
 
 -- The same by another name.
 pub pushed-as : {ws o o′ : List ℕ} {top r : ℕ} (ws′ : List ℕ) (top′ : ℕ) → ws ≡ ws′ → top ≡ top′ → Pushed ws top r o o′ → Pushed ws′ top′ r o o′

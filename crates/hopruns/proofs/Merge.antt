@@ -10,33 +10,11 @@ use native.Mathlib.Omega.{arith}
 use lib.Dec.{eqb, leb, ltb}
 use lib.ListN.{length, getD}
 use lib.Seq.{slice, slice-cons, slice-empty, length-slice}
-use borrow.Author.Tests.{eq-eqb, eqb-true, eqb-false, lt-ltb, le-ltb, ltb-true, ltb-false}
+use borrow.Author.Tests.{eq-eqb, ne-eqb, lt-ltb, le-ltb, le-leb, lt-leb}
 use Rattle.theory.specs.Results.{has, insert, union, common, Cand, hole, of, orUnion, combine}
 use Rattle.theory.specs.Shapes.{Above, Sorted}
 use Rattle.theory.proofs.Hops.{has-union}
-use Rattle.hopruns.specs.Runs.{Run, combined}
-
--- Two different numbers.
-pub ne-eqb : (h k : ℕ) → (h ≡ k → ⊥) → eqb h k ≡ false
-ne-eqb h k n = go (eqb h k) refl
-  where
-    go : (b : Bool) → eqb h k ≡ b → eqb h k ≡ false
-    go true e = absurd (n (eqb-true h k e))
-    go false e = e
-
-le-leb : (h k : ℕ) → h ≤ k → leb h k ≡ true
-le-leb h k le = go (leb h k) refl
-  where
-    go : (b : Bool) → leb h k ≡ b → leb h k ≡ true
-    go true e = e
-    go false e = absurd (omega (arith, borrow.Author.Tests.leb-false h k e))
-
-lt-leb : (h k : ℕ) → k < h → leb h k ≡ false
-lt-leb h k lt = go (leb h k) refl
-  where
-    go : (b : Bool) → leb h k ≡ b → leb h k ≡ false
-    go true e = absurd (omega (arith, borrow.Author.Tests.leb-true h k e))
-    go false e = e
+use Rattle.hopruns.specs.Runs.{Run, Below, noHop, combined}
 
 -- What is below an ascending list is not in it.
 pub not-in : (h : ℕ) (s : List ℕ) → Above h s → has h s ≡ false
@@ -180,7 +158,8 @@ run-cons o i e r lt = slice-cons i e o 0 lt (r .within)
 pub run-next : (o : List ℕ) (i e : ℕ) → Run o i e → i < e → Run o (suc i) e
 run-next o i e r lt =
     let s : Sorted (getD o i 0 ∷ slice (suc i) e o) = rw (run-cons o i e r lt) at (r .sorted) in
-    record { order = lt; within = r .within; sorted = s .1 }
+    let b : Below noHop (getD o i 0 ∷ slice (suc i) e o) = rw (run-cons o i e r lt) at (r .hops) in
+    record { order = lt; within = r .within; sorted = s .1; hops = b .1 }
 
 -- The run after its first word, if that is taken.
 pub run-step : (o : List ℕ) (i e : ℕ) (b : Bool) → Run o i e → i < e → Run o (i + cond b 1 0) e
@@ -247,7 +226,7 @@ done-right o j f s r le = let z : j ≡ f = omega (arith, r .order) in rw (z, sl
 -- ---- Two runs combined.
 
 -- No list is empty that has a hop.
-empty-length : (s : List ℕ) → length s ≡ 0 → s ≡ []
+pub empty-length : (s : List ℕ) → length s ≡ 0 → s ≡ []
 empty-length [] e = refl
 empty-length (h ∷ s) e = absurd (omega arith)
 
@@ -285,3 +264,55 @@ module _ (o : List ℕ) (a e b f : ℕ) (r : Run o a e) (q : Run o b f) (lt : a 
   pub either-length : length (common (slice a e o) (slice b f o)) ≡ 0 → length (union (slice a e o) (slice b f o)) ≡ (e - a) + (f - b)
   either-length z =
       omega (arith, union-length (slice a e o) (slice b f o) (r .sorted) (apart-runs z), run-length o a e r, run-length o b f q)
+
+  -- The size tells which: all the hops of both exactly where they share none.
+  pub size-either : length (combined (slice a e o) (slice b f o)) ≡ (e - a) + (f - b) → length (common (slice a e o) (slice b f o)) ≡ 0
+  size-either z = go (length (common (slice a e o) (slice b f o))) refl
+    where
+      go : (n : ℕ) → length (common (slice a e o) (slice b f o)) ≡ n → length (common (slice a e o) (slice b f o)) ≡ 0
+      go zero h = h
+      go (suc n) h =
+          let same = ap length (combined-shared (omega arith)) in
+          absurd (omega (arith, same, z, common-length (slice a e o) (slice b f o), run-length o a e r))
+
+  pub size-shared : (length (combined (slice a e o) (slice b f o)) ≡ (e - a) + (f - b) → ⊥) → 0 < length (common (slice a e o) (slice b f o))
+  size-shared other = go (length (common (slice a e o) (slice b f o))) refl
+    where
+      go : (n : ℕ) → length (common (slice a e o) (slice b f o)) ≡ n → 0 < length (common (slice a e o) (slice b f o))
+      go zero h = absurd (other (ap length (combined-either h) ∙ either-length h))
+      go (suc n) h = omega arith
+
+-- A run that combines two and is no hole is of two that are none.
+module _ (o : List ℕ) (a e b f : ℕ) (r : Run o a e) (q : Run o b f) (some : 0 < length (combined (slice a e o) (slice b f o))) where
+  pub some-left : a < e
+  some-left = go (eq-or-lt-of-le (r .order))
+    where
+      go : (a ≡ e) ⊎ (a < e) → a < e
+      go (inl z) = absurd (omega (arith, ap length (hole-left o a e (slice b f o) z), some))
+      go (inr lt) = lt
+
+  pub some-right : b < f
+  some-right = go (eq-or-lt-of-le (q .order))
+    where
+      go : (b ≡ f) ⊎ (b < f) → b < f
+      go (inl z) = absurd (omega (arith, ap length (hole-right o b f (slice a e o) z), some))
+      go (inr lt) = lt
+
+-- Which of the two ways it is, by the size.
+module _ (o : List ℕ) (a e b f size : ℕ) (r : Run o a e) (q : Run o b f) (sized : size ≡ length (combined (slice a e o) (slice b f o))) (some : 0 < size) where
+  left-some : a < e
+  left-some = some-left o a e b f r q (omega arith)
+
+  right-some : b < f
+  right-some = some-right o a e b f r q (omega arith)
+
+  -- All, where they share none.
+  pub way-either : size ≡ (e - a) + (f - b)
+      → (common (slice a e o) (slice b f o) ≡ []) × (combined (slice a e o) (slice b f o) ≡ union (slice a e o) (slice b f o))
+  way-either z =
+      let none = size-either o a e b f r q left-some right-some (sym sized ∙ z) in
+      (apart-runs o a e b f r q left-some right-some none, combined-either o a e b f r q left-some right-some none)
+
+  -- Those that they share.
+  pub way-shared : (size ≡ (e - a) + (f - b) → ⊥) → combined (slice a e o) (slice b f o) ≡ common (slice a e o) (slice b f o)
+  way-shared other = combined-shared o a e b f r q left-some right-some (size-shared o a e b f r q left-some right-some (λ z. other (sized ∙ z)))

@@ -12,7 +12,7 @@ use lib.Seq.{slice, slice-empty}
 use borrow.Author.Tests.{lt-ltb, le-ltb, eq-eqb}
 use Rattle.theory.specs.Results.{has, union, common}
 use Rattle.theory.specs.Shapes.{Above, Sorted}
-use Rattle.hopruns.specs.Runs.{Run, Pushed}
+use Rattle.hopruns.specs.Runs.{Run}
 use Rattle.hopruns.proofs.Merge.{shared-step, run-cons, run-next, run-step, length-if, above-low, union-left, union-right, apart-left, apart-right, apart-not, at-most-one}
 use Rattle.hopruns.proofs.Laying.{Laying, laying-more, laying-getD, laying-left}
 

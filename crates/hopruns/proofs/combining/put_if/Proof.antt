@@ -4,35 +4,27 @@ use native.Mathlib.Omega.{arith}
 use lib.ListN.{take-append-drop}
 use lib.Seq.{set-split}
 use borrow.Author.Needs.{needs}
-use Rattle.hopruns.proofs.put_if.Statement.{statement}
-use Rattle.hopruns.proofs.put_if.Tie as tie
-use Rattle.hopruns.proofs.put_if.Reads as reads
-use Rattle.hopruns.proofs.put_if.Lts as lts
+use Rattle.hopruns.proofs.combining.put_if.Statement.{statement}
+use Rattle.hopruns.proofs.combining.put_if.Tie as tie
 
--- src/lib.rt:49:9
 mul-work : tie.Need-mul-work
 mul-work c = search needs
 
--- src/lib.rt:49:9
 slice-write-work : tie.Need-slice-write-work
 slice-write-work c = c .before .pre .0 (c .if1 .taken)
 
--- src/lib.rt:50:16
 add-result : tie.Need-add-result
 add-result c = search needs
 
--- src/lib.rt:50:9
 same-length : tie.Need-same-length
 same-length c = search needs
 
--- src/lib.rt:50:9
 returns : tie.Need-returns
 returns c =
     let a = c .before .args in
     let one : a .n + 1 ≡ suc (a .n) = omega arith in
     (rw (c .if1 .taken), rw (c .if1 .taken, one) (set-split (a .work .now) (a .n) (a .x) (c .before .pre .0 (c .if1 .taken))))
 
--- src/lib.rt:43:1
 returns-2 : tie.Need-returns-2
 returns-2 c =
     let a = c .before .args in

@@ -1,36 +1,27 @@
 use native.Mathlib.Omega.{arith}
 use borrow.Author.Tests.{lt-ltb, le-ltb}
 use borrow.Author.Needs.{needs}
-use Rattle.hopruns.proofs.is_left.Statement.{statement}
-use Rattle.hopruns.proofs.is_left.Tie as tie
-use Rattle.hopruns.proofs.is_left.Reads as reads
-use Rattle.hopruns.proofs.is_left.Lts as lts
+use Rattle.hopruns.proofs.combining.is_left.Statement.{statement}
+use Rattle.hopruns.proofs.combining.is_left.Tie as tie
 
--- src/lib.rt:85:20
 mul-result : tie.Need-mul-result
 mul-result c = search needs
 
--- src/lib.rt:85:20
 shared-slice-read-result : tie.Need-shared-slice-read-result
 shared-slice-read-result c = search needs
 
--- src/lib.rt:85:30
 mul-result-2 : tie.Need-mul-result-2
 mul-result-2 c = search needs
 
--- src/lib.rt:85:30
 shared-slice-read-result-2 : tie.Need-shared-slice-read-result-2
 shared-slice-read-result-2 c = search needs
 
--- src/lib.rt:85:13
 returns : tie.Need-returns
 returns c = let a = c .before .before .before .before .args in rw (lt-ltb (a .i) (a .a-end) (omega arith), lt-ltb (a .j) (a .b-end) (omega arith))
 
--- src/lib.rt:87:9
 returns-2 : tie.Need-returns-2
 returns-2 c = let a = c .before .before .args in rw (lt-ltb (a .i) (a .a-end) (omega arith), le-ltb (a .j) (a .b-end) (omega arith))
 
--- src/lib.rt:79:1
 returns-3 : tie.Need-returns-3
 returns-3 c = let a = c .before .args in rw (le-ltb (a .i) (a .a-end) (omega arith))
 

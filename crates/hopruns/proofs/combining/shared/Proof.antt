@@ -1,4 +1,4 @@
--- `hopruns::shared` meets its contract. The loop's invariant: what is counted and what is still to be shared make all. Assumes nothing.
+-- `hopruns::combining::shared` meets its contract. The loop's invariant: what is counted and what is still to be shared make all. Assumes nothing.
 use Prim.Native.Nat.{ℕ, _+_, _-_, _≤_, _<_}
 use mathlib.Core.Path.{_≡_, ap, _∙_}
 use mathlib.Core.Bool.{cond}
@@ -11,11 +11,8 @@ use borrow.Author.Needs.{needs}
 use Rattle.theory.specs.Results.{common}
 use Rattle.hopruns.specs.Runs.{Run}
 use Rattle.hopruns.proofs.Merge.{shared-step, run-step, count-step, run-length, done-left, done-right, common-length, one-moves, at-most-one}
-use Rattle.hopruns.proofs.shared.Statement.{statement}
-use Rattle.hopruns.proofs.shared.Tie as tie
-use Rattle.hopruns.proofs.shared.Reads as reads
-use Rattle.hopruns.proofs.shared.Lts as lts
-use Rattle.hopruns.proofs.one_if.Reads as one-if-reads
+use Rattle.hopruns.proofs.combining.shared.Statement.{statement}
+use Rattle.hopruns.proofs.combining.shared.Tie as tie
 
 abbrev Inv-loop : tie.InvT-loop
 Inv-loop work a a-end b b-end n₀ i₀ j₀ n i j =

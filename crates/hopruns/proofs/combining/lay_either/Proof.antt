@@ -1,4 +1,4 @@
--- `hopruns::lay_either` meets its contract. The loop's invariant: the hops of either are laid so far, and the rest is in what is left of both
+-- `hopruns::combining::lay_either` meets its contract. The loop's invariant: the hops of either are laid so far, and the rest is in what is left of both
 -- runs, which stand above. Assumes nothing.
 use Prim.Native.Nat.{ℕ, suc, _+_, _-_, _≤_, _<_}
 use mathlib.Core.Path.{_≡_, ap, sym, _∙_}
@@ -12,13 +12,8 @@ use Rattle.theory.specs.Results.{union}
 use Rattle.hopruns.proofs.Merge.{at-most-one, run-length, union-length}
 use Rattle.hopruns.proofs.Laying.{laying-start, laying-end, laying-length, laying-left, laying-getD}
 use Rattle.hopruns.proofs.Steps.{Joining, joining-step, joining-took, took-from, joining-end}
-use Rattle.hopruns.proofs.lay_either.Statement.{statement}
-use Rattle.hopruns.proofs.lay_either.Tie as tie
-use Rattle.hopruns.proofs.lay_either.Reads as reads
-use Rattle.hopruns.proofs.lay_either.Lts as lts
-use Rattle.hopruns.proofs.is_left.Reads as is-left-reads
-use Rattle.hopruns.proofs.one_if.Reads as one-if-reads
-use Rattle.hopruns.proofs.pick.Reads as pick-reads
+use Rattle.hopruns.proofs.combining.lay_either.Statement.{statement}
+use Rattle.hopruns.proofs.combining.lay_either.Tie as tie
 
 abbrev Inv-loop : tie.InvT-loop
 Inv-loop work₀ a a-end b b-end at end n₀ i₀ j₀ work n i j = Joining work₀ a a-end b b-end at work n i j

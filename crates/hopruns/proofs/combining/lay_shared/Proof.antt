@@ -1,4 +1,4 @@
--- `hopruns::lay_shared` meets its contract. The loop's invariant: what is shared is laid so far, and the rest is shared by what is left of both
+-- `hopruns::combining::lay_shared` meets its contract. The loop's invariant: what is shared is laid so far, and the rest is shared by what is left of both
 -- runs, which stand above. Assumes nothing.
 use Prim.Native.Nat.{ℕ, _+_, _-_, _≤_, _<_}
 use mathlib.Core.Path.{_≡_, ap, sym, _∙_}
@@ -11,12 +11,8 @@ use Rattle.theory.specs.Results.{common}
 use Rattle.hopruns.proofs.Merge.{done-left, done-right, one-moves, at-most-one, common-length, run-length}
 use Rattle.hopruns.proofs.Laying.{laying-start, laying-end, laying-length, laying-left, laying-getD}
 use Rattle.hopruns.proofs.Steps.{Sharing, sharing-step}
-use Rattle.hopruns.proofs.lay_shared.Statement.{statement}
-use Rattle.hopruns.proofs.lay_shared.Tie as tie
-use Rattle.hopruns.proofs.lay_shared.Reads as reads
-use Rattle.hopruns.proofs.lay_shared.Lts as lts
-use Rattle.hopruns.proofs.one_if.Reads as one-if-reads
-use Rattle.hopruns.proofs.put_if.Reads as put-if-reads
+use Rattle.hopruns.proofs.combining.lay_shared.Statement.{statement}
+use Rattle.hopruns.proofs.combining.lay_shared.Tie as tie
 
 abbrev Inv-loop : tie.InvT-loop
 Inv-loop work₀ a a-end b b-end at n₀ i₀ j₀ work n i j = Sharing work₀ a a-end b b-end at work n i j

@@ -7,7 +7,7 @@ use native.Mathlib.Omega.{arith}
 use lib.ListN.{length, getD, set, take, drop, length-append, length-drop}
 use lib.Seq.{slice, take-at, slice-empty}
 use Rattle.nodes.specs.Room.{Pushed, Begins}
-use Rattle.nodes.proofs.RoomLaws.{pushed-then, pushed-length, pushed-word, begins-word, begins-left, begins-right}
+use Rattle.nodes.proofs.RoomLaws.{Read, pushed-then, pushed-length, pushed-word, begins-word, begins-right}
 use Rattle.hopruns.specs.Packed.{isSome, storedRun, maskOf, wordsOf, packed}
 use Rattle.hopruns.proofs.Laying.{drop-take}
 
@@ -60,6 +60,10 @@ begins-slice u v top o (rest, e) =
 begins-within : (u : List ℕ) (top : ℕ) (o : List ℕ) → Begins u top o → top ≤ length o → top + length u ≤ length o
 begins-within u top o (rest, e) le = omega (arith, ap length e, length-append u rest, length-drop top o)
 
+-- The first word of a node is its mask, and the words of its positions follow.
+pub packed-word : (runs : ℕ → List ℕ) (top : ℕ) (o : List ℕ) → Begins (packed runs) top o → Read (maskOf runs 31) (wordsOf runs 31) top o
+packed-word runs top o b = begins-word {ws = wordsOf runs 31} {top = top} {o = o} b
+
 -- The next position is a hole, or has a run, by the lowest bit of the mask.
 pub record Hole (runs : ℕ → List ℕ) (k mask top : ℕ) (o : List ℕ) : Type 0 where
   pub run : [] ≡ runs (30 - k)
@@ -96,7 +100,7 @@ module _ (runs : ℕ → List ℕ) (k mask top : ℕ) (o : List ℕ) (e : mask �
       go (h ∷ s) q =
           let m : mask ≡ maskOf runs k * 2 + 1 = e ∙ mask-next runs k ∙ ap (λ (t : List ℕ). maskOf runs k * 2 + cond (isSome t) 1 0) (sym q) in
           let w : wordsOf runs (suc k) ≡ length (h ∷ s) ∷ ((h ∷ s) ++ wordsOf runs k) = words-next runs k ∙ ap (λ (t : List ℕ). storedRun t ++ wordsOf runs k) (sym q) in
-          let first = begins-word {w = length (h ∷ s)} {ws = (h ∷ s) ++ wordsOf runs k} (rw w at b) in
+          let first = begins-word {w = length (h ∷ s)} {ws = (h ∷ s) ++ wordsOf runs k} {top = top} {o = o} (rw w at b) in
           let size : getD o top 0 ≡ length (h ∷ s) = first .word in
           let le : top + 1 ≤ length o = omega (arith, first .within) in
           let all = begins-within ((h ∷ s) ++ wordsOf runs k) (top + 1) o (first .after) le in

@@ -21,7 +21,7 @@ use Rattle.hopruns.specs.declared.room.Folded.{Folded}
 use Rattle.hopruns.specs.Runs.{Run, noHop, combined}
 use Rattle.hopruns.specs.Packed.{isSome, storedRun, maskOf, wordsOf, packed}
 use Rattle.hopruns.specs.Write.{MayPush, DidPush}
-use Rattle.hopruns.specs.Fold.{Placed, Shown, hopsIn, MayFold, Folds}
+use Rattle.hopruns.specs.Fold.{Placed, Shown, firstHops, MayFold, Folds}
 use Rattle.hopruns.proofs.Kept.{laid-slice, laid-run, kept-slice, kept-run, combined-sorted, combined-below}
 use Rattle.hopruns.proofs.Reading.{words-next, mask-next, words-none, mask-none}
 
@@ -68,7 +68,7 @@ pub record Folding (runs : ℕ → List ℕ) (holding top left : ℕ) (o₀ o fr
   pub shown : Shown runs o from to b
   pub masked : node .mask ≡ maskOf runs (31 - b)
   pub laid : Pushed (wordsOf runs (31 - b)) top (node .top) o₀ o
-  pub spent : rest + hopsIn runs holding ≡ left + hopsIn runs (holdingOf b holding)
+  pub spent : rest + firstHops runs holding ≡ left + firstHops runs (holdingOf b holding)
 
 -- The same at another number for b.
 pub turn : {runs : ℕ → List ℕ} {holding top left : ℕ} {o₀ o from to : List ℕ} {node : NodeWriter} {rest b b′ : ℕ}
@@ -93,12 +93,12 @@ fold-start runs holding top left o from to m =
 
 -- The hops that count at position b.
 hops-next : (runs : ℕ → List ℕ) (b holding : ℕ)
-    → hopsIn runs (holdingOf (suc b) holding) ≡ hopsIn runs (holdingOf b holding) + cond (ltb b holding) (length (runs b)) 0
+    → firstHops runs (holdingOf (suc b) holding) ≡ firstHops runs (holdingOf b holding) + cond (ltb b holding) (length (runs b)) 0
 unfolding sumTo
 hops-next runs b holding = go (decLt b holding) (decLt (suc b) holding)
   where
     go : Dec (b < holding) → Dec (suc b < holding)
-        → hopsIn runs (holdingOf (suc b) holding) ≡ hopsIn runs (holdingOf b holding) + cond (ltb b holding) (length (runs b)) 0
+        → firstHops runs (holdingOf (suc b) holding) ≡ firstHops runs (holdingOf b holding) + cond (ltb b holding) (length (runs b)) 0
     go (yes lt) (yes next) = rw (lt-ltb b holding lt, lt-ltb (suc b) holding next)
     go (yes lt) (no last) = let e : holding ≡ suc b = omega arith in rw (lt-ltb b holding lt, le-ltb (suc b) holding (omega arith), e)
     go (no ge) (yes next) = absurd (omega arith)
@@ -126,7 +126,7 @@ module _ {runs : ℕ → List ℕ} {holding top left : ℕ} {o₀ from₀ to₀ 
   fold-within = omega (arith, s .laid .ends, m .within, pushed-length (s .laid) (m .within))
 
   -- Where it does not fit, all do not.
-  pub too-many : (size : ℕ) → size ≡ length made → rest < cond (ltb b holding) size 0 → left < hopsIn runs holding
+  pub too-many : (size : ℕ) → size ≡ length made → rest < cond (ltb b holding) size 0 → left < firstHops runs holding
   too-many size e lt =
       let same : cond (ltb b holding) size 0 ≡ cond (ltb b holding) (length (runs b)) 0 = ap (λ (k : ℕ). cond (ltb b holding) k 0) (e ∙ ap length made-is) in
       omega (arith, s .spent, hops-next runs b holding, same)
@@ -241,7 +241,7 @@ module _ {runs : ℕ → List ℕ} {holding top left : ℕ} {o₀ from₀ to₀ 
           rw (getD-set-other from b k (node .top - size) 0 (λ z. omega arith), getD-set-other to b k (node .top) 0 (λ z. omega arith))
           (kept-slice p fold-within (getD from k 0) (getD to k 0) (s .placed k l lt .1) ∙ s .shown k l lt)
 
-no-hops : (runs : ℕ → List ℕ) → hopsIn runs 0 ≡ 0
+no-hops : (runs : ℕ → List ℕ) → firstHops runs 0 ≡ 0
 unfolding sumTo
 no-hops runs = refl
 
@@ -270,11 +270,11 @@ fold-end {runs} {holding} {top} {left} {o₀} {from₀} {to₀} {o} {from} {to} 
     word : Pushed (node .mask ∷ []) (node .top) (node .top - 1) o (set o (node .top - 1) (node .mask))
     word = pushed-word (node .mask) (node .top) o (omega (arith, s .room)) within
 
-    none : Dec (0 < holding) → rest + hopsIn runs holding ≡ left
+    none : Dec (0 < holding) → rest + firstHops runs holding ≡ left
     none (yes lt) =
-        let z : hopsIn runs (holdingOf 0 holding) ≡ hopsIn runs 0 = rw (lt-ltb 0 holding lt) in
+        let z : firstHops runs (holdingOf 0 holding) ≡ firstHops runs 0 = rw (lt-ltb 0 holding lt) in
         omega (arith, s .spent, z, no-hops runs)
     none (no ge) =
         let e : holding ≡ 0 = omega arith in
-        let z : hopsIn runs (holdingOf 0 holding) ≡ hopsIn runs 0 = rw (le-ltb 0 holding (omega arith), e) in
+        let z : firstHops runs (holdingOf 0 holding) ≡ firstHops runs 0 = rw (le-ltb 0 holding (omega arith), e) in
         omega (arith, s .spent, z, no-hops runs)

@@ -1,15 +1,27 @@
 -- The fold of a node: its 63 places, 31 positions and 32 slots, each with a run; that of a position combines those of the two places below it.
-use Prim.Native.Nat.{ℕ, _+_, _-_, _*_, _≤_, _<_}
+use Prim.Native.Nat.{ℕ, suc, _+_, _-_, _*_, _^_, _≤_, _<_}
 use mathlib.Core.Path.{_≡_}
-use mathlib.Core.Bool.{Bool, true, false}
+use mathlib.Core.Bool.{Bool, true, false, cond}
 use mathlib.Core.List.{List}
+use lib.Dec.{ltb}
 use lib.ListN.{length, getD}
 use lib.Seq.{slice}
+use Rattle.theory.specs.Routes.{Answer}
+use Rattle.theory.specs.Results.{sets}
+use Rattle.positions.specs.Runs.{sizeAt, placeAt}
 use Rattle.nodecount.specs.Walk.{sumTo}
 use Rattle.nodes.specs.Room.{Pushed}
 use Rattle.hopruns.specs.declared.room.Folded.{Folded}
-use Rattle.hopruns.specs.Runs.{Run, combined}
+use Rattle.hopruns.specs.Runs.{Run, hopsOf, combined}
 use Rattle.hopruns.specs.Packed.{packed}
+
+-- The level of the place numbered k: 0 to 4 for a position, 5 for a slot.
+abbrev pub levelOf : ℕ → ℕ
+levelOf k = cond (ltb k 1) 0 (cond (ltb k 3) 1 (cond (ltb k 7) 2 (cond (ltb k 15) 3 (cond (ltb k 31) 4 5))))
+
+-- The candidates of the places of the node (m + 5, a), where address x is answered by f x, as runs.
+abbrev pub runAt : (ℕ → Answer) → ℕ → ℕ → ℕ → List ℕ
+runAt f m a k = hopsOf (sets f (sizeAt m (levelOf k)) (placeAt m a (levelOf k) (suc k - 2 ^ levelOf k)))
 
 -- Each of the 31 positions has the combined run of the two places below it.
 abbrev pub Heap : (ℕ → List ℕ) → Type 0
@@ -24,8 +36,8 @@ abbrev pub Shown : (ℕ → List ℕ) → List ℕ → List ℕ → List ℕ →
 Shown runs o from to b = (k : ℕ) → b ≤ k → k < 63 → slice (getD from k 0) (getD to k 0) o ≡ runs k
 
 -- The hops of the first n positions.
-abbrev pub hopsIn : (ℕ → List ℕ) → ℕ → ℕ
-hopsIn runs n = sumTo (λ b. length (runs b)) n
+abbrev pub firstHops : (ℕ → List ℕ) → ℕ → ℕ
+firstHops runs n = sumTo (λ b. length (runs b)) n
 
 -- What a fold asks of the room o, where so many words are left for the hops of the first `holding` positions: the runs of the slots stand above top, and
 -- below it there is room for the words that are left, the mask, 31 lengths and one hop of each further position, which has no more.
@@ -46,12 +58,12 @@ pub record Folds (runs : ℕ → List ℕ) (holding top left : ℕ) (r : Folded)
   pub first : Run o′ (r .from) (r .to)
   pub shows : slice (r .from) (r .to) o′ ≡ runs 0
   pub under : r .top ≤ r .from
-  pub spent : r .left + hopsIn runs holding ≡ left
+  pub spent : r .left + firstHops runs holding ≡ left
 
 -- What a fold says: they suffice, or they do not.
 abbrev pub FoldSays : (ℕ → List ℕ) → ℕ → ℕ → ℕ → Bool → Folded → List ℕ → List ℕ → Type 0
 FoldSays runs holding top left true r o o′ = Folds runs holding top left r o o′
-FoldSays runs holding top left false r o o′ = left < hopsIn runs holding
+FoldSays runs holding top left false r o o′ = left < firstHops runs holding
 
 abbrev pub DidFold : (ℕ → List ℕ) → ℕ → ℕ → ℕ → Folded → List ℕ → List ℕ → Type 0
 DidFold runs holding top left r o o′ = FoldSays runs holding top left (r .fits) r o o′

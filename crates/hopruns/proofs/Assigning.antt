@@ -1,5 +1,5 @@
 -- What a run assigns: a hole nothing; else the hop above if it has it, or its hop of lowest rank.
-use Prim.Native.Nat.{ℕ, suc, _<_, _≤_}
+use Prim.Native.Nat.{ℕ, _<_}
 use mathlib.Core.Path.{_≡_, refl, sym, ap, _∙_}
 use mathlib.Core.Bool.{Bool, true, false, cond}
 use mathlib.Core.List.{List, [], _∷_}
@@ -7,11 +7,11 @@ use mathlib.Core.Logic.{⊎-elim}
 use native.Mathlib.Decide.{decLt}
 use native.Mathlib.Omega.{arith}
 use lib.Dec.{eqb}
-use lib.ListN.{length, getD}
+use lib.ListN.{length}
 use lib.Seq.{slice, slice-empty}
 use borrow.Author.Tests.{eqb-true, lt-ltb, le-ltb}
 use Rattle.theory.specs.Routes.{Answer, none, via}
-use Rattle.theory.specs.Results.{has, of, allowed, assigned}
+use Rattle.theory.specs.Results.{has, allowed, assigned}
 use Rattle.theory.specs.Ranks.{best, lowest}
 use Rattle.theory.specs.Shapes.{Sorted}
 use Rattle.theory.proofs.Hops.{or-cases}

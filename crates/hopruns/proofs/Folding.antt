@@ -17,12 +17,11 @@ use Rattle.nodecount.specs.Walk.{sumTo}
 use Rattle.nodes.specs.Room.{Pushed}
 use Rattle.nodes.proofs.RoomLaws.{pushed-none, pushed-then, pushed-length, pushed-word}
 use Rattle.hopruns.specs.declared.room.NodeWriter.{NodeWriter}
-use Rattle.hopruns.specs.declared.room.Folded.{Folded}
 use Rattle.hopruns.specs.Runs.{Run, noHop, combined}
-use Rattle.hopruns.specs.Packed.{isSome, storedRun, maskOf, wordsOf, packed}
+use Rattle.hopruns.specs.Packed.{isSome, storedRun, maskOf, wordsOf}
 use Rattle.hopruns.specs.Write.{MayPush, DidPush}
 use Rattle.hopruns.specs.Fold.{Placed, Shown, firstHops, MayFold, Folds}
-use Rattle.hopruns.proofs.Kept.{laid-slice, laid-run, kept-slice, kept-run, combined-sorted, combined-below}
+use Rattle.hopruns.proofs.Kept.{laid-slice, kept-slice, kept-run, combined-sorted, combined-below}
 use Rattle.hopruns.proofs.Reading.{words-next, mask-next, words-none, mask-none}
 
 -- ---- A run that was stored.
@@ -104,6 +103,11 @@ hops-next runs b holding = go (decLt b holding) (decLt (suc b) holding)
     go (no ge) (yes next) = absurd (omega arith)
     go (no ge) (no past) = rw (le-ltb b holding (omega arith), le-ltb (suc b) holding (omega arith)) (omega arith)
 
+-- The words laid so far lie in the room.
+pub fold-within : {runs : ℕ → List ℕ} {holding top left : ℕ} {o₀ from₀ to₀ o from to : List ℕ} {node : NodeWriter} {rest b : ℕ}
+    → MayFold runs holding o₀ from₀ to₀ top left → Folding runs holding top left o₀ o from to node rest b → node .top ≤ length o
+fold-within m s = omega (arith, s .laid .ends, m .within, pushed-length (s .laid) (m .within))
+
 module _ {runs : ℕ → List ℕ} {holding top left : ℕ} {o₀ from₀ to₀ o from to : List ℕ} {node : NodeWriter} {rest b : ℕ}
     (m : MayFold runs holding o₀ from₀ to₀ top left) (s : Folding runs holding top left o₀ o from to node rest (suc b)) where
   -- The two places below position b.
@@ -121,9 +125,6 @@ module _ {runs : ℕ → List ℕ} {holding top left : ℕ} {o₀ from₀ to₀ 
   made-is =
       ap₂ combined (s .shown (2 * b + 1) (omega arith) (omega (arith, s .turn))) (s .shown (2 * b + 2) (omega arith) (omega (arith, s .turn)))
       ∙ sym (m .heap b (omega (arith, s .turn)))
-
-  pub fold-within : node .top ≤ length o
-  fold-within = omega (arith, s .laid .ends, m .within, pushed-length (s .laid) (m .within))
 
   -- Where it does not fit, all do not.
   pub too-many : (size : ℕ) → size ≡ length made → rest < cond (ltb b holding) size 0 → left < firstHops runs holding
@@ -210,7 +211,7 @@ module _ {runs : ℕ → List ℕ} {holding top left : ℕ} {o₀ from₀ to₀ 
 
       -- Its run.
       stands : slice (node .top - size) (node .top) o′ ≡ made
-      stands = rw e (stored-slice made p fold-within)
+      stands = rw e (stored-slice made p (fold-within m s))
 
       run : Run o′ (node .top - size) (node .top)
       run =
@@ -218,7 +219,7 @@ module _ {runs : ℕ → List ℕ} {holding top left : ℕ} {o₀ from₀ to₀ 
           let r = slice (getD from (2 * b + 2) 0) (getD to (2 * b + 2) 0) o in
           record {
             order = omega arith;
-            within = omega (arith, fold-within, pushed-length p fold-within);
+            within = omega (arith, (fold-within m s), pushed-length p (fold-within m s));
             sorted = rw stands (combined-sorted l r (below-left .0 .sorted) (below-right .0 .sorted));
             hops = rw stands (combined-below noHop l r (below-left .0 .hops) (below-right .0 .hops));
           }
@@ -231,7 +232,7 @@ module _ {runs : ℕ → List ℕ} {holding top left : ℕ} {o₀ from₀ to₀ 
       place k lt (inr l) =
           let old = s .placed k l lt in
           rw (getD-set-other from b k (node .top - size) 0 (λ z. omega arith), getD-set-other to b k (node .top) 0 (λ z. omega arith))
-          (kept-run p fold-within (getD from k 0) (getD to k 0) (old .1) (old .0), omega (arith, old .1, p .ends))
+          (kept-run p (fold-within m s) (getD from k 0) (getD to k 0) (old .1) (old .0), omega (arith, old .1, p .ends))
 
       show : (k : ℕ) → k < 63 → (b ≡ k) ⊎ (b < k)
           → slice (getD (set from b (node .top - size)) k 0) (getD (set to b (node .top)) k 0) o′ ≡ runs k
@@ -239,16 +240,11 @@ module _ {runs : ℕ → List ℕ} {holding top left : ℕ} {o₀ from₀ to₀ 
           rw (← z, getD-set-same from b (node .top - size) 0 inF, getD-set-same to b (node .top) 0 inT) (stands ∙ made-is)
       show k lt (inr l) =
           rw (getD-set-other from b k (node .top - size) 0 (λ z. omega arith), getD-set-other to b k (node .top) 0 (λ z. omega arith))
-          (kept-slice p fold-within (getD from k 0) (getD to k 0) (s .placed k l lt .1) ∙ s .shown k l lt)
+          (kept-slice p (fold-within m s) (getD from k 0) (getD to k 0) (s .placed k l lt .1) ∙ s .shown k l lt)
 
 no-hops : (runs : ℕ → List ℕ) → firstHops runs 0 ≡ 0
 unfolding sumTo
 no-hops runs = refl
-
--- The words laid so far lie in the room.
-pub end-within : {runs : ℕ → List ℕ} {holding top left : ℕ} {o₀ from₀ to₀ o from to : List ℕ} {node : NodeWriter} {rest b : ℕ}
-    → MayFold runs holding o₀ from₀ to₀ top left → Folding runs holding top left o₀ o from to node rest b → node .top ≤ length o
-end-within m s = omega (arith, s .laid .ends, m .within, pushed-length (s .laid) (m .within))
 
 -- All are done, and the mask is laid.
 pub fold-end : {runs : ℕ → List ℕ} {holding top left : ℕ} {o₀ from₀ to₀ o from to : List ℕ} {node : NodeWriter} {rest : ℕ}
@@ -265,7 +261,7 @@ fold-end {runs} {holding} {top} {left} {o₀} {from₀} {to₀} {o} {from} {to} 
     }
   where
     within : node .top ≤ length o
-    within = omega (arith, s .laid .ends, m .within, pushed-length (s .laid) (m .within))
+    within = fold-within m s
 
     word : Pushed (node .mask ∷ []) (node .top) (node .top - 1) o (set o (node .top - 1) (node .mask))
     word = pushed-word (node .mask) (node .top) o (omega (arith, s .room)) within

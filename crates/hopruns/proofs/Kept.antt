@@ -1,19 +1,18 @@
 -- Runs that are combined and laid: what is laid is a run, and the runs above it are what they were.
-use Prim.Native.Nat.{ℕ, zero, suc, _+_, _-_, _^_, _≤_, _<_}
-use mathlib.Core.Path.{_≡_, refl, sym, ap, _∙_}
+use Prim.Native.Nat.{ℕ, _+_, _-_, _≤_, _<_}
+use mathlib.Core.Path.{_≡_, sym, ap, _∙_}
 use mathlib.Core.Bool.{Bool, true, false, cond}
 use mathlib.Core.List.{List, [], _∷_, _++_, append-assoc}
 use native.Mathlib.Omega.{arith}
 use lib.Dec.{eqb, ltb}
 use lib.ListN.{length, take, drop, length-append}
 use lib.Seq.{slice, take-at, drop-at, drop-drop, length-take-le}
-use Rattle.theory.specs.Results.{Cand, hole, of, has, insert, union, common, orUnion, combine, sets}
-use Rattle.theory.specs.Routes.{Answer}
+use Rattle.theory.specs.Results.{has, insert, union, common, orUnion}
 use Rattle.theory.specs.Shapes.{Above, Sorted}
 use Rattle.theory.proofs.Chosen.{sorted-common, sorted-union}
 use Rattle.nodes.specs.Room.{Pushed}
 use Rattle.nodes.proofs.RoomLaws.{pushed-length}
-use Rattle.hopruns.specs.Runs.{Run, Below, noHop, candOf, hopsOf, combined}
+use Rattle.hopruns.specs.Runs.{Run, Below, combined}
 use Rattle.hopruns.proofs.Laying.{drop-take}
 
 -- The run that combines two is ascending.
@@ -79,9 +78,6 @@ module _ {ws o o′ : List ℕ} {top r : ℕ} (p : Pushed ws top r o o′) (fits
       ∙ ap (take (top - r)) (drop-at (take r o) (ws ++ drop top o) r head)
       ∙ take-at ws (drop top o) (top - r) (sym z)
 
-  pub laid-run : Sorted ws → Below noHop ws → Run o′ r top
-  laid-run s b = record { order = omega (arith, p .ends); within = omega (arith, pushed-length p fits); sorted = rw laid-slice s; hops = rw laid-slice b }
-
   -- What stands from top on is as it was.
   above : drop top o′ ≡ drop top o
   above =
@@ -104,9 +100,3 @@ module _ {ws o o′ : List ℕ} {top r : ℕ} (p : Pushed ws top r o o′) (fits
         sorted = rw (kept-slice i e le) (q .sorted);
         hops = rw (kept-slice i e le) (q .hops);
       }
-
--- The candidates of a position from the runs of its halves: what one turn of the fold shows.
-pub fold-turn : (f : ℕ → Answer) (n a : ℕ) (s t : List ℕ) → candOf s ≡ sets f n a → candOf t ≡ sets f n (a + 2 ^ n)
-    → combined s t ≡ hopsOf (sets f (suc n) a)
-unfolding sets
-fold-turn f n a s t e g = rw (e, g)

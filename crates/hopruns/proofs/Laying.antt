@@ -1,11 +1,11 @@
 -- A list laid word by word from a place of the room on.
-use Prim.Native.Nat.{ℕ, zero, suc, _+_, _-_, _≤_, _<_}
+use Prim.Native.Nat.{ℕ, zero, suc, _+_, _-_, _≤_}
 use mathlib.Core.Path.{_≡_, refl, sym, ap, _∙_}
 use mathlib.Core.List.{List, [], _∷_, _++_, append-assoc, append-nil}
 use native.Mathlib.Nat.{add-zero}
 use native.Mathlib.Omega.{arith}
 use lib.ListN.{length, getD, take, drop, length-append, length-drop, take-append-drop}
-use lib.Seq.{slice, take-nil, take-at, drop-at, getD-drop, drop-drop, length-take-le}
+use lib.Seq.{take-nil, take-at, drop-at, getD-drop, drop-drop, length-take-le}
 use Rattle.nodes.specs.Room.{Pushed}
 
 -- A slice is the words from its start, so many.
@@ -51,9 +51,6 @@ module _ {whole rest o o′ : List ℕ} {at n : ℕ} (l : Laying whole at n rest
   laying-drop i le =
       let z : n + (i - n) ≡ i = omega arith in
       ap (λ (k : ℕ). drop k o′) (sym z) ∙ sym (drop-drop (i - n) n o′) ∙ ap (drop (i - n)) laying-beyond ∙ drop-drop (i - n) n o ∙ ap (λ (k : ℕ). drop k o) z
-
-  pub laying-slice : (i e : ℕ) → n ≤ i → slice i e o′ ≡ slice i e o
-  laying-slice i e le = drop-take i e o′ ∙ ap (take (e - i)) (laying-drop i le) ∙ sym (drop-take i e o)
 
   pub laying-getD : (i : ℕ) → n ≤ i → getD o′ i 0 ≡ getD o i 0
   laying-getD i le =

@@ -1,7 +1,7 @@
 -- Two ascending lists, met from their heads: what they share, and, where they share nothing, what is in either.
 use Prim.Native.Nat.{ℕ, zero, suc, _+_, _-_, _≤_, _<_}
 use mathlib.Core.Path.{_≡_, refl, sym, ap, ap₂, _∙_}
-use mathlib.Core.Bool.{Bool, true, false, cond, not, _||_}
+use mathlib.Core.Bool.{Bool, true, false, cond, _||_}
 use mathlib.Core.List.{List, [], _∷_, _++_}
 use mathlib.Core.Logic.{_⊎_, inl, inr}
 use native.Mathlib.Nat.{eq-or-lt-of-le}
@@ -11,7 +11,7 @@ use lib.Dec.{eqb, leb, ltb}
 use lib.ListN.{length, getD}
 use lib.Seq.{slice, slice-cons, slice-empty, length-slice}
 use borrow.Author.Tests.{eq-eqb, ne-eqb, lt-ltb, le-ltb, le-leb, lt-leb}
-use Rattle.theory.specs.Results.{has, insert, union, common, Cand, hole, of, orUnion, combine}
+use Rattle.theory.specs.Results.{has, insert, union, common, orUnion}
 use Rattle.theory.specs.Shapes.{Above, Sorted}
 use Rattle.theory.proofs.Hops.{has-union}
 use Rattle.hopruns.specs.Runs.{Run, Below, noHop, combined}

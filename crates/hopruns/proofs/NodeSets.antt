@@ -22,7 +22,7 @@ use Rattle.positions.specs.Runs.{sizeAt, placeAt}
 use Rattle.positions.proofs.RunsNode.{size-halves, place-left, place-right}
 use Rattle.weights.specs.Needed.{hopsIn, nodeHops, holding}
 use Rattle.weights.proofs.Needed.{node-positions}
-use Rattle.hopruns.specs.Runs.{noHop, candOf, hopsOf, combined, Below}
+use Rattle.hopruns.specs.Runs.{candOf, hopsOf, combined, Below}
 use Rattle.hopruns.specs.Fold.{levelOf, runAt, Heap, firstHops}
 use Rattle.hopruns.proofs.SameSets.{some-cand}
 

@@ -1,11 +1,11 @@
 -- A node's runs as words: laid with a mask, and read back position by position.
-use Prim.Native.Nat.{ℕ, zero, suc, _+_, _-_, _*_, _/_, _%_, _≤_, _<_}
+use Prim.Native.Nat.{ℕ, suc, _+_, _-_, _*_, _/_, _%_, _≤_, _<_}
 use mathlib.Core.Path.{_≡_, refl, sym, ap, _∙_}
-use mathlib.Core.Bool.{Bool, true, false, cond}
+use mathlib.Core.Bool.{true, false, cond}
 use mathlib.Core.List.{List, [], _∷_, _++_, append-assoc}
 use native.Mathlib.Omega.{arith}
 use lib.ListN.{length, getD, set, take, drop, length-append, length-drop}
-use lib.Seq.{slice, take-at, slice-empty}
+use lib.Seq.{slice, take-at}
 use Rattle.nodes.specs.Room.{Pushed, Begins}
 use Rattle.nodes.proofs.RoomLaws.{Read, pushed-then, pushed-length, pushed-word, begins-word, begins-right}
 use Rattle.hopruns.specs.Packed.{isSome, storedRun, maskOf, wordsOf, packed}

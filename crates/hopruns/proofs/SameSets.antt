@@ -2,7 +2,7 @@
 use Prim.Native.Nat.{ℕ}
 use mathlib.Core.Path.{_≡_, refl, sym, ap, subst, _∙_}
 use mathlib.Core.List.{List, [], _∷_}
-use Rattle.theory.specs.Results.{union, common, Cand, of, orUnion, combine}
+use Rattle.theory.specs.Results.{union, common, of, orUnion, combine}
 use Rattle.theory.specs.Shapes.{Some}
 use Rattle.theory.proofs.Hops.{some-union}
 use Rattle.hops.specs.Sets.{ShowsSet}

@@ -1,6 +1,6 @@
 -- One turn of each laying loop.
-use Prim.Native.Nat.{ℕ, zero, suc, _+_, _-_, _≤_, _<_}
-use mathlib.Core.Path.{_≡_, refl, sym, ap, ap₂, _∙_}
+use Prim.Native.Nat.{ℕ, suc, _+_, _-_, _≤_, _<_}
+use mathlib.Core.Path.{_≡_, sym, ap, ap₂, _∙_}
 use mathlib.Core.Bool.{Bool, true, false, cond, not}
 use mathlib.Core.List.{List, [], _∷_, _++_}
 use mathlib.Core.Logic.{⊎-elim}
@@ -13,8 +13,8 @@ use borrow.Author.Tests.{lt-ltb, le-ltb, eq-eqb}
 use Rattle.theory.specs.Results.{has, union, common}
 use Rattle.theory.specs.Shapes.{Above, Sorted}
 use Rattle.hopruns.specs.Runs.{Run}
-use Rattle.hopruns.proofs.Merge.{shared-step, run-cons, run-next, run-step, length-if, above-low, union-left, union-right, apart-left, apart-right, apart-not, at-most-one}
-use Rattle.hopruns.proofs.Laying.{Laying, laying-more, laying-getD, laying-left}
+use Rattle.hopruns.proofs.Merge.{shared-step, run-cons, run-next, run-step, length-if, above-low, union-left, union-right, apart-left, apart-right, apart-not}
+use Rattle.hopruns.proofs.Laying.{Laying, laying-more, laying-getD}
 
 -- ---- What is shared.
 

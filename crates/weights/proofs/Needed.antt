@@ -13,13 +13,14 @@ use Rattle.theory.specs.Routes.{Route, Answer, Valid, All}
 use Rattle.theory.specs.Results.{sets, startOf}
 use Rattle.positions.specs.Wide.{widened}
 use Rattle.positions.specs.Runs.{sizeAt, placeAt}
-use Rattle.positions.proofs.Wide.{unwide, sets-widen}
+use Rattle.positions.proofs.Wide.{unwide, all-widen, valid-widen, sets-widen}
 use Rattle.words.specs.Positions.{position}
-use Rattle.nodecount.specs.Nodes.{levels}
+use Rattle.nodecount.specs.Nodes.{levels, nodes}
 use Rattle.nodecount.specs.Walk.{sumTo}
 use Rattle.weights.specs.Weights.{weighed, weighedIn}
 use Rattle.weights.specs.Needed.{hopsIn, levelHops, nodeHops, levelsHolding, holding, nodeWords, needed}
 use Rattle.weights.proofs.Weights.{sum-same, weighed-runs}
+use Rattle.weights.proofs.Sums.{weighed-add, weighed-constant}
 use Rattle.weights.proofs.Wide.{weighed-widen}
 
 -- ---- A node's words.
@@ -71,12 +72,26 @@ module _ (k : ℕ) (f : ℕ → Answer) where
   pub needed-widen : (w : ℕ) {t : List Route} → All (Valid w) t → weighed (nodeWords wider k) (w + k) (widened k t) ≡ needed f w t
   needed-widen w vs = weighed-widen w k (nodeWords wider k) (nodeWords f 0) words-widen vs
 
+-- They are 160 for each node, and its hops.
+pub needed-sum : (f : ℕ → Answer) (w : ℕ) (t : List Route) → needed f w t ≡ 160 * nodes w t + weighed (λ n x. nodeHops f 0 n (startOf n x)) w t
+needed-sum f w t =
+    weighed-add (λ n x. 160) (λ n x. nodeHops f 0 n (startOf n x)) w t
+    ∙ ap (λ (k : ℕ). k + weighed (λ n x. nodeHops f 0 n (startOf n x)) w t) (weighed-constant 160 w t)
+
 -- ---- By a walk.
 
 -- What a walk over the nodes meets, node by node, is what the table needs.
 pub needed-runs : (f : ℕ → Answer) (spare w k : ℕ) {t : List Route} → All (Valid w) t → 5 * k ≤ w → All (λ r. levels r ≤ k) t
     → weighedIn (nodeWords f spare) w (suc k) w 0 t ≡ weighed (nodeWords f spare) w t
 needed-runs f spare w k all fits few = weighed-runs (nodeWords f spare) (words-steady f spare) w k all fits few
+
+-- Of a table of width w, the walk at addresses of k more bits, d nodes deep below the root.
+pub needed-walk : (f : ℕ → Answer) (w k d : ℕ) {t : List Route} → All (Valid w) t → 5 * d ≤ w + k → w / 5 ≤ d
+    → weighedIn (nodeWords (λ x. f (x / 2 ^ k)) k) (w + k) (suc d) (w + k) 0 (widened k t) ≡ needed f w t
+needed-walk f w k d all fits far =
+    needed-runs (λ x. f (x / 2 ^ k)) k (w + k) d (all-widen k (valid-widen w k) all) fits
+    (all-widen k (λ r v. (let j : levels r ≤ d = omega (arith, v .short) in j)) all)
+    ∙ needed-widen k f w all
 
 -- ---- By positions as they are numbered.
 

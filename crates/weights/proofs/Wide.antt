@@ -1,9 +1,8 @@
--- With weight 1 a table weighs its number of nodes; and at addresses of k more bits, all zero, it weighs what it does without them, where each node
--- does.
+-- At addresses of k more bits, all zero, a table weighs what it does without them, where each node does.
 use Prim.Native.Nat.{ℕ, zero, suc, _+_, _-_, _*_, _/_, _^_, _≤_}
 use mathlib.Core.Path.{_≡_, refl, sym, ap, ap₂, _∙_}
 use mathlib.Core.Bool.{Bool, true, false, cond, _||_, _&&_}
-use mathlib.Core.List.{List, [], _∷_}
+use mathlib.Core.List.{List}
 use native.Mathlib.Nat.{zero-mul}
 use native.Mathlib.Omega.{arith}
 use lib.Dec.{leb, eqb}
@@ -11,28 +10,8 @@ use borrow.Author.Tests.{leb-true}
 use Rattle.theory.specs.Routes.{Route, Valid, All, nil, cons}
 use Rattle.positions.specs.Wide.{widen, widened}
 use Rattle.positions.proofs.Wide.{unwide, bits-widen}
-use Rattle.nodecount.specs.Nodes.{levels, nodeAt, seen, fresh, brought, nodes}
-use Rattle.nodecount.specs.Walk.{slotNodes, nodesIn}
-use Rattle.weights.specs.Weights.{freshBy, broughtBy, weighed, weighedIn}
-
--- ---- Weight 1.
-
-module _ (w : ℕ) where
-  fresh-one : (earlier : List Route) (x m : ℕ) → freshBy (λ n y. 1) w earlier x m ≡ fresh w earlier x m
-  unfolding freshBy fresh
-  fresh-one earlier x zero = refl
-  fresh-one earlier x (suc m) = ap (λ (k : ℕ). k + cond (seen w (suc m) x earlier) 0 1) (fresh-one earlier x m)
-
-  brought-one : (earlier t : List Route) → broughtBy (λ n y. 1) w earlier t ≡ brought w earlier t
-  unfolding broughtBy brought
-  brought-one earlier [] = refl
-  brought-one earlier (r ∷ t) = ap₂ _+_ (fresh-one earlier (r .addr) (levels r)) (brought-one (r ∷ earlier) t)
-
-  pub weighed-one : (t : List Route) → weighed (λ n y. 1) w t ≡ nodes w t
-  unfolding weighed nodes
-  weighed-one t = ap (λ (k : ℕ). 1 + k) (brought-one [] t)
-
--- ---- More bits.
+use Rattle.nodecount.specs.Nodes.{levels, nodeAt, seen}
+use Rattle.weights.specs.Weights.{freshBy, broughtBy, weighed}
 
 module _ (w k : ℕ) where
   -- A widened record has the nodes of the record.

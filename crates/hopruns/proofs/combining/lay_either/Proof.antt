@@ -1,16 +1,14 @@
 -- `hopruns::combining::lay_either` meets its contract. The loop's invariant: the hops of either are laid so far, and the rest is in what is left of both
 -- runs, which stand above. Assumes nothing.
 use Prim.Native.Nat.{ℕ, suc, _+_, _-_, _≤_, _<_}
-use mathlib.Core.Path.{_≡_, ap, sym, _∙_}
+use mathlib.Core.Path.{_≡_, ap, _∙_}
 use native.Mathlib.Omega.{arith}
 use mathlib.Core.Bool.{not}
-use lib.Dec.{eqb, leb}
 use lib.ListN.{length, getD}
 use lib.Seq.{slice, set-split}
-use borrow.Author.Needs.{needs}
 use Rattle.theory.specs.Results.{union}
 use Rattle.hopruns.proofs.Merge.{at-most-one, run-length, union-length}
-use Rattle.hopruns.proofs.Laying.{laying-start, laying-end, laying-length, laying-left, laying-getD}
+use Rattle.hopruns.proofs.Laying.{laying-start, laying-end, laying-length, laying-getD}
 use Rattle.hopruns.proofs.Steps.{Joining, joining-step, joining-took, took-from, joining-end}
 use Rattle.hopruns.proofs.combining.lay_either.Statement.{statement}
 use Rattle.hopruns.proofs.combining.lay_either.Tie as tie

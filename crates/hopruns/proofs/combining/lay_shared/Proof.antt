@@ -1,14 +1,12 @@
 -- `hopruns::combining::lay_shared` meets its contract. The loop's invariant: what is shared is laid so far, and the rest is shared by what is left of both
 -- runs, which stand above. Assumes nothing.
-use Prim.Native.Nat.{ℕ, _+_, _-_, _≤_, _<_}
-use mathlib.Core.Path.{_≡_, ap, sym, _∙_}
+use Prim.Native.Nat.{_+_, _-_, _≤_}
 use native.Mathlib.Omega.{arith}
-use lib.Dec.{eqb, leb}
-use lib.ListN.{length, getD}
+use lib.Dec.{leb}
+use lib.ListN.{getD}
 use lib.Seq.{slice}
-use borrow.Author.Needs.{needs}
 use Rattle.theory.specs.Results.{common}
-use Rattle.hopruns.proofs.Merge.{done-left, done-right, one-moves, at-most-one, common-length, run-length}
+use Rattle.hopruns.proofs.Merge.{done-left, done-right, one-moves, at-most-one}
 use Rattle.hopruns.proofs.Laying.{laying-start, laying-end, laying-length, laying-left, laying-getD}
 use Rattle.hopruns.proofs.Steps.{Sharing, sharing-step}
 use Rattle.hopruns.proofs.combining.lay_shared.Statement.{statement}

@@ -1,3 +1,4 @@
+-- `hopruns::combining::put_if` meets its contract. Assumes nothing.
 use Prim.Native.Nat.{suc, _+_}
 use mathlib.Core.Path.{_≡_, sym}
 use native.Mathlib.Omega.{arith}

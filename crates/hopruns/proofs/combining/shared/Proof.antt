@@ -1,16 +1,13 @@
 -- `hopruns::combining::shared` meets its contract. The loop's invariant: what is counted and what is still to be shared make all. Assumes nothing.
-use Prim.Native.Nat.{ℕ, _+_, _-_, _≤_, _<_}
-use mathlib.Core.Path.{_≡_, ap, _∙_}
-use mathlib.Core.Bool.{cond}
-use mathlib.Core.List.{[], _∷_, _++_}
+use Prim.Native.Nat.{_+_, _-_, _<_}
+use mathlib.Core.Path.{_≡_, ap}
 use native.Mathlib.Omega.{arith}
-use lib.Dec.{eqb, leb}
-use lib.ListN.{length, getD, length-append}
-use lib.Seq.{slice, slice-empty, length-slice}
-use borrow.Author.Needs.{needs}
+use lib.Dec.{leb}
+use lib.ListN.{length, getD}
+use lib.Seq.{slice}
 use Rattle.theory.specs.Results.{common}
 use Rattle.hopruns.specs.Runs.{Run}
-use Rattle.hopruns.proofs.Merge.{shared-step, run-step, count-step, run-length, done-left, done-right, common-length, one-moves, at-most-one}
+use Rattle.hopruns.proofs.Merge.{run-step, count-step, run-length, done-left, done-right, common-length, one-moves, at-most-one}
 use Rattle.hopruns.proofs.combining.shared.Statement.{statement}
 use Rattle.hopruns.proofs.combining.shared.Tie as tie
 

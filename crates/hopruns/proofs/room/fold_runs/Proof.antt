@@ -7,7 +7,7 @@ use native.Mathlib.Omega.{arith}
 use lib.ListN.{length, length-set}
 use Rattle.nodes.proofs.RoomLaws.{pushed-length}
 use Rattle.hopruns.specs.Fold.{MayFold}
-use Rattle.hopruns.proofs.Folding.{Folding, fold-start, turn, below-left, below-right, too-many, fold-room, fold-may, fold-step, end-within, fold-end}
+use Rattle.hopruns.proofs.Folding.{Folding, fold-start, turn, below-left, below-right, too-many, fold-room, fold-may, fold-step, fold-within, fold-end}
 use Rattle.hopruns.proofs.room.fold_runs.Statement.{statement}
 use Rattle.hopruns.proofs.room.fold_runs.Tie as tie
 
@@ -154,7 +154,7 @@ mul-work c =
     let m = c .before .before .before .before .pre .1 in
     let z : l .b ≡ 0 = omega arith in
     let s = turn (l .inv .3 _ m) z in
-    omega (arith, end-within m s)
+    omega (arith, fold-within m s)
 
 slice-write-work : tie.Need-slice-write-work Inv-loop μ-loop
 slice-write-work c =
@@ -162,7 +162,7 @@ slice-write-work c =
     let m = c .before .before .before .before .pre .1 in
     let z : l .b ≡ 0 = omega arith in
     let s = turn (l .inv .3 _ m) z in
-    omega (arith, s .room, end-within m s)
+    omega (arith, s .room, fold-within m s)
 
 element-copy-out-t39 : tie.Need-element-copy-out-t39 Inv-loop μ-loop
 element-copy-out-t39 c = let l = c .before .before .loop in omega (arith, l .inv .0, l .inv .1, l .inv .2)

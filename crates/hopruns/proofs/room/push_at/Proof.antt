@@ -1,9 +1,7 @@
 -- `hopruns::room::push_at` meets its contract. Assumes nothing.
-use Prim.Native.Nat.{_≤_}
 use mathlib.Core.Path.{sym, _∙_}
 use native.Mathlib.Omega.{arith}
 use borrow.Author.Needs.{needs}
-use lib.ListN.{length}
 use lib.Seq.{slice}
 use Rattle.nodes.proofs.RoomLaws.{pushed-none}
 use Rattle.hopruns.specs.Runs.{noHop, combined}

@@ -1,26 +1,28 @@
 -- The runs of a node's places are those of the definition's sets: what the fold asks of them, and what it counts.
-use Prim.Native.Nat.{ℕ, zero, suc, _+_, _-_, _*_, _^_, _≤_, _<_}
+use Prim.Native.Nat.{ℕ, zero, suc, _+_, _-_, _*_, _/_, _^_, _≤_, _<_}
 use mathlib.Core.Path.{_≡_, refl, sym, ap, ap₂, _∙_}
-use mathlib.Core.Bool.{true}
+use mathlib.Core.Bool.{Bool, true, false, cond}
 use mathlib.Core.List.{List, [], _∷_}
 use native.Mathlib.Nat.{pow-suc}
 use native.Mathlib.Omega.{arith}
-use lib.Dec.{eqb}
+use native.Mathlib.Decide.{decLt}
+use lib.Dec.{eqb, leb}
 use lib.ListN.{length}
-use lib.Pow.{pow-pos}
+use lib.Pow.{pow-pos, pow-mono, shr-shr}
 use borrow.Author.Tests.{eq-eqb, lt-ltb, le-ltb}
-use Rattle.theory.specs.Routes.{Answer, none, via}
+use Rattle.theory.specs.Routes.{Answer, none, via, Aligned}
 use Rattle.theory.specs.Results.{In, Cand, hole, of, has, leaf, sets}
 use Rattle.theory.specs.Shapes.{Sorted}
+use Rattle.theory.proofs.Blocks.{in→block}
 use Rattle.theory.proofs.Chosen.{SortedC, sets-sorted}
 use Rattle.theory.proofs.Hops.{Held, sets-held}
 use Rattle.theory.proofs.Ranks.{or-right}
 use Rattle.theory.proofs.Uniform.{sets-uniform}
 use Rattle.words.specs.Positions.{position}
-use Rattle.words.proofs.PositionLaws.{placed, below-left, below-right}
+use Rattle.words.proofs.PositionLaws.{Place, placed, below-left, below-right}
 use Rattle.positions.specs.Runs.{sizeAt, placeAt}
-use Rattle.positions.proofs.RunsNode.{size-halves, place-left, place-right}
-use Rattle.weights.specs.Needed.{hopsIn, nodeHops, holding}
+use Rattle.positions.proofs.RunsNode.{place-aligned, size-halves, place-left, place-right}
+use Rattle.weights.specs.Needed.{hopsIn, nodeHops, levelsHolding, holding}
 use Rattle.weights.proofs.Needed.{node-positions}
 use Rattle.hopruns.specs.Runs.{candOf, hopsOf, combined, Below}
 use Rattle.hopruns.specs.Fold.{levelOf, runAt, Heap, firstHops}
@@ -121,3 +123,42 @@ module _ (f : ℕ → Answer) (m a : ℕ) where
       count : (S : Cand) → length (hopsOf S) ≡ hopsIn S
       count hole = refl
       count (of s) = refl
+
+-- ---- Positions that hold no data.
+
+-- One that is not among the first lies in the spare bits: it has fewer addresses than these count.
+past-holding : (spare m b : ℕ) → holding spare (m + 5) ≤ b → (p : Place b) → sizeAt m (p .level) ≤ spare
+past-holding spare m b past p = go (decLt l h)
+  where
+    l : ℕ
+    l = p .level
+
+    h : ℕ
+    h = levelsHolding spare (m + 5)
+
+    deep : (c : Bool) → leb (4 + spare) (m + 5) ≡ c → cond c 5 (suc (m + 5) - spare) ≤ l → sizeAt m l ≤ spare
+    deep true e le = absurd (omega (arith, p .above-slots))
+    deep false e le = omega (arith, p .above-slots)
+
+    go : Dec (l < h) → sizeAt m l ≤ spare
+    go (yes lt) =
+        let up : 2 ^ suc l ≤ 2 ^ h = pow-mono lt in
+        absurd (omega (arith, past, p .is, p .in-level, pow-suc 2 l, up, pow-pos l))
+    go (no ge) = deep (leb (4 + spare) (m + 5)) refl (let le : h ≤ l = omega arith in le)
+
+-- So it has one hop at most, where addresses that differ in spare bits alone are answered alike.
+pub node-narrow : (f : ℕ → Answer) (spare m a : ℕ) → ((x y : ℕ) → x / 2 ^ spare ≡ y / 2 ^ spare → f x ≡ f y) → Aligned (m + 5) a
+    → (b : ℕ) → holding spare (m + 5) ≤ b → b < 31 → length (runAt f m a b) ≤ 1
+node-narrow f spare m a alike lined b past small =
+    let p = placed b small in
+    let l : ℕ = p .level in
+    let j : ℕ = p .index in
+    let le : l ≤ 5 = omega (arith, p .above-slots) in
+    let size : ℕ = sizeAt m l in
+    let at : ℕ = placeAt m a l j in
+    let within : size ≤ spare = past-holding spare m b past p in
+    let up : (y : ℕ) → y / 2 ^ size / 2 ^ (spare - size) ≡ y / 2 ^ spare =
+    λ y. shr-shr y size (spare - size) ∙ ap (λ (i : ℕ). y / 2 ^ i) (let e : size + (spare - size) ≡ spare = omega arith in e) in
+    let same : (x : ℕ) → In size at x → x / 2 ^ spare ≡ at / 2 ^ spare =
+    λ x i. sym (up x) ∙ ap (λ (y : ℕ). y / 2 ^ (spare - size)) (in→block size at x (place-aligned m a l j lined) i) ∙ up at in
+    rw (p .is, run-at f m a l j le (p .in-level)) (run-narrow f size at (f at) (λ x i. alike x at (same x i)))

@@ -13,7 +13,7 @@ ghost use Rattle.nodes.specs.Room.{Pushed};
 ghost use Rattle.hopruns.specs.Runs.{Run, combined};
 
 // 1 for a test that holds.
-fn one_if(b: bool) -> usize
+pub fn one_if(b: bool) -> usize
     ensures { λ r. ⌜ r ≡ cond b 1 0 ⌝ }
 {
     if b { 1 } else { 0 }
@@ -111,7 +111,7 @@ fn is_left(work: &[u32], i: usize, a_end: usize, j: usize, b_end: usize) -> bool
 }
 
 // The first of two places, or the second.
-fn pick(left: bool, i: usize, j: usize) -> usize
+pub fn pick(left: bool, i: usize, j: usize) -> usize
     ensures { λ r. ⌜ r ≡ cond left i j ⌝ }
 {
     if left { i } else { j }

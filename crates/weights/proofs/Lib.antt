@@ -4,4 +4,5 @@ pub mod Weights
 pub mod Sums
 pub mod Wide
 pub mod Needed
+pub mod Agree
 pub mod Cases

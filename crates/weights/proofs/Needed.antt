@@ -96,7 +96,7 @@ needed-walk f w k d all fits far =
 -- ---- By positions as they are numbered.
 
 -- Sums of the same numbers, as far as they go.
-sum-below : (f g : ℕ → ℕ) (n : ℕ) → ((c : ℕ) → c < n → f c ≡ g c) → sumTo f n ≡ sumTo g n
+pub sum-below : (f g : ℕ → ℕ) (n : ℕ) → ((c : ℕ) → c < n → f c ≡ g c) → sumTo f n ≡ sumTo g n
 unfolding sumTo
 sum-below f g zero h = refl
 sum-below f g (suc n) h = ap₂ _+_ (sum-below f g n (λ c lt. h c (omega arith))) (h n (omega arith))

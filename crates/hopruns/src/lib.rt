@@ -4,6 +4,7 @@
 pub mod choosing;
 pub mod combining;
 pub mod leaves;
+pub mod ranking;
 pub mod room;
 
 // No hop: the number above all hops, `noHop` in contracts.

@@ -6,7 +6,7 @@ use super::combining::one_if;
 use super::combining::pick;
 use words::bits::has_bit;
 ghost use mathlib.Core.Path.{_≡_};
-ghost use Prim.Native.Nat.{_+_, _≤_, _<_};
+ghost use Prim.Native.Nat.{_+_, _^_, _≤_, _<_};
 ghost use lib.ListN.{length};
 ghost use Rattle.nodes.specs.Room.{Pushed};
 ghost use Rattle.hopruns.specs.Leaves.{leafHop, leafWords, Pointed};
@@ -43,7 +43,7 @@ pub fn point_leaves(
     at: usize,
 )
     requires { ⌜ (length (now from) ≡ 63) × (length (now to) ≡ 63) ⌝ }
-    requires { ⌜ at + 16 < 18446744073709551616 ⌝ }
+    requires { ⌜ at + 16 < 2 ^ 64 ⌝ }
     ensures { λ _. ⌜ Pointed (now (covering .entry)) fill occupied at 32 (now (from .entry)) (now (to .entry)) (now (from .exit)) (now (to .exit)) ⌝ }
 {
     let mut c: usize = 0;

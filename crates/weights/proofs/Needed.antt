@@ -7,7 +7,7 @@ use native.Mathlib.Nat.{mul-assoc, add-mul, pow-suc}
 use native.Mathlib.Omega.{arith}
 use native.Mathlib.Decide.{decLt}
 use lib.Dec.{leb, ltb}
-use lib.Pow.{pow-add, pow-pos, shr-shr}
+use lib.Pow.{pow-add, pow-pos, pow-mono, shr-shr}
 use borrow.Author.Tests.{leb-true, le-leb, leb-false, lt-leb, lt-ltb, le-ltb}
 use Rattle.theory.specs.Routes.{Route, Answer, Valid, All}
 use Rattle.theory.specs.Results.{sets, startOf}
@@ -120,6 +120,17 @@ by-levels g (suc l) =
     let z : 2 ^ suc l - 1 ≡ (2 ^ l - 1) + 2 ^ l = omega (arith, pow-suc 2 l, pow-pos l) in
     ap (sumTo g) z ∙ sum-split g (2 ^ l - 1) (2 ^ l) ∙ ap (λ (n : ℕ). n + sumTo (λ j. g (position l j)) (2 ^ l)) (by-levels g l)
 
+-- At most five levels hold data, so at most 31 positions.
+levels-most : (spare n : ℕ) → levelsHolding spare n ≤ 5
+levels-most spare n = go (leb (4 + spare) n) refl
+  where
+    go : (b : Bool) → leb (4 + spare) n ≡ b → cond b 5 (suc n - spare) ≤ 5
+    go true e = omega arith
+    go false e = omega (arith, leb-false (4 + spare) n e)
+
+pub holding-most : (spare n : ℕ) → holding spare n ≤ 31
+holding-most spare n = let le : 2 ^ levelsHolding spare n ≤ 2 ^ 5 = pow-mono (levels-most spare n) in omega arith
+
 -- The hops of a node (m + 5, a) are those of its first positions, where g has the hops of each by its number.
 pub node-positions : (f : ℕ → Answer) (spare m a : ℕ) (g : ℕ → ℕ)
     → ((l j : ℕ) → l ≤ 4 → j < 2 ^ l → g (position l j) ≡ hopsIn (sets f (sizeAt m l) (placeAt m a l j)))
@@ -130,11 +141,7 @@ node-positions f spare m a g each = by-levels g h ∙ sum-below _ (levelHops f (
     h = levelsHolding spare (m + 5)
 
     few : h ≤ 5
-    few = go (leb (4 + spare) (m + 5)) refl
-      where
-        go : (b : Bool) → leb (4 + spare) (m + 5) ≡ b → cond b 5 (suc (m + 5) - spare) ≤ 5
-        go true e = omega arith
-        go false e = omega (arith, leb-false (4 + spare) (m + 5) e)
+    few = levels-most spare (m + 5)
 
     -- A level holds data exactly when it is one of the first.
     holds : (l : ℕ) → l < 5 → ltb l h ≡ leb (l + spare) (m + 5)

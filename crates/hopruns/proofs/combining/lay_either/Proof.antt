@@ -61,32 +61,44 @@ pick-requires c κs = tt
 mul-work : tie.Need-mul-work Inv-loop μ-loop
 mul-work c =
     let l = c .before .before .before .before .loop in
-    let t = joining-took (c .before .before .before .before .loop .inv) (c .before .is-left .result) (omega arith) (c .before .before .before .before .before .before .pre .1 .1 .1 .0) (c .before .before .before .before .before .before .pre .1 .1 .1 .1) (c .before .is-left .ensures) in
+    let room = c .before .before .before .before .before .before .pre .1 .1 .1 in
+    let t = joining-took (l .inv) (c .before .is-left .result) (omega arith) (room .0) (room .1) (c .before .is-left .ensures) in
     omega (arith, t .from, c .pick .ensures)
 
 slice-read-work : tie.Need-slice-read-work Inv-loop μ-loop
 slice-read-work c =
     let l = c .before .before .before .before .before .loop in
-    let t = joining-took (c .before .before .before .before .before .loop .inv) (c .before .before .is-left .result) (omega arith) (c .before .before .before .before .before .before .before .pre .1 .1 .1 .0) (c .before .before .before .before .before .before .before .pre .1 .1 .1 .1) (c .before .before .is-left .ensures) in
+    let room = c .before .before .before .before .before .before .before .pre .1 .1 .1 in
+    let t = joining-took (l .inv) (c .before .before .is-left .result) (omega arith) (room .0) (room .1) (c .before .before .is-left .ensures) in
     omega (arith, t .from, c .before .pick .ensures, laying-length (l .inv .laying))
 
 mul-work-2 : tie.Need-mul-work-2 Inv-loop μ-loop
-mul-work-2 c = let l = c .before .before .before .before .before .loop in omega (arith, c .before .before .before .before .before .before .before .pre .1 .1 .1 .0, l .inv .low, l .inv .left .order, l .inv .left .within)
+mul-work-2 c =
+    let l = c .before .before .before .before .before .loop in
+    let p = c .before .before .before .before .before .before .before .pre in
+    omega (arith, p .1 .1 .1 .0, l .inv .low, l .inv .left .order, l .inv .left .within)
 
 slice-write-work : tie.Need-slice-write-work Inv-loop μ-loop
-slice-write-work c = let l = c .before .before .before .before .before .loop in omega (arith, c .before .before .before .before .before .before .before .pre .1 .1 .1 .0, l .inv .low, l .inv .left .order, l .inv .left .within, laying-length (l .inv .laying))
+slice-write-work c =
+    let l = c .before .before .before .before .before .loop in
+    let p = c .before .before .before .before .before .before .before .pre in
+    omega (arith, p .1 .1 .1 .0, l .inv .low, l .inv .left .order, l .inv .left .within, laying-length (l .inv .laying))
 
 one-if-requires : tie.Need-one-if-requires Inv-loop μ-loop
 one-if-requires c κs = tt
 
 add-i : tie.Need-add-i Inv-loop μ-loop
-add-i c = let l = c .before .before .before .before .before .before .loop in omega (arith, c .one-if .ensures, l .inv .left .order, l .inv .left .within, at-most-one (c .before .before .before .is-left .result))
+add-i c =
+    let l = c .before .before .before .before .before .before .loop in
+    omega (arith, c .one-if .ensures, l .inv .left .order, l .inv .left .within, at-most-one (c .before .before .before .is-left .result))
 
 one-if-requires-2 : tie.Need-one-if-requires-2 Inv-loop μ-loop
 one-if-requires-2 c κs = tt
 
 add-j : tie.Need-add-j Inv-loop μ-loop
-add-j c = let l = c .before .before .before .before .before .before .before .loop in omega (arith, c .one-if2 .ensures, l .inv .right .order, l .inv .right .within, at-most-one (not (c .before .before .before .before .is-left .result)))
+add-j c =
+    let l = c .before .before .before .before .before .before .before .loop in
+    omega (arith, c .one-if2 .ensures, l .inv .right .order, l .inv .right .within, at-most-one (not (c .before .before .before .before .is-left .result)))
 
 add-n : tie.Need-add-n Inv-loop μ-loop
 add-n c = omega (arith, c .before .before .before .before .before .before .before .before .before .pre .1 .1 .1 .0)
@@ -101,7 +113,7 @@ loop-again c =
     let p = c .before .before .before .before .before .before .before .before .before .pre in
     let s = l .inv in
     let left = c .before .before .before .before .is-left .result in
-    let t = joining-took (c .before .before .before .before .before .before .before .loop .inv) (c .before .before .before .before .is-left .result) (omega arith) (c .before .before .before .before .before .before .before .before .before .pre .1 .1 .1 .0) (c .before .before .before .before .before .before .before .before .before .pre .1 .1 .1 .1) (c .before .before .before .before .is-left .ensures) in
+    let t = joining-took s left (omega arith) (p .1 .1 .1 .0) (p .1 .1 .1 .1) (c .before .before .before .before .is-left .ensures) in
     let from = c .before .before .before .pick .result in
     let e = c .before .before .before .pick .ensures in
     let low : l .n ≤ from = rw e (took-from s left (l .n) (omega (arith, p .1 .1 .1 .0)) (omega (arith, p .1 .1 .1 .1))) in

@@ -44,16 +44,24 @@ returns c =
     laying-end (rw z at (l .inv .laying))
 
 mul-x : tie.Need-mul-x Inv-loop μ-loop
-mul-x c = let l = c .before .before .loop in omega (arith, l .inv .left .within, laying-length (l .inv .laying))
+mul-x c =
+    let l = c .before .before .loop in
+    omega (arith, l .inv .left .within, laying-length (l .inv .laying))
 
 slice-read-x : tie.Need-slice-read-x Inv-loop μ-loop
-slice-read-x c = let l = c .before .before .before .loop in omega (arith, l .inv .left .within, laying-length (l .inv .laying))
+slice-read-x c =
+    let l = c .before .before .before .loop in
+    omega (arith, l .inv .left .within, laying-length (l .inv .laying))
 
 mul-y : tie.Need-mul-y Inv-loop μ-loop
-mul-y c = let l = c .before .before .before .loop in omega (arith, l .inv .right .within, laying-length (l .inv .laying))
+mul-y c =
+    let l = c .before .before .before .loop in
+    omega (arith, l .inv .right .within, laying-length (l .inv .laying))
 
 slice-read-y : tie.Need-slice-read-y Inv-loop μ-loop
-slice-read-y c = let l = c .before .before .before .before .loop in omega (arith, l .inv .right .within, laying-length (l .inv .laying))
+slice-read-y c =
+    let l = c .before .before .before .before .loop in
+    omega (arith, l .inv .right .within, laying-length (l .inv .laying))
 
 put-if-requires : tie.Need-put-if-requires Inv-loop μ-loop
 put-if-requires c κs =
@@ -68,13 +76,17 @@ one-if-requires : tie.Need-one-if-requires Inv-loop μ-loop
 one-if-requires c κs = tt
 
 add-i : tie.Need-add-i Inv-loop μ-loop
-add-i c = let l = c .before .before .before .before .before .before .before .before .before .loop in omega (arith, c .one-if .ensures, l .inv .left .within, at-most-one (leb (getD (l .work) (l .i) 0) (getD (l .work) (l .j) 0)))
+add-i c =
+    let l = c .before .before .before .before .before .before .before .before .before .loop in
+    omega (arith, c .one-if .ensures, l .inv .left .within, at-most-one (leb (getD (l .work) (l .i) 0) (getD (l .work) (l .j) 0)))
 
 one-if-requires-2 : tie.Need-one-if-requires-2 Inv-loop μ-loop
 one-if-requires-2 c κs = tt
 
 add-j : tie.Need-add-j Inv-loop μ-loop
-add-j c = let l = c .before .before .before .before .before .before .before .before .before .before .loop in omega (arith, c .one-if2 .ensures, l .inv .right .within, at-most-one (leb (getD (l .work) (l .j) 0) (getD (l .work) (l .i) 0)))
+add-j c =
+    let l = c .before .before .before .before .before .before .before .before .before .before .loop in
+    omega (arith, c .one-if2 .ensures, l .inv .right .within, at-most-one (leb (getD (l .work) (l .j) 0) (getD (l .work) (l .i) 0)))
 
 loop-less : tie.Need-loop-less Inv-loop μ-loop
 loop-less c =

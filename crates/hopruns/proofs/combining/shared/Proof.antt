@@ -60,13 +60,19 @@ one-if-requires-2 : tie.Need-one-if-requires-2 Inv-loop μ-loop
 one-if-requires-2 c κs = tt
 
 add-i : tie.Need-add-i Inv-loop μ-loop
-add-i c = let l = c .before .before .before .before .before .before .loop in omega (arith, c .one-if2 .ensures, at-most-one (leb (getD (c .before .before .before .before .before .before .before .before .args .work .now) (l .i) 0) (getD (c .before .before .before .before .before .before .before .before .args .work .now) (l .j) 0)))
+add-i c =
+    let l = c .before .before .before .before .before .before .loop in
+    let o = c .before .before .before .before .before .before .before .before .args .work .now in
+    omega (arith, c .one-if2 .ensures, at-most-one (leb (getD o (l .i) 0) (getD o (l .j) 0)))
 
 one-if-requires-3 : tie.Need-one-if-requires-3 Inv-loop μ-loop
 one-if-requires-3 c κs = tt
 
 add-j : tie.Need-add-j Inv-loop μ-loop
-add-j c = let l = c .before .before .before .before .before .before .before .loop in omega (arith, c .one-if3 .ensures, at-most-one (leb (getD (c .before .before .before .before .before .before .before .before .before .args .work .now) (l .j) 0) (getD (c .before .before .before .before .before .before .before .before .before .args .work .now) (l .i) 0)))
+add-j c =
+    let l = c .before .before .before .before .before .before .before .loop in
+    let o = c .before .before .before .before .before .before .before .before .before .args .work .now in
+    omega (arith, c .one-if3 .ensures, at-most-one (leb (getD o (l .j) 0) (getD o (l .i) 0)))
 
 loop-less : tie.Need-loop-less Inv-loop μ-loop
 loop-less c =

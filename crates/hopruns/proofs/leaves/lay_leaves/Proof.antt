@@ -20,19 +20,34 @@ loop-holds : tie.Need-loop-holds Inv-loop μ-loop
 loop-holds c = (omega arith, omega arith, leaves-none _ _ _ _)
 
 sub-p : tie.Need-sub-p Inv-loop μ-loop
-sub-p c = let l = c .before .loop in omega (arith, l .inv .0, l .inv .1, c .before .before .before .pre .0)
+sub-p c =
+    let l = c .before .loop in
+    let p = c .before .before .before .pre in
+    omega (arith, l .inv .0, l .inv .1, p .0)
 
 sub-at : tie.Need-sub-at Inv-loop μ-loop
-sub-at c = let l = c .before .loop in omega (arith, l .inv .0, l .inv .1, c .before .before .before .pre .0)
+sub-at c =
+    let l = c .before .loop in
+    let p = c .before .before .before .pre in
+    omega (arith, l .inv .0, l .inv .1, p .0)
 
 add-leaf-value : tie.Need-add-leaf-value Inv-loop μ-loop
-add-leaf-value c = let l = c .before .loop in omega (arith, l .inv .0, l .inv .1, c .before .before .before .pre .0)
+add-leaf-value c =
+    let l = c .before .loop in
+    let p = c .before .before .before .pre in
+    omega (arith, l .inv .0, l .inv .1, p .0)
 
 mul-leaf-value : tie.Need-mul-leaf-value Inv-loop μ-loop
-mul-leaf-value c = let l = c .before .loop in omega (arith, l .inv .0, l .inv .1, c .before .before .before .pre .0)
+mul-leaf-value c =
+    let l = c .before .loop in
+    let p = c .before .before .before .pre in
+    omega (arith, l .inv .0, l .inv .1, p .0)
 
 element-copy-out-leaf-value : tie.Need-element-copy-out-leaf-value Inv-loop μ-loop
-element-copy-out-leaf-value c = let l = c .before .loop in omega (arith, l .inv .0, l .inv .1, c .before .before .before .pre .0)
+element-copy-out-leaf-value c =
+    let l = c .before .loop in
+    let p = c .before .before .before .pre in
+    omega (arith, l .inv .0, l .inv .1, p .0)
 
 leaf-value-requires : tie.Need-leaf-value-requires Inv-loop μ-loop
 leaf-value-requires c κs = tt
@@ -53,7 +68,10 @@ slice-write-work c =
     omega (arith, l .inv .1, p .0, p .1, pushed-length (l .inv .2) (p .1))
 
 loop-less : tie.Need-loop-less Inv-loop μ-loop
-loop-less c = let l = c .before .before .before .loop in omega (arith, l .inv .0, l .inv .1, c .before .before .before .before .before .pre .0)
+loop-less c =
+    let l = c .before .before .before .loop in
+    let p = c .before .before .before .before .before .pre in
+    omega (arith, l .inv .0, l .inv .1, p .0)
 
 loop-again : tie.Need-loop-again Inv-loop μ-loop
 loop-again c =

@@ -20,55 +20,100 @@ loop-holds : tie.Need-loop-holds Inv-loop μ-loop
 loop-holds c = (omega arith, pointing-none _ _ _ _ _ _ (c .pre .0 .0) (c .pre .0 .1))
 
 add-leaf-value : tie.Need-add-leaf-value Inv-loop μ-loop
-add-leaf-value c = let l = c .before .loop in omega (arith, l .inv .0, l .inv .1 .done .starts, l .inv .1 .done .ends, c .before .before .pre .1)
+add-leaf-value c =
+    let l = c .before .loop in
+    let p = c .before .before .pre in
+    omega (arith, l .inv .0, l .inv .1 .done .starts, l .inv .1 .done .ends, p .1)
 
 mul-leaf-value : tie.Need-mul-leaf-value Inv-loop μ-loop
-mul-leaf-value c = let l = c .before .loop in omega (arith, l .inv .0, l .inv .1 .done .starts, l .inv .1 .done .ends, c .before .before .pre .1)
+mul-leaf-value c =
+    let l = c .before .loop in
+    let p = c .before .before .pre in
+    omega (arith, l .inv .0, l .inv .1 .done .starts, l .inv .1 .done .ends, p .1)
 
 element-copy-out-leaf-value : tie.Need-element-copy-out-leaf-value Inv-loop μ-loop
-element-copy-out-leaf-value c = let l = c .before .loop in omega (arith, l .inv .0, l .inv .1 .done .starts, l .inv .1 .done .ends, c .before .before .pre .1)
+element-copy-out-leaf-value c =
+    let l = c .before .loop in
+    let p = c .before .before .pre in
+    omega (arith, l .inv .0, l .inv .1 .done .starts, l .inv .1 .done .ends, p .1)
 
 leaf-value-requires : tie.Need-leaf-value-requires Inv-loop μ-loop
 leaf-value-requires c κs = tt
 
 cast-has-bit : tie.Need-cast-has-bit Inv-loop μ-loop
-cast-has-bit c = let l = c .before .before .before .loop in omega (arith, l .inv .0, l .inv .1 .done .starts, l .inv .1 .done .ends, c .before .before .before .before .pre .1)
+cast-has-bit c =
+    let l = c .before .before .before .loop in
+    let p = c .before .before .before .before .pre in
+    omega (arith, l .inv .0, l .inv .1 .done .starts, l .inv .1 .done .ends, p .1)
 
 has-bit-requires : tie.Need-has-bit-requires Inv-loop μ-loop
-has-bit-requires c κs = let l = c .before .before .before .loop in omega (arith, l .inv .0, l .inv .1 .done .starts, l .inv .1 .done .ends, c .before .before .before .before .pre .1)
+has-bit-requires c κs =
+    let l = c .before .before .before .loop in
+    let p = c .before .before .before .before .pre in
+    omega (arith, l .inv .0, l .inv .1 .done .starts, l .inv .1 .done .ends, p .1)
 
 add-start : tie.Need-add-start Inv-loop μ-loop
-add-start c = let l = c .before .before .before .before .loop in omega (arith, l .inv .0, l .inv .1 .done .starts, l .inv .1 .done .ends, c .before .before .before .before .before .pre .1)
+add-start c =
+    let l = c .before .before .before .before .loop in
+    let p = c .before .before .before .before .before .pre in
+    omega (arith, l .inv .0, l .inv .1 .done .starts, l .inv .1 .done .ends, p .1)
 
 add-pick : tie.Need-add-pick Inv-loop μ-loop
-add-pick c = let l = c .before .before .before .before .loop in omega (arith, l .inv .0, l .inv .1 .done .starts, l .inv .1 .done .ends, c .before .before .before .before .before .pre .1)
+add-pick c =
+    let l = c .before .before .before .before .loop in
+    let p = c .before .before .before .before .before .pre in
+    omega (arith, l .inv .0, l .inv .1 .done .starts, l .inv .1 .done .ends, p .1)
 
 mul-pick : tie.Need-mul-pick Inv-loop μ-loop
-mul-pick c = let l = c .before .before .before .before .loop in omega (arith, l .inv .0, l .inv .1 .done .starts, l .inv .1 .done .ends, c .before .before .before .before .before .pre .1)
+mul-pick c =
+    let l = c .before .before .before .before .loop in
+    let p = c .before .before .before .before .before .pre in
+    omega (arith, l .inv .0, l .inv .1 .done .starts, l .inv .1 .done .ends, p .1)
 
 element-copy-out-pick : tie.Need-element-copy-out-pick Inv-loop μ-loop
-element-copy-out-pick c = let l = c .before .before .before .before .loop in omega (arith, l .inv .0, l .inv .1 .done .starts, l .inv .1 .done .ends, c .before .before .before .before .before .pre .1)
+element-copy-out-pick c =
+    let l = c .before .before .before .before .loop in
+    let p = c .before .before .before .before .before .pre in
+    omega (arith, l .inv .0, l .inv .1 .done .starts, l .inv .1 .done .ends, p .1)
 
 pick-requires : tie.Need-pick-requires Inv-loop μ-loop
 pick-requires c κs = tt
 
 add-from : tie.Need-add-from Inv-loop μ-loop
-add-from c = let l = c .before .before .before .before .before .before .loop in omega (arith, l .inv .0, l .inv .1 .done .starts, l .inv .1 .done .ends, c .before .before .before .before .before .before .before .pre .1)
+add-from c =
+    let l = c .before .before .before .before .before .before .loop in
+    let p = c .before .before .before .before .before .before .before .pre in
+    omega (arith, l .inv .0, l .inv .1 .done .starts, l .inv .1 .done .ends, p .1)
 
 mul-from : tie.Need-mul-from Inv-loop μ-loop
-mul-from c = let l = c .before .before .before .before .before .before .loop in omega (arith, l .inv .0, l .inv .1 .done .starts, l .inv .1 .done .ends, c .before .before .before .before .before .before .before .pre .1)
+mul-from c =
+    let l = c .before .before .before .before .before .before .loop in
+    let p = c .before .before .before .before .before .before .before .pre in
+    omega (arith, l .inv .0, l .inv .1 .done .starts, l .inv .1 .done .ends, p .1)
 
 element-write-from : tie.Need-element-write-from Inv-loop μ-loop
-element-write-from c = let l = c .before .before .before .before .before .before .loop in omega (arith, l .inv .0, l .inv .1 .done .starts, l .inv .1 .done .ends, c .before .before .before .before .before .before .before .pre .1)
+element-write-from c =
+    let l = c .before .before .before .before .before .before .loop in
+    let p = c .before .before .before .before .before .before .before .pre in
+    omega (arith, l .inv .0, l .inv .1 .done .starts, l .inv .1 .done .ends, p .1)
 
 add-pick-2 : tie.Need-add-pick-2 Inv-loop μ-loop
-add-pick-2 c = let l = c .before .before .before .before .before .before .loop in omega (arith, l .inv .0, l .inv .1 .done .starts, l .inv .1 .done .ends, c .before .before .before .before .before .before .before .pre .1)
+add-pick-2 c =
+    let l = c .before .before .before .before .before .before .loop in
+    let p = c .before .before .before .before .before .before .before .pre in
+    omega (arith, l .inv .0, l .inv .1 .done .starts, l .inv .1 .done .ends, p .1)
 
 mul-pick-2 : tie.Need-mul-pick-2 Inv-loop μ-loop
-mul-pick-2 c = let l = c .before .before .before .before .before .before .loop in omega (arith, l .inv .0, l .inv .1 .done .starts, l .inv .1 .done .ends, c .before .before .before .before .before .before .before .pre .1)
+mul-pick-2 c =
+    let l = c .before .before .before .before .before .before .loop in
+    let p = c .before .before .before .before .before .before .before .pre in
+    omega (arith, l .inv .0, l .inv .1 .done .starts, l .inv .1 .done .ends, p .1)
 
 element-copy-out-pick-2 : tie.Need-element-copy-out-pick-2 Inv-loop μ-loop
-element-copy-out-pick-2 c = let l = c .before .before .before .before .before .before .loop in omega (arith, l .inv .0, l .inv .1 .done .starts, l .inv .1 .done .ends, c .before .before .before .before .before .before .before .pre .1)
+element-copy-out-pick-2 c =
+    let l = c .before .before .before .before .before .before .loop in
+    let p = c .before .before .before .before .before .before .before .pre in
+    omega (arith, l .inv .0, l .inv .1 .done .starts, l .inv .1 .done .ends, p .1)
 
 one-if-requires : tie.Need-one-if-requires Inv-loop μ-loop
 one-if-requires c κs = tt
@@ -82,19 +127,34 @@ pick-requires-2 : tie.Need-pick-requires-2 Inv-loop μ-loop
 pick-requires-2 c κs = tt
 
 add-to : tie.Need-add-to Inv-loop μ-loop
-add-to c = let l = c .before .before .before .before .before .before .before .before .before .loop in omega (arith, l .inv .0, l .inv .1 .done .starts, l .inv .1 .done .ends, c .before .before .before .before .before .before .before .before .before .before .pre .1)
+add-to c =
+    let l = c .before .before .before .before .before .before .before .before .before .loop in
+    let p = c .before .before .before .before .before .before .before .before .before .before .pre in
+    omega (arith, l .inv .0, l .inv .1 .done .starts, l .inv .1 .done .ends, p .1)
 
 mul-to : tie.Need-mul-to Inv-loop μ-loop
-mul-to c = let l = c .before .before .before .before .before .before .before .before .before .loop in omega (arith, l .inv .0, l .inv .1 .done .starts, l .inv .1 .done .ends, c .before .before .before .before .before .before .before .before .before .before .pre .1)
+mul-to c =
+    let l = c .before .before .before .before .before .before .before .before .before .loop in
+    let p = c .before .before .before .before .before .before .before .before .before .before .pre in
+    omega (arith, l .inv .0, l .inv .1 .done .starts, l .inv .1 .done .ends, p .1)
 
 element-write-to : tie.Need-element-write-to Inv-loop μ-loop
-element-write-to c = let l = c .before .before .before .before .before .before .before .before .before .loop in omega (arith, l .inv .0, l .inv .1 .done .starts, l .inv .1 .done .ends, c .before .before .before .before .before .before .before .before .before .before .pre .1)
+element-write-to c =
+    let l = c .before .before .before .before .before .before .before .before .before .loop in
+    let p = c .before .before .before .before .before .before .before .before .before .before .pre in
+    omega (arith, l .inv .0, l .inv .1 .done .starts, l .inv .1 .done .ends, p .1)
 
 add-c : tie.Need-add-c Inv-loop μ-loop
-add-c c = let l = c .before .before .before .before .before .before .before .before .before .loop in omega (arith, l .inv .0, l .inv .1 .done .starts, l .inv .1 .done .ends, c .before .before .before .before .before .before .before .before .before .before .pre .1)
+add-c c =
+    let l = c .before .before .before .before .before .before .before .before .before .loop in
+    let p = c .before .before .before .before .before .before .before .before .before .before .pre in
+    omega (arith, l .inv .0, l .inv .1 .done .starts, l .inv .1 .done .ends, p .1)
 
 loop-less : tie.Need-loop-less Inv-loop μ-loop
-loop-less c = let l = c .before .before .before .before .before .before .before .before .before .loop in omega (arith, l .inv .0, l .inv .1 .done .starts, l .inv .1 .done .ends, c .before .before .before .before .before .before .before .before .before .before .pre .1)
+loop-less c =
+    let l = c .before .before .before .before .before .before .before .before .before .loop in
+    let p = c .before .before .before .before .before .before .before .before .before .before .pre in
+    omega (arith, l .inv .0, l .inv .1 .done .starts, l .inv .1 .done .ends, p .1)
 
 loop-again : tie.Need-loop-again Inv-loop μ-loop
 loop-again c =

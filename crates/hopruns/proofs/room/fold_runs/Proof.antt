@@ -116,19 +116,29 @@ sub-from c =
     omega arith
 
 mul-from : tie.Need-mul-from Inv-loop μ-loop
-mul-from c = let l = c .before .before .before .before .before .before .before .before .before .before .before .before .before .loop in omega (arith, l .inv .0, l .inv .1, l .inv .2)
+mul-from c =
+    let l = c .before .before .before .before .before .before .before .before .before .before .before .before .before .loop in
+    omega (arith, l .inv .0, l .inv .1, l .inv .2)
 
 element-write-from : tie.Need-element-write-from Inv-loop μ-loop
-element-write-from c = let l = c .before .before .before .before .before .before .before .before .before .before .before .before .before .loop in omega (arith, l .inv .0, l .inv .1, l .inv .2)
+element-write-from c =
+    let l = c .before .before .before .before .before .before .before .before .before .before .before .before .before .loop in
+    omega (arith, l .inv .0, l .inv .1, l .inv .2)
 
 mul-to : tie.Need-mul-to Inv-loop μ-loop
-mul-to c = let l = c .before .before .before .before .before .before .before .before .before .before .before .before .before .loop in omega (arith, l .inv .0, l .inv .1, l .inv .2)
+mul-to c =
+    let l = c .before .before .before .before .before .before .before .before .before .before .before .before .before .loop in
+    omega (arith, l .inv .0, l .inv .1, l .inv .2)
 
 element-write-to : tie.Need-element-write-to Inv-loop μ-loop
-element-write-to c = let l = c .before .before .before .before .before .before .before .before .before .before .before .before .before .loop in omega (arith, l .inv .0, l .inv .1, l .inv .2)
+element-write-to c =
+    let l = c .before .before .before .before .before .before .before .before .before .before .before .before .before .loop in
+    omega (arith, l .inv .0, l .inv .1, l .inv .2)
 
 loop-less : tie.Need-loop-less Inv-loop μ-loop
-loop-less c = let l = c .before .before .before .before .before .before .before .before .before .before .before .before .before .loop in omega (arith, l .inv .0, l .inv .1, l .inv .2)
+loop-less c =
+    let l = c .before .before .before .before .before .before .before .before .before .before .before .before .before .loop in
+    omega (arith, l .inv .0, l .inv .1, l .inv .2)
 
 loop-again : tie.Need-loop-again Inv-loop μ-loop
 loop-again c =
@@ -137,7 +147,8 @@ loop-again c =
       omega (arith, l .inv .0),
       simp length-set (l .inv .1),
       simp length-set (l .inv .2),
-      λ runs m. fold-step m (turn (l .inv .3 runs m) z) _ _ _ _ (c .before .before .before .before .before .before .combined-size .ensures) (c .before .before .before .before .before .counted .ensures) (omega arith) (c .before .before .pushed .ensures),
+      λ runs m. fold-step m (turn (l .inv .3 runs m) z) _ _ _ _
+          (c .before .before .before .before .before .before .combined-size .ensures) (c .before .before .before .before .before .counted .ensures) (omega arith) (c .before .before .pushed .ensures),
     )
 
 sub-at : tie.Need-sub-at Inv-loop μ-loop

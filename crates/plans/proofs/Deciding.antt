@@ -433,7 +433,7 @@ module _ (form : Form) (t u : List ℕ) (ss : List Step) (bt : Bytes t) (bu : By
             in-addresses = block-fits (prefixOf (S i)) (S i .len) (short i lt) (start-fits i lt) (start-twice (32 - S i .len) (S i .addr));
           }
       facts (of-record {k = k} some h d rs) =
-          let v = record-within (whole-run 32 (lawful .table)) k (omega arith) h in
+          let v = record-within (whole-run 8 32 (lawful .table)) k (omega arith) h in
           record {
             in-steps = some;
             in-records = omega (arith, few-records);
@@ -566,7 +566,7 @@ module _ (form : Form) (t u : List ℕ) (ss : List Step) (bt : Bytes t) (bu : By
 
       facts-of : (k : ℕ) → k < records t → (routeAt t k .len ≤ 32) × (startOf (32 - routeAt t k .len) (routeAt t k .addr) ≡ routeAt t k .addr)
       facts-of k h =
-          let v = record-within (whole-run 32 (lawful .table)) k (omega arith) h in
+          let v = record-within (whole-run 8 32 (lawful .table)) k (omega arith) h in
           (v .short, start-is (32 - routeAt t k .len) (routeAt t k .addr) (routeAt t k .addr) (v .aligned) (omega arith, omega (arith, pow-pos (32 - routeAt t k .len))))
 
       record-entry : (k : ℕ) → k < records t → entry old (routeAt t k .addr) (routeAt t k .len) ≡ via (routeAt t k .hop)

@@ -6,7 +6,6 @@ use mathlib.Core.List.{List}
 use lib.Dec.{leb, ltb, eqb}
 use lib.ListN.{length, getD, take}
 use Rattle.tabletext.specs.Pieces.{has, upTo, behind, unblank, none, number, prefixAddress, prefixLength}
-use Rattle.tabletext.specs.declared.Reason.{Reason}
 use Rattle.tabletext.specs.declared.Reason.the-variants.{NotPrefix, Colon, NoHop, HopInSet, NotHop, MoreWords, StrayReturn}
 use Rattle.tabletext.specs.declared.Said.{Said}
 use Rattle.tabletext.specs.declared.Said.the-variants.{Nothing, Record, Wrong}

@@ -1,5 +1,5 @@
 -- What a text says: the records of its lines in their order, each with the number of its line, from 1 on; or the first line that is wrong, and why.
-use Prim.Native.Nat.{ℕ, suc, _*_, _≤_}
+use Prim.Native.Nat.{ℕ, _+_, _*_}
 use mathlib.Core.Path.{_≡_}
 use mathlib.Core.Bool.{Bool, cond, _&&_}
 use mathlib.Core.List.{List, [], _∷_}
@@ -61,7 +61,7 @@ withLine n k (Wrong why) same more = ends (WrongLine k why)
 -- What is read from line k on, with n records before it.
 unfoldable pub readLines : Bool → ℕ → ℕ → List (List ℕ) → Reading
 readLines hops n k [] = ends (Records n)
-readLines hops n k (l ∷ ls) = withLine n k (said hops l) (readLines hops n (suc k) ls) (readLines hops (suc n) (suc k) ls)
+readLines hops n k (l ∷ ls) = withLine n k (said hops l) (readLines hops n (k + 1) ls) (readLines hops (n + 1) (k + 1) ls)
 
 -- What a text says.
 unfoldable pub says : Bool → List ℕ → Reading
@@ -87,7 +87,7 @@ Reads hops text r out lines = Written (readInto hops text out lines) r out lines
 
 unfoldable pub stored : ℕ → Said → Stored
 stored n Nothing = Count n
-stored n (Record addr len hop) = cond (ltb n 1024) (Count (suc n)) (Not TooMany)
+stored n (Record addr len hop) = cond (ltb n 1024) (Count (n + 1)) (Not TooMany)
 stored n (Wrong why) = Not why
 
 unfoldable pub storedBytes : ℕ → Said → List ℕ → List ℕ

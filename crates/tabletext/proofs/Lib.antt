@@ -1,0 +1,5 @@
+-- Laws of the pieces of lines, of lines, and of what is read and written.
+pub mod PieceLaws
+pub mod LineLaws
+pub mod Writing
+pub mod Settled

@@ -2,3 +2,5 @@
 pub mod Exchange
 pub mod Order
 pub mod Sinking
+pub mod Lists
+pub mod Settled

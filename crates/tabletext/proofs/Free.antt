@@ -1,14 +1,13 @@
 -- Laws of lists that are free of a byte: what stands before it and behind it where they are joined. Assumes nothing.
-use mathlib.Core.Path.{_≡_, refl, sym, ap, _∙_}
+use mathlib.Core.Path.{_≡_, refl, ap, subst, _∙_}
 use mathlib.Core.Bool.{Bool, true, false, cond, _&&_}
 use mathlib.Core.List.{List, [], _∷_, _++_}
-use Prim.Native.Nat.{ℕ, zero, suc, _+_, _-_, _≤_, _<_}
+use Prim.Native.Nat.{ℕ, zero, suc, _+_, _-_, _<_}
 use native.Mathlib.Omega.{arith}
-use borrow.Author.Tests.{lt-ltb, le-ltb, eqb-true}
+use borrow.Author.Tests.{lt-ltb, le-ltb, ltb-true, eqb-true}
 use lib.Dec.{ltb, eqb}
-use lib.ListN.{length, getD, take, drop, length-append}
-use lib.Seq.{take-all, take-at, drop-at, drop-append-add}
-use lib.ListN.{drop-of-length-le}
+use lib.ListN.{length, getD, take, length-append, drop-of-length-le}
+use lib.Seq.{take-all, take-at, drop-append-add}
 use Rattle.tabletext.specs.Pieces.{is, place, has, upTo, behind, unblank}
 use Rattle.tabletext.specs.Lines.{returns, unreturned}
 
@@ -66,7 +65,7 @@ module _ (b : ℕ) where
 
   pub behind-all : (s : List ℕ) → Free b s → behind b s ≡ []
   unfolding behind
-  behind-all s p = rw (place-all s p) (drop-of-length-le s (omega arith))
+  behind-all s p = rw (place-all s p) (drop-of-length-le s {i = length s + 1} (omega arith))
 
   pub has-joined : (s : List ℕ) (x : ℕ) (t : List ℕ) → Free b s → is b x ≡ true → has b (s ++ (x ∷ t)) ≡ true
   has-joined s x t p e =
@@ -90,5 +89,11 @@ unreturned-free l p = go (returns l) refl
     first false b e = let z : _≡_ {A = ℕ} 0 1 = cc in absurd (omega arith)
 
     go : (t : Bool) → returns l ≡ t → cond t (take (length l - 1) l) l ≡ l
-    go true e = ?
+    go true e =
+        let both = first (ltb 0 (length l)) (eqb (getD l (length l - 1) 0) 13) e in
+        let some = ltb-true 0 (length l) (both .0) in
+        let free = free-at (length l - 1) p (omega arith) in
+        let is-it : is 13 13 ≡ false = subst (λ (x : ℕ). is 13 x ≡ false) (eqb-true (getD l (length l - 1) 0) 13 (both .1)) free in
+        let z : _≡_ {A = ℕ} 0 1 = cc in
+        absurd (omega arith)
     go false e = refl

@@ -3,3 +3,5 @@ pub mod PieceLaws
 pub mod LineLaws
 pub mod Writing
 pub mod Settled
+pub mod Free
+pub mod Unsaid

@@ -5,3 +5,4 @@ pub mod Writing
 pub mod Settled
 pub mod Free
 pub mod Unsaid
+pub mod Sound

@@ -6,3 +6,4 @@ pub mod Settled
 pub mod Free
 pub mod Unsaid
 pub mod Sound
+pub mod Examples

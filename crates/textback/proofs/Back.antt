@@ -1,16 +1,17 @@
 -- What is printed of routes reads back as the routes. Assumes nothing.
-use mathlib.Core.Path.{_≡_, refl, ap, _∙_}
+use mathlib.Core.Path.{subst, _≡_, refl, ap, _∙_}
 use mathlib.Core.Bool.{Bool}
 use mathlib.Core.List.{List, [], _∷_, _++_, append-assoc}
 use Prim.Native.Nat.{ℕ, suc, _+_, _≤_, _<_}
 use native.Mathlib.Omega.{arith}
-use borrow.Author.Tests.{lt-ltb}
+use borrow.Author.Tests.{lt-ltb, le-leb}
 use lib.ListN.{length}
 use Rattle.theory.specs.Routes.{Route, All, nil, cons}
 use Rattle.text.specs.Text.{lineOf, linesOf}
-use Rattle.tabletext.specs.Reading.{linesIn, marked, unmarked, Reading, before, withLine, readLines, says}
+use Rattle.tabletext.specs.Reading.{linesIn, marked, unmarked, Reading, before, withLine, readLines, says, readInto, Written, Reads}
 use Rattle.tabletext.specs.declared.Said.{Said}
 use Rattle.tabletext.specs.declared.Said.the-variants.{Record}
+use Rattle.tabletext.specs.declared.Read.{Read}
 use Rattle.tabletext.specs.declared.Read.the-variants.{Records}
 use Rattle.tabletext.proofs.LineLaws.{first-line}
 use Rattle.tabletext.proofs.Free.{Free, up-to-joined, behind-joined, has-joined}
@@ -58,3 +59,11 @@ unmarked-lines hops (r ∷ rs) (cons g gs) = line-unmarked hops r g (linesOf hop
 pub prints-back : (hops : Bool) (rs : List Route) → All (Held hops) rs → length rs ≤ 1024 → says hops (linesOf hops rs) ≡ back 0 1 rs
 unfolding says
 prints-back hops rs gs few = ap (λ (s : List ℕ). readLines hops 0 1 (linesIn s)) (unmarked-lines hops rs gs) ∙ lines-back hops 0 1 rs gs (omega arith)
+
+-- So the reader, with rooms that are long enough, leaves the records of these routes, and answers how many they are.
+pub reads-back : (hops : Bool) (rs : List Route) → All (Held hops) rs → length rs ≤ 1024 → {r : Read} {o l o′ l′ : List ℕ} → 8192 ≤ length o → 1024 ≤ length l
+    → Reads hops (linesOf hops rs) r o l o′ l′ → Written (back 0 1 rs) r o l o′ l′
+unfolding readInto
+reads-back hops rs gs few {r} {o} {l} {o′} {l′} wide long w =
+    let same : readInto hops (linesOf hops rs) o l ≡ back 0 1 rs = rw (le-leb 8192 (length o) wide, le-leb 1024 (length l) long) (prints-back hops rs gs few) in
+    subst (λ (g : Reading). Written g r o l o′ l′) same w

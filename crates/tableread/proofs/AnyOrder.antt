@@ -9,7 +9,8 @@ use lib.Dec.{leb}
 use lib.ListN.{length, getD, take, drop}
 use lib.Seq.{getD-append-add}
 use Rattle.theory.specs.Routes.{Route}
-use Rattle.records.specs.Wire.{recordOf, bytesOf, laid}
+use Rattle.records.specs.Wire.{recordOf, bytesOf}
+use Rattle.records.specs.Sized.{laid, bytesIn}
 use Rattle.records.proofs.Laid.{length-laid}
 use Rattle.records.proofs.Written.{length-bytes}
 use Rattle.tabletext.specs.Reading.{ends, says, readInto, Written, Reads}
@@ -39,7 +40,7 @@ shifted r s i (suc n) = ap₂ (λ (b : List ℕ) (l : List (List ℕ)). b ∷ l)
 
 -- The records of routes are the routes'.
 records-front : (rs : List Route) (s : List ℕ) → recordsOf (bytesOf rs ++ s) (length rs) ≡ map recordOf rs
-unfolding listed bytesOf
+unfolding listed bytesIn
 records-front [] s = refl
 records-front (r ∷ rs) s = ap (λ (l : List (List ℕ)). recordOf r ∷ l) (shifted r (bytesOf rs ++ s) 0 (length rs) ∙ records-front rs s)
 

@@ -9,7 +9,7 @@ use borrow.Author.Tests.{ltb-true, leb-true}
 use lib.Dec.{leb, ltb}
 use lib.ListN.{length, getD}
 use Rattle.theory.specs.Routes.{Route, All, nil, cons}
-use Rattle.records.specs.Wire.{route}
+use Rattle.records.specs.Sized.{route}
 use Rattle.tabletext.specs.Pieces.{has, upTo, behind, unblank, none, number, prefixAddress, prefixLength}
 use Rattle.tabletext.specs.Lines.{unreturned, endOfSet, endOfMap, ofPrefix, ofWords, ofBody, ofLine, said}
 use Rattle.tabletext.specs.Reading.{linesIn, unmarked, Reading, ends, before, withLine, readLines, says}

@@ -10,7 +10,8 @@ use lib.Dec.{ltb}
 use lib.ListN.{length, take, drop, set, length-append, length-set}
 use lib.Seq.{drop-drop, set-split}
 use Rattle.theory.specs.Routes.{Route}
-use Rattle.records.specs.Wire.{route, recordOf, bytesOf, laid}
+use Rattle.records.specs.Wire.{recordOf, bytesOf}
+use Rattle.records.specs.Sized.{route, laid, bytesIn}
 use Rattle.records.proofs.Laid.{laid-none, length-laid, take-laid, drop-laid}
 use Rattle.tabletext.specs.Reading.{Reading, Written, Reads, linesIn, unmarked, ends, before, withLine, readLines, says, readInto, stored, storedBytes, storedNumbers}
 use Rattle.tabletext.specs.declared.Reason.{Reason}
@@ -41,7 +42,7 @@ laid-on k bs cs o fits = sym (joined k bs cs o (laid k bs o) (take-laid k bs o f
 -- A record, and more.
 record-on : (n : ℕ) (r : Route) (rs : List Route) (o : List ℕ) → 8 * n + 8 ≤ length o
     → laid (8 * n) (bytesOf (r ∷ rs)) o ≡ laid (8 * (n + 1)) (bytesOf rs) (laid (8 * n) (recordOf r) o)
-unfolding bytesOf
+unfolding bytesIn
 record-on n r rs o fits =
     let e : 8 * n + 8 ≡ 8 * (n + 1) = omega arith in
     laid-on (8 * n) (recordOf r) (bytesOf rs) o fits ∙ ap (λ (j : ℕ). laid j (bytesOf rs) (laid (8 * n) (recordOf r) o)) e
@@ -70,7 +71,7 @@ left-all all o l = record { answer = refl; records = refl; numbers = refl }
 module _ {all : Reading} {o l : List ℕ} where
   -- Where no records are left, the rooms are as they are to be.
   pub left-none : {r : Read} {n : ℕ} {out lines : List ℕ} → Left all o l (ends r) n out lines → Written all r o l out lines
-  unfolding bytesOf
+  unfolding bytesIn
   left-none {n = n} {out = out} {lines = lines} g =
       record { answers = g .answer; records = sym (laid-none (8 * n) out) ∙ g .records; numbers = sym (laid-none n lines) ∙ g .numbers }
 
@@ -166,7 +167,7 @@ stored-most n m (Wrong why) most e = let z : _≡_ {A = ℕ} 0 1 = cc in absurd 
 
 -- Nothing is written.
 none-written : (r : Read) (o l : List ℕ) → Written (ends r) r o l o l
-unfolding bytesOf
+unfolding bytesIn
 none-written r o l = record { answers = refl; records = sym (laid-none 0 o); numbers = sym (laid-none 0 l) }
 
 module _ (hops : Bool) (text out lines : List ℕ) where

@@ -6,7 +6,8 @@ use mathlib.Core.List.{List, [], _∷_}
 use lib.Dec.{leb, ltb, eqb}
 use lib.ListN.{length, getD, drop, set}
 use Rattle.theory.specs.Routes.{Route}
-use Rattle.records.specs.Wire.{route, recordOf, bytesOf, laid}
+use Rattle.records.specs.Wire.{recordOf, bytesOf}
+use Rattle.records.specs.Sized.{route, laid}
 use Rattle.tabletext.specs.Lines.{said}
 use Rattle.tabletext.specs.declared.Reason.the-variants.{TooMany}
 use Rattle.tabletext.specs.declared.Said.{Said}

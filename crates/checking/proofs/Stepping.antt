@@ -1,19 +1,20 @@
 -- One step at one address, and one step by itself: what the code's tests and numbers come to. Assumes nothing.
 use Prim.Native.Nat.{ℕ, zero, suc, _+_, _-_, _*_, _/_, _%_, _^_, _≤_, _<_}
 use mathlib.Core.Path.{_≡_, refl, sym, ap, ap₂, _∙_}
-use mathlib.Core.Bool.{Bool, true, false, cond, _||_, _&&_}
+use mathlib.Core.Bool.{Bool, true, false, cond, _&&_}
 use mathlib.Core.List.{List}
-use mathlib.Core.Logic.{_⊎_, inl, inr}
 use native.Mathlib.Nat.{pow-le-pow-right, sub-add-cancel, mod-eq-of-lt, mul-le-mul-left, mul-le-mul-right, mul-lt-mul-of-pos-right, div-lt-iff-lt-mul, le-div-iff-mul-le}
+use native.Mathlib.Numerals.{add-one}
 use native.Mathlib.Omega.{arith}
 use lib.Dec.{eqb, ltb}
 use lib.Bits.{bitXor, xor-lt, xor-shr, xor-self, xor-add-and, and-le-l, and-le-r}
-use lib.ListN.{getD, set}
+use lib.ListN.{getD}
 use lib.Pow.{pow-add}
 use borrow.Author.Tests.{eqb-true, eqb-false, eq-eqb, ne-eqb, lt-ltb, le-ltb}
 use Rattle.theory.specs.Routes.{Table}
 use Rattle.theory.proofs.Blocks.{pow-pos}
 use Rattle.words.specs.Prefix.{agree}
+use Rattle.positions.specs.Runs.{noHop}
 use Rattle.refusals.specs.Rules.{refuses}
 use Rattle.records.specs.Wire.{records, routeAt, routes}
 use Rattle.records.specs.declared.Form.{Form}
@@ -21,13 +22,14 @@ use Rattle.table.specs.Checking.{checkReply}
 use Rattle.table.proofs.AtEight.{refused-exactly}
 use Rattle.table.proofs.AtEight.{table-numbers}
 use Rattle.runs.proofs.Halves.{whole-run, record-within}
-use Rattle.rungs.specs.Rungs.{topFrom}
+use Rattle.checking.specs.Marks.{fineOf, markedOf, bareOf, marksUpto}
+use Rattle.checking.specs.declared.Purpose.{Purpose}
+use Rattle.checking.specs.declared.Purpose.the-variants.{Presence, Answers}
+use Rattle.checking.specs.Passes.{leftOf, ownedOf, answeredOf, passedBy, passedOf, nextFrom}
 use Rattle.checking.specs.declared.Stage.{Stage}
-use Rattle.checking.specs.declared.Stage.the-variants.{No, Judging, ToStep}
 use Rattle.checking.specs.declared.Pass.{Pass}
 use Rattle.checking.specs.declared.Check.{Check}
-use Rattle.checking.specs.Checking.{sameFrom, overOf, metOf, seenBy, seenOf}
-use Rattle.checking.specs.Passes.{leftOf, longerOf, passedOf}
+use Rattle.checking.specs.Checking.{sameFrom, seenBy, seenOf}
 
 -- Two numbers are one exactly if they differ in no bit.
 xor-same : (a b : ℕ) → eqb (bitXor a b) 0 ≡ eqb a b
@@ -65,19 +67,6 @@ shl-agree len x a le p q = rw (mod-eq-of-lt small) (go (eqb (y / 2 ^ (32 - len))
         let up : 2 ^ (32 - len) ≤ y = omega (arith, le-div-iff-mul-le (pow-pos (32 - len)) .0 z) in
         le-ltb (y * 2 ^ len) (2 ^ 32) (omega (arith, whole, mul-le-mul-right (2 ^ len) up)) ∙ sym e
 
-pub longer-short : (a b : ℕ) → a ≤ 32 → b ≤ 32 → longerOf a b ≤ 32
-longer-short a b p q = go (ltb a b)
-  where
-    go : (c : Bool) → cond c b a ≤ 32
-    go true = q
-    go false = p
-
--- The pass, from its parts.
-pub passed-is : (p : Pass) (put : Bool) (len hop v k top : ℕ) (b : Bool) → v ≡ leftOf put hop → k ≡ longerOf (p .top) len → top ≡ topFrom (set (p .hops) len v) k
-    → b ≡ (eqb (getD (set (p .hops) len v) top 0) (p .was) || eqb (getD (set (p .hops) len v) top 0) (p .goal))
-    → _≡_ {A = Pass} (record { x = p .x; good = cond b (p .good) false; was = p .was; goal = p .goal; hops = set (p .hops) len v; top = top }) (passedOf p put len hop)
-passed-is p put len hop v k top b e q f g = rw (g, f, q, e)
-
 -- A record of a table is of length at most 32.
 pub short-at : (t : List ℕ) (i : ℕ) → Table 32 (routes t) → i < records t → routeAt t i .len ≤ 32
 short-at t i table lt = record-within (whole-run 8 32 table) i (omega arith) lt .short
@@ -85,11 +74,6 @@ short-at t i table lt = record-within (whole-run 8 32 table) i (omega arith) lt 
 -- A refusal's number by 20 higher is a byte.
 pub number-small : (form : Form) (t : List ℕ) (n i : ℕ) → refuses n i ≡ checkReply form false t → n ≤ 8
 number-small form t n i e = table-numbers form false t n i (refused-exactly form false t (records t) n i .0 (sym e) .0) .1
-
--- A stage that is not judging.
-pub not-judging : {s : Stage} {P : Type 0} → (s ≡ Judging) ⊎ P → (s ≡ Judging → ⊥) → P
-not-judging (inl e) n = absurd (n e)
-not-judging (inr p) n = p
 
 -- ---- The same records.
 
@@ -115,9 +99,53 @@ same-over t u i k le = go (k - i) (omega arith)
     go zero e = refl
     go (suc d) e = absurd (omega arith)
 
--- A check goes on by its stage where following came out well.
-pub seen-met : (t u : List ℕ) (n : ℕ) (c : Check) (p : Pass) (put : Bool) (addr len hop : ℕ) → p .good ≡ true → c .stage ≡ ToStep
-    → metOf t u n c p put ≡ seenOf t u n c p put addr len hop
-seen-met t u n c p put addr len hop e q =
-    sym (ap (λ (b : Bool). cond b (seenBy (c .stage) t u n c p put addr len hop) (overOf No 0 0 n)) e
-    ∙ ap (λ (s : Stage). seenBy s t u n c p put addr len hop) q)
+-- ---- The first length with a hop, and the marks of so many lengths.
+
+pub next-bare : (hops : List ℕ) (l : ℕ) → l < 33 → getD hops l 0 ≡ noHop → nextFrom hops l (33 - l) ≡ nextFrom hops (l + 1) (33 - (l + 1))
+unfolding nextFrom
+next-bare hops l lt e = go (33 - l) refl
+  where
+    go : (d : ℕ) → 33 - l ≡ d → nextFrom hops l d ≡ nextFrom hops (l + 1) (33 - (l + 1))
+    go zero q = absurd (omega arith)
+    go (suc d) q =
+        let a : suc l ≡ l + 1 = omega arith in
+        let b : d ≡ 33 - (l + 1) = omega arith in
+        ap (λ (c : Bool). cond c (nextFrom hops (suc l) d) l) (eq-eqb (getD hops l 0) noHop e) ∙ ap₂ (nextFrom hops) a b
+
+pub next-hop : (hops : List ℕ) (l : ℕ) → l < 33 → (getD hops l 0 ≡ noHop → ⊥) → nextFrom hops l (33 - l) ≡ l
+unfolding nextFrom
+next-hop hops l lt n = go (33 - l) refl
+  where
+    go : (d : ℕ) → 33 - l ≡ d → nextFrom hops l d ≡ l
+    go zero q = absurd (omega arith)
+    go (suc d) q = ap (λ (c : Bool). cond c (nextFrom hops (suc l) d) l) (ne-eqb (getD hops l 0) noHop n)
+
+pub next-none : (hops : List ℕ) (l : ℕ) → 33 ≤ l → nextFrom hops l (33 - l) ≡ 33
+unfolding nextFrom
+next-none hops l le = go (33 - l) (omega arith)
+  where
+    go : (d : ℕ) → d ≡ 0 → nextFrom hops l d ≡ 33
+    go zero q = refl
+    go (suc d) q = absurd (omega arith)
+
+pub marks-none : (was goal : ℕ) (hops : List ℕ) → bareOf was goal ≡ marksUpto was goal hops 0
+unfolding marksUpto
+marks-none was goal hops = refl
+
+pub marks-next : (was goal : ℕ) (hops : List ℕ) (k : ℕ) → markedOf (fineOf was goal) (marksUpto was goal hops k) k (getD hops k 0) ≡ marksUpto was goal hops (k + 1)
+unfolding marksUpto
+marks-next was goal hops k = sym (ap (marksUpto was goal hops) (add-one k))
+
+-- A check goes on by its stage.
+pub seen-by : (t u : List ℕ) (n : ℕ) (c : Check) (p : Pass) (put : Bool) (addr len hop : ℕ) {s : Stage} → c .stage ≡ s
+    → seenBy s t u n c p put addr len hop ≡ seenOf t u n c p put addr len hop
+seen-by t u n c p put addr len hop e = sym (ap (λ (s : Stage). seenBy s t u n c p put addr len hop) e)
+
+-- A pass goes on by what it is for.
+pub passed-answers : (p : Pass) (put : Bool) (len hop : ℕ) → p .purpose ≡ Answers → ltb (p .len) len ≡ false → answeredOf p put len hop ≡ passedOf p put len hop
+passed-answers p put len hop e q =
+    sym (ap (λ (s : Purpose). passedBy s p put len hop) e ∙ ap (λ (b : Bool). cond b p (answeredOf p put len hop)) q)
+
+pub passed-own : (p : Pass) (put : Bool) (len hop : ℕ) → p .purpose ≡ Presence → eqb len (p .len) ≡ true → ownedOf p (leftOf put hop) ≡ passedOf p put len hop
+passed-own p put len hop e q =
+    sym (ap (λ (s : Purpose). passedBy s p put len hop) e ∙ ap (λ (b : Bool). cond b (ownedOf p (leftOf put hop)) p) q)

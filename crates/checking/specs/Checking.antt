@@ -3,11 +3,10 @@ use Prim.Native.Nat.{ℕ, zero, suc, _+_, _-_, _≤_, _<_}
 use mathlib.Core.Path.{_≡_}
 use mathlib.Core.Bool.{Bool, true, false, cond, not, _&&_}
 use mathlib.Core.List.{List}
-use mathlib.Core.Logic.{_⊎_}
 use lib.Dec.{eqb, leb, ltb}
 use lib.ListN.{getD}
 use Rattle.theory.specs.Results.{startOf}
-use Rattle.theory.specs.Routes.{Answer}
+use Rattle.theory.specs.Routes.{Route, Answer}
 use Rattle.words.specs.Prefix.{hostClear}
 use Rattle.positions.specs.Runs.{noHop}
 use Rattle.refusals.specs.Rules.{Reply, gives, refuses}
@@ -18,10 +17,12 @@ use Rattle.table.specs.Checking.{checkReply}
 use Rattle.steps.specs.Views.{rung}
 use Rattle.rungs.specs.Rungs.{row, topFrom}
 use Rattle.checking.specs.declared.Stage.{Stage}
-use Rattle.checking.specs.declared.Stage.the-variants.{Yes, No, Refused, Judging, AtZero, Picking, ToStep, FromStep, AtStepEnd, AtRecordStart, AtRecordEnd}
+use Rattle.checking.specs.declared.Stage.the-variants.{Yes, No, Refused, Judging, Picking, ToStep, AtOwn, AtClass, Covering}
+use Rattle.checking.specs.declared.Purpose.the-variants.{Presence, Answers, Cover}
 use Rattle.checking.specs.declared.Pass.{Pass}
 use Rattle.checking.specs.declared.Check.{Check}
-use Rattle.checking.specs.Passes.{emptyPass, behindOf}
+use Rattle.checking.specs.Marks.{fineOf, marksUpto}
+use Rattle.checking.specs.Passes.{findingOf, emptyPass, unseen, nextFrom, behindOf}
 
 -- Does a step keep the rule of number 13: a length up to 32, no host bits under the strict choice, a put's hop up to 63?
 abbrev pub hostKeptOf : Bool → ℕ → ℕ → Bool
@@ -59,106 +60,190 @@ abbrev pub pickingOf : ℕ → ℕ → Check
 pickingOf index count =
     record { stage = Picking; number = 0; index = index; from = 0; to = 0; place = 0; len = 0; fresh = false; aim = noHop; count = count; strict = false; pass = emptyPass }
 
--- The number at the top of a row.
-abbrev pub topNumber : (ℕ → Answer) → ℕ
-topNumber f = getD (row f 0 33) (topFrom (row f 0 33) 32) 0
+-- The steps before the step are to be sought through for its prefix.
+abbrev pub seekOf : ℕ → ℕ → ℕ → ℕ → Check
+seekOf index count x len =
+    record { stage = ToStep; number = 0; index = index; from = 0; to = index; place = 0; len = len; fresh = false; aim = noHop; count = count; strict = false; pass = findingOf Presence x len unseen 0 }
 
--- A pass that begins at x, with the answers f of the installed table's prefixes and g of the new one's.
-abbrev pub startPass : (ℕ → Answer) → (ℕ → Answer) → ℕ → Pass
-startPass f g x = record { x = x; good = true; was = topNumber f; goal = topNumber g; hops = row f 0 33; top = topFrom (row f 0 33) 32 }
+-- The hop at the greatest length up to len that has one; noHop where none has.
+abbrev pub bestIn : List ℕ → ℕ → ℕ
+bestIn hops len = getD hops (topFrom hops len) 0
 
-abbrev pub passBy : (ℕ → Answer) → (ℕ → Answer) → Stage → ℕ → ℕ → ℕ → ℕ → ℕ → ℕ → Bool → Check
-passBy f g stage index at count to x len put =
+-- A pass that begins for the class of the prefix of address x and length len, by the hops of the installed and of the new table's prefixes.
+abbrev pub classPassBy : List ℕ → List ℕ → ℕ → ℕ → Pass
+classPassBy old goal x len =
     record {
-      stage = stage;
+      x = x;
+      purpose = Answers;
+      len = len;
+      found = getD old len 0;
+      good = true;
+      fine = fineOf (bestIn old len) (bestIn goal len);
+      marks = marksUpto (bestIn old len) (bestIn goal len) old (suc len);
+    }
+
+abbrev pub classPass : (ℕ → Answer) → (ℕ → Answer) → ℕ → ℕ → Pass
+classPass f g x len = classPassBy (row f 0 33) (row g 0 33) x len
+
+abbrev pub classBy : (ℕ → Answer) → (ℕ → Answer) → ℕ → Bool → ℕ → ℕ → ℕ → ℕ → ℕ → Check
+classBy f g n fresh index at count x len =
+    record {
+      stage = AtClass;
       number = 0;
       index = index;
       from = 0;
-      to = to;
+      to = n;
       place = at;
       len = len;
-      fresh = put && eqb (getD (row f 0 33) len 0) noHop;
+      fresh = fresh;
       aim = getD (row g 0 33) len 0;
       count = count;
       strict = false;
-      pass = startPass f g x;
+      pass = classPass f g x len;
     }
 
-abbrev pub passOf : List ℕ → List ℕ → Stage → ℕ → ℕ → ℕ → ℕ → ℕ → ℕ → Bool → Check
-passOf t u stage index at count to x len put = passBy (rung 32 (routes t) x) (rung 32 (routes u) x) stage index at count to x len put
+abbrev pub classOf : List ℕ → List ℕ → ℕ → Bool → ℕ → ℕ → ℕ → ℕ → ℕ → Check
+classOf t u n fresh index at count x len = classBy (rung 32 (routes t) x) (rung 32 (routes u) x) n fresh index at count x len
+
+-- The n steps are to be followed for an installed record's prefix by itself.
+abbrev pub ownBy : Route → (ℕ → Answer) → ℕ → ℕ → ℕ → Check
+ownBy r g n at count =
+    record {
+      stage = AtOwn;
+      number = 0;
+      index = 0;
+      from = 0;
+      to = n;
+      place = at;
+      len = r .len;
+      fresh = false;
+      aim = getD (row g 0 33) (r .len) 0;
+      count = count;
+      strict = false;
+      pass = findingOf Presence (r .addr) (r .len) (r .hop) (fineOf (r .hop) (bestIn (row g 0 33) (r .len)));
+    }
+
+abbrev pub ownOf : List ℕ → List ℕ → ℕ → ℕ → ℕ → Check
+ownOf t u n at count = ownBy (routeAt t at) (rung 32 (routes u) (routeAt t at .addr)) n at count
+
+-- The length of the shortest prefix above len that holds y: of the installed table, or else of the new one; 33 for none.
+abbrev pub knownBy : ℕ → ℕ → ℕ
+knownBy old new = cond (ltb old 33) old new
+
+abbrev pub longerIn : List ℕ → ℕ → ℕ → ℕ
+longerIn t y len = nextFrom (row (rung 32 (routes t) y) 0 33) (len + 1) (32 - len)
+
+abbrev pub knownLonger : List ℕ → List ℕ → ℕ → ℕ → ℕ
+knownLonger t u y len = knownBy (longerIn t y len) (longerIn u y len)
+
+-- The steps are to be followed at y for a longer prefix, unless one is found already.
+abbrev pub unlessFound : ℕ → ℕ → ℕ
+unlessFound found n = cond (ltb found 33) 0 n
+
+abbrev pub coverBy : ℕ → ℕ → Bool → ℕ → ℕ → ℕ → ℕ → ℕ → Check
+coverBy found n fresh index at count y len =
+    record {
+      stage = Covering;
+      number = 0;
+      index = index;
+      from = 0;
+      to = unlessFound found n;
+      place = at;
+      len = len;
+      fresh = fresh;
+      aim = noHop;
+      count = count;
+      strict = false;
+      pass = findingOf Cover y len found 0;
+    }
+
+abbrev pub coverOf : List ℕ → List ℕ → ℕ → Bool → ℕ → ℕ → ℕ → ℕ → ℕ → Check
+coverOf t u n fresh index at count y len = coverBy (knownLonger t u y len) n fresh index at count y len
 
 -- ---- What comes after what, with n steps.
 
 abbrev pub recordOrEnd : List ℕ → List ℕ → ℕ → ℕ → ℕ → Check
 recordOrEnd t u n at count =
-    cond (ltb at (records t)) (passOf t u AtRecordStart 0 at count n (routeAt t at .addr) (routeAt t at .len) false)
+    cond (ltb at (records t)) (ownOf t u n at count)
     (overOf (cond (eqb count (records u)) Yes No) 0 0 n)
 
 abbrev pub stepOrRecord : List ℕ → List ℕ → ℕ → ℕ → ℕ → Check
 stepOrRecord t u n index count = cond (ltb (index + 1) n) (pickingOf (index + 1) count) (recordOrEnd t u n 0 count)
 
-abbrev pub judgedOf : List ℕ → List ℕ → ℕ → ℕ → ℕ → Bool → Bool → ℕ → ℕ → ℕ → Check
-judgedOf t u n index count strict put addr len hop =
-    cond (stepKept strict put addr len hop)
-    (cond (ltb (index + 1) n) (judgingOf (index + 1) count strict) (passOf t u AtZero 0 0 count n 0 0 false))
-    (overOf Refused 13 index n)
+-- The prefix that was looked at, a step's or a record's, is done with.
+abbrev pub goOnOf : List ℕ → List ℕ → ℕ → Bool → ℕ → ℕ → ℕ → Check
+goOnOf t u n fresh index at count = cond fresh (stepOrRecord t u n index count) (recordOrEnd t u n (at + 1) count)
 
--- The step goes on being followed.
-abbrev pub fromOf : ℕ → Check → Pass → ℕ → Check
-fromOf n c p count =
-    record {
-      stage = FromStep;
-      number = 0;
-      index = c .index;
-      from = c .index;
-      to = n;
-      place = 0;
-      len = c .len;
-      fresh = true;
-      aim = c .aim;
-      count = count;
-      strict = false;
-      pass = p;
-    }
+abbrev pub judgedOf : ℕ → ℕ → ℕ → Bool → Bool → ℕ → ℕ → ℕ → Check
+judgedOf n index count strict put addr len hop =
+    cond (stepKept strict put addr len hop) (cond (ltb (index + 1) n) (judgingOf (index + 1) count strict) (pickingOf 0 count)) (overOf Refused 13 index n)
 
-abbrev pub countAt : Check → Pass → Bool → ℕ
-countAt c p put = countedOf put (not (eqb (getD (p .hops) (c .len) 0) noHop)) (c .count)
+-- What stood at a prefix before a step: what the last step for it left, or what the installed table has.
+abbrev pub stoodOf : List ℕ → ℕ → ℕ → ℕ → ℕ
+stoodOf t x len found = cond (eqb found unseen) (getD (row (rung 32 (routes t) x) 0 33) len 0) found
+
+-- Does the step put a prefix that the installed table lacks and no earlier step has?
+abbrev pub freshOf : Bool → ℕ → ℕ → Bool
+freshOf put found stood = put && (eqb found unseen && eqb stood noHop)
+
+abbrev pub metBy : List ℕ → List ℕ → ℕ → Check → Pass → Bool → ℕ → ℕ → Check
+metBy t u n c p put stood count =
+    cond (ltb 1024 count) (overOf No 0 0 n)
+    (cond (freshOf put (p .found) stood) (classOf t u n true (c .index) 0 count (p .x) (c .len)) (stepOrRecord t u n (c .index) count))
 
 abbrev pub metOf : List ℕ → List ℕ → ℕ → Check → Pass → Bool → Check
 metOf t u n c p put =
-    cond (ltb 1024 (countAt c p put)) (overOf No 0 0 n)
-    (cond (c .fresh) (fromOf n c p (countAt c p put)) (stepOrRecord t u n (c .index) (countAt c p put)))
+    metBy t u n c p put (stoodOf t (p .x) (c .len) (p .found)) (countedOf put (not (eqb (stoodOf t (p .x) (c .len) (p .found)) noHop)) (c .count))
 
--- The prefix has in the end what the new table has.
-abbrev pub landsOf : Check → Pass → Bool
-landsOf c p = eqb (getD (p .hops) (c .len) 0) (c .aim)
+-- An installed prefix has been followed by itself.
+abbrev pub keptOwnOf : List ℕ → List ℕ → ℕ → Check → Pass → Check
+keptOwnOf t u n c p =
+    cond (eqb (p .found) (c .aim))
+    (cond (p .good) (recordOrEnd t u n (c .place + 1) (c .count)) (classOf t u n false 0 (c .place) (c .count) (p .x) (c .len)))
+    (overOf No 0 0 n)
+
+-- A class has been followed: the prefix must have what the new table has, and where the answer was another the class must be empty.
+abbrev pub classedOf : List ℕ → List ℕ → ℕ → Check → Pass → Check
+classedOf t u n c p =
+    cond (eqb (p .found) (c .aim))
+    (cond (p .good) (goOnOf t u n (c .fresh) (c .index) (c .place) (c .count)) (coverOf t u n (c .fresh) (c .index) (c .place) (c .count) (p .x) (c .len)))
+    (overOf No 0 0 n)
+
+-- Is y, behind x, still in the prefix of this length that holds x?
+abbrev pub remainsOf : ℕ → ℕ → ℕ → Bool
+remainsOf x y len = ltb x y && eqb (startOf (32 - len) y) (startOf (32 - len) x)
+
+-- A longer prefix has been looked for at an address of a class.
+abbrev pub coveringBy : List ℕ → List ℕ → ℕ → Check → Pass → ℕ → Check
+coveringBy t u n c p y =
+    cond (remainsOf (p .x) y (c .len)) (coverOf t u n (c .fresh) (c .index) (c .place) (c .count) y (c .len))
+    (goOnOf t u n (c .fresh) (c .index) (c .place) (c .count))
+
+abbrev pub coveringOf : List ℕ → List ℕ → ℕ → Check → Pass → Check
+coveringOf t u n c p =
+    cond (ltb 32 (p .found)) (overOf No 0 0 n) (coveringBy t u n c p (behindOf (startOf (32 - p .found) (p .x)) (p .found)))
 
 abbrev pub seenBy : Stage → List ℕ → List ℕ → ℕ → Check → Pass → Bool → ℕ → ℕ → ℕ → Check
-seenBy Judging t u n c p put addr len hop = judgedOf t u n (c .index) (c .count) (c .strict) put addr len hop
-seenBy AtZero t u n c p put addr len hop = passOf t u ToStep (c .index) 0 (c .count) (c .index) (startOf (32 - len) addr) len put
-seenBy Picking t u n c p put addr len hop = passOf t u ToStep (c .index) 0 (c .count) (c .index) (startOf (32 - len) addr) len put
+seenBy Judging t u n c p put addr len hop = judgedOf n (c .index) (c .count) (c .strict) put addr len hop
+seenBy Picking t u n c p put addr len hop = seekOf (c .index) (c .count) (startOf (32 - len) addr) len
 seenBy ToStep t u n c p put addr len hop = metOf t u n c p put
-seenBy FromStep t u n c p put addr len hop =
-    cond (landsOf c p) (passOf t u AtStepEnd (c .index) 0 (c .count) n (behindOf (p .x) (c .len)) (c .len) false) (overOf No 0 0 n)
-seenBy AtStepEnd t u n c p put addr len hop = stepOrRecord t u n (c .index) (c .count)
-seenBy AtRecordStart t u n c p put addr len hop =
-    cond (landsOf c p) (passOf t u AtRecordEnd 0 (c .place) (c .count) n (behindOf (p .x) (c .len)) (c .len) false) (overOf No 0 0 n)
-seenBy AtRecordEnd t u n c p put addr len hop = recordOrEnd t u n (c .place + 1) (c .count)
+seenBy AtOwn t u n c p put addr len hop = keptOwnOf t u n c p
+seenBy AtClass t u n c p put addr len hop = classedOf t u n c p
+seenBy Covering t u n c p put addr len hop = coveringOf t u n c p
 seenBy Yes t u n c p put addr len hop = overOf No 0 0 n
 seenBy No t u n c p put addr len hop = overOf No 0 0 n
 seenBy Refused t u n c p put addr len hop = overOf No 0 0 n
 
 -- The state once a step is seen, where p is how following came out.
 abbrev pub seenOf : List ℕ → List ℕ → ℕ → Check → Pass → Bool → ℕ → ℕ → ℕ → Check
-seenOf t u n c p put addr len hop = cond (p .good) (seenBy (c .stage) t u n c p put addr len hop) (overOf No 0 0 n)
+seenOf t u n c p put addr len hop = seenBy (c .stage) t u n c p put addr len hop
 
 -- What seeing a step asks.
-pub record MaySee (n : ℕ) (c : Check) (len : ℕ) : Type 0 where
+pub record MaySee (n : ℕ) (c : Check) : Type 0 where
   pub in-steps : c .index < n
   pub in-records : c .place ≤ 1024
   pub in-lengths : c .len ≤ 32
   pub few : c .count ≤ 1024
-  pub short : (c .stage ≡ Judging) ⊎ (len ≤ 32)
 
 -- ---- The start and the end.
 

@@ -1,11 +1,20 @@
-// A check of a plan in progress. It is shown a step, says which steps are to be followed at which address, and goes on from how that came out.
+// A check of a plan in progress. It is shown a step, says which steps are to be followed and for which prefix, and goes on from how that came out.
 //
-// First each step is judged by itself. Then the steps are followed at points: at address 0; where each put prefix that the installed table lacks starts, and
-// behind where it ends; where each installed prefix starts, and behind where it ends. After each step the address must have its old or its new hop. Where a
-// prefix starts, it must have in the end what the new table has there. Each step is also come to at the start of its prefix, which shows whether that
-// is present: a take needs it, and a put counts a route more without it.
+// First each step is judged by itself. Then, step by step, the earlier steps are sought through for its prefix, which shows whether that is present: a take
+// needs it, and a put counts a route more without it. Where a prefix is put that the installed table lacks and no earlier step has, and for each
+// installed prefix, the prefix must have in the end what the new table has there, and the steps are followed for the prefix's class: the addresses that no
+// longer prefix holds, of those installed and put. They all have one answer, from the prefixes that hold all of them, and that must be the old or the new
+// one after each step. While an installed prefix is present its own hop is that answer, so it is first followed by itself. Where a class's answer was
+// another, the class must be empty: its addresses are gone through, from the end of one longer prefix to that of the next.
+
+pub mod marks;
 
 use hops::NO_HOP;
+use marks::Marks;
+use marks::fine_of;
+use marks::is_fine;
+use marks::marked;
+use marks::marks_of;
 use records::Form;
 use records::addr_at;
 use records::hop_at;
@@ -17,15 +26,17 @@ use table::check_table;
 use words::prefix::host_bits_clear;
 use words::prefix::masked;
 ghost use mathlib.Core.Path.{_≡_};
-ghost use mathlib.Core.Bool.{_&&_, _||_};
-ghost use Prim.Native.Nat.{ℕ, _+_, _-_, _^_, _%_, _≤_, _<_};
+ghost use mathlib.Core.Bool.{_&&_};
+ghost use Prim.Native.Nat.{_+_, _-_, _^_, _%_, _≤_, _<_};
 ghost use lib.Dec.{eqb};
 ghost use Rattle.theory.specs.Routes.{Table};
 ghost use Rattle.words.specs.Prefix.{agree};
-ghost use Rattle.positions.specs.Runs.{noHop};
-ghost use Rattle.records.specs.Wire.{records, routeAt, routes};
-ghost use Rattle.checking.specs.Passes.{emptyPass, puts, passedOf, leftOf, longerOf, behindOf};
-ghost use Rattle.checking.specs.Checking.{hostKeptOf, hopKeptOf, stepKept, countedOf, sameFrom, overOf, judgingOf, pickingOf, passOf, recordOrEnd, stepOrRecord, judgedOf, metOf, seenOf, MaySee, Begun};
+ghost use Rattle.records.specs.Wire.{records, routes};
+ghost use Rattle.checking.specs.Passes.{findingOf, emptyPass, puts, leftOf, nearerOf, stillOf, ownNow, answeredOf, ownedOf, passedOf, behindOf, nextFrom};
+ghost use Rattle.checking.specs.Checking.{hostKeptOf, hopKeptOf, stepKept, countedOf, sameFrom, overOf, judgingOf, pickingOf, seekOf, bestIn, classPassBy, ownOf, classOf, knownLonger, unlessFound, coverOf, recordOrEnd, stepOrRecord, goOnOf, judgedOf, stoodOf, freshOf, metOf, keptOwnOf, classedOf, remainsOf, coveringOf, seenOf, MaySee, Begun};
+
+// No step for the prefix has been seen.
+const UNSEEN: u8 = 65;
 
 // What a check is at.
 pub enum Stage {
@@ -35,32 +46,41 @@ pub enum Stage {
     Refused,
     // Each step is judged by itself.
     Judging,
-    // The steps were followed at address 0.
-    AtZero,
     // The prefix of the next step comes.
     Picking,
-    // The steps were followed at the start of a step's prefix, up to that step.
+    // The steps before it were sought through for that prefix.
     ToStep,
-    // The same from that step on.
-    FromStep,
-    // The steps were followed behind the end of a step's prefix.
-    AtStepEnd,
-    // The same of an installed record.
-    AtRecordStart,
-    AtRecordEnd,
+    // The steps were followed for an installed prefix by itself.
+    AtOwn,
+    // The steps were followed for a class.
+    AtClass,
+    // A longer prefix was looked for at an address of a class.
+    Covering,
 }
 
-// The steps followed at one address.
+// What steps are followed for.
+pub enum Purpose {
+    // What the prefix itself has.
+    Presence,
+    // The answers of the prefix's class.
+    Answers,
+    // The shortest put prefix that is longer.
+    Cover,
+}
+
+// The steps followed for a prefix, at one of its addresses.
 pub struct Pass {
     pub x: u32,
-    // Was the hop the old or the new one after each step so far?
+    pub purpose: Purpose,
+    pub len: u8,
+    // What the prefix has; UNSEEN where no step for it was seen and what the installed table has is not asked. For the cover: the length found, 33 for none.
+    pub found: u8,
+    // Was the answer, or for presence what a step left at the prefix, the old or the new answer after each step so far?
     pub good: bool,
-    // The hops of the installed and of the new table.
-    pub was: u8,
-    pub goal: u8,
-    // The rungs after the steps so far.
-    pub hops: [u8; 33],
-    pub top: usize,
+    // The hops of the old and the new answer, as a set.
+    pub fine: u64,
+    // The lengths up to that of the prefix that have a hop after the steps so far.
+    pub marks: Marks,
 }
 
 pub struct Check {
@@ -74,7 +94,7 @@ pub struct Check {
     pub to: usize,
     // The record that is looked at, or that a refusal names.
     pub place: usize,
-    // The length of the prefix that is looked at, whether it is a put one that the installed table lacks, and what the new table has there.
+    // The length of the prefix that is looked at, whether it is a step's, and what the new table has there.
     pub len: u8,
     pub fresh: bool,
     pub aim: u8,
@@ -84,7 +104,7 @@ pub struct Check {
     pub pass: Pass,
 }
 
-// ---- One step at one address.
+// ---- One step.
 
 // Does the prefix hold the address?
 pub fn holds(addr: u32, len: u8, x: u32) -> bool
@@ -94,13 +114,6 @@ pub fn holds(addr: u32, len: u8, x: u32) -> bool
     ((x ^ addr) as u64) << len < 4294967296
 }
 
-// The longer of two lengths.
-fn longer(a: usize, b: usize) -> usize
-    ensures { λ r. ⌜ r ≡ longerOf a b ⌝ }
-{
-    if a < b { b } else { a }
-}
-
 // What a step leaves at its prefix.
 fn left(put: u8, hop: u8) -> u8
     ensures { λ r. ⌜ r ≡ leftOf (puts put) hop ⌝ }
@@ -108,43 +121,105 @@ fn left(put: u8, hop: u8) -> u8
     if put != 0 { hop } else { NO_HOP }
 }
 
-// Is it one of the two?
-fn one_of(hop: u8, was: u8, goal: u8) -> bool
-    ensures { λ r. ⌜ r ≡ (eqb hop was || eqb hop goal) ⌝ }
+// Is a step's prefix put, longer than a length, and shorter than what was found?
+fn nearer(put: u8, len: u8, over: u8, found: u8) -> bool
+    ensures { λ r. ⌜ r ≡ nearerOf (puts put) len over found ⌝ }
 {
-    if hop == was { true } else { hop == goal }
+    if put == 0 {
+        return false;
+    }
+    if over < len { len < found } else { false }
+}
+
+// Is a class still good by these marks?
+fn still(good: bool, marks: Marks) -> bool
+    ensures { λ r. ⌜ r ≡ stillOf good marks ⌝ }
+{
+    if marks.fair < marks.foul { false } else { good }
+}
+
+// What the class's prefix has after a step of this length, which leaves `now`.
+fn own(len: u8, of: u8, now: u8, before: u8) -> u8
+    ensures { λ r. ⌜ r ≡ ownNow len of now before ⌝ }
+{
+    if len == of { now } else { before }
+}
+
+// A class after a step whose prefix holds all of it.
+fn answered(pass: Pass, put: u8, len: u8, hop: u8) -> Pass
+    requires { ⌜ len ≤ 32 ⌝ }
+    ensures { λ r. ⌜ r ≡ answeredOf pass (puts put) len hop ⌝ }
+{
+    let now = left(put, hop);
+    let mut p = pass;
+    p.found = own(len, p.len, now, p.found);
+    p.marks = marked(p.marks, len, now, p.fine);
+    p.good = still(p.good, p.marks);
+    p
+}
+
+// The prefix itself after a step for it, which leaves this there.
+fn owned(pass: Pass, now: u8) -> Pass
+    ensures { λ r. ⌜ r ≡ ownedOf pass now ⌝ }
+{
+    let mut p = pass;
+    p.found = now;
+    if !is_fine(p.fine, now) {
+        p.good = false;
+    }
+    p
 }
 
 // The pass after a step whose prefix holds the address.
 pub fn passed(pass: Pass, put: u8, len: u8, hop: u8) -> Pass
-    requires { ⌜ (len ≤ 32) × (pass .top ≤ 32) ⌝ }
+    requires { ⌜ len ≤ 32 ⌝ }
     ensures { λ r. ⌜ r ≡ passedOf pass (puts put) len hop ⌝ }
 {
-    let mut p = pass;
-    let l = len as usize;
-    p.hops[l] = left(put, hop);
-    let top = top_from(&p.hops, longer(pass.top, l));
-    p.top = top;
-    if one_of(p.hops[top], p.was, p.goal) {
-        return p;
+    let purpose = pass.purpose;
+    match purpose {
+        Purpose::Answers => {
+            if pass.len < len {
+                return pass;
+            }
+            answered(pass, put, len, hop)
+        }
+        Purpose::Presence => {
+            if len != pass.len {
+                return pass;
+            }
+            owned(pass, left(put, hop))
+        }
+        Purpose::Cover => {
+            let mut p = pass;
+            if nearer(put, len, p.len, p.found) {
+                p.found = len;
+            }
+            p
+        }
     }
-    p.good = false;
-    p
 }
 
 // ---- States.
 
+// A pass without marks.
+fn finding(purpose: Purpose, x: u32, len: u8, found: u8, fine: u64) -> Pass
+    ensures { λ r. ⌜ r ≡ findingOf purpose x len found fine ⌝ }
+{
+    Pass {
+        x,
+        purpose,
+        len,
+        found,
+        good: true,
+        fine,
+        marks: Marks { fair: 0, foul: 0 },
+    }
+}
+
 fn empty_pass() -> Pass
     ensures { λ r. ⌜ r ≡ emptyPass ⌝ }
 {
-    Pass {
-        x: 0,
-        good: true,
-        was: NO_HOP,
-        goal: NO_HOP,
-        hops: [NO_HOP; 33],
-        top: 0,
-    }
+    finding(Purpose::Presence, 0, 0, UNSEEN, 0)
 }
 
 // It is over.
@@ -207,56 +282,184 @@ fn picking(index: usize, count: usize) -> Check
     }
 }
 
-// Is it a put prefix that the installed table, with this hop there, lacks?
-fn lacks(put: bool, hop: u8) -> bool
-    ensures { λ r. ⌜ r ≡ (put && eqb hop noHop) ⌝ }
+// The steps before the step are to be sought through for its prefix.
+fn seek_at(index: usize, count: usize, x: u32, len: u8) -> Check
+    ensures { λ r. ⌜ r ≡ seekOf index count x len ⌝ }
 {
-    if put { hop == NO_HOP } else { false }
-}
-
-// The steps up to `to` are to be followed at the address x, an edge of a prefix of this length.
-fn pass_at(
-    installed: &[u8],
-    new: &[u8],
-    stage: Stage,
-    index: usize,
-    place: usize,
-    count: usize,
-    to: usize,
-    x: u32,
-    len: u8,
-    put: bool,
-) -> Check
-    requires { ⌜ Table 32 (routes (now installed)) × Table 32 (routes (now new)) ⌝ }
-    requires { ⌜ len ≤ 32 ⌝ }
-    ensures { λ r. ⌜ r ≡ passOf (now (installed .entry)) (now (new .entry)) stage index place count to x len put ⌝ }
-{
-    let at = len as usize;
-    let old = climb(installed, x);
-    let goal = climb(new, x);
-    let old_top = old.top;
-    let goal_top = goal.top;
-    let hops = old.hops;
     Check {
-        stage,
+        stage: Stage::ToStep,
         number: 0,
         index,
         from: 0,
-        to,
-        place,
+        to: index,
+        place: 0,
         len,
-        fresh: lacks(put, hops[at]),
-        aim: goal.hops[at],
+        fresh: false,
+        aim: NO_HOP,
         count,
         strict: false,
-        pass: Pass {
-            x,
-            good: true,
-            was: old.hops[old_top],
-            goal: goal.hops[goal_top],
-            hops,
-            top: old_top,
-        },
+        pass: finding(Purpose::Presence, x, len, UNSEEN, 0),
+    }
+}
+
+// The hop at the greatest length up to `len` that has one; NO_HOP where none has.
+fn best_hop(hops: &[u8; 33], len: u8) -> u8
+    requires { ⌜ len ≤ 32 ⌝ }
+    ensures { λ r. ⌜ r ≡ bestIn (now (hops .entry)) len ⌝ }
+{
+    let top = top_from(hops, len as usize);
+    hops[top]
+}
+
+// A pass that begins for a class, by the hops of the installed and of the new table's prefixes that hold all of it.
+fn class_pass(old: &[u8; 33], goal: &[u8; 33], x: u32, len: u8) -> Pass
+    requires { ⌜ len ≤ 32 ⌝ }
+    ensures { λ r. ⌜ r ≡ classPassBy (now (old .entry)) (now (goal .entry)) x len ⌝ }
+{
+    let was = best_hop(old, len);
+    let to = best_hop(goal, len);
+    let marks = marks_of(old, len, was, to);
+    let found = old[len as usize];
+    Pass {
+        x,
+        purpose: Purpose::Answers,
+        len,
+        found,
+        good: true,
+        fine: fine_of(was, to),
+        marks,
+    }
+}
+
+// The n steps are to be followed for an installed record's prefix by itself.
+fn own_at(installed: &[u8], new: &[u8], n: usize, place: usize, count: usize) -> Check
+    requires { ⌜ Table 32 (routes (now installed)) × Table 32 (routes (now new)) ⌝ }
+    requires { ⌜ place < records (now installed) ⌝ }
+    ensures { λ r. ⌜ r ≡ ownOf (now (installed .entry)) (now (new .entry)) n place count ⌝ }
+{
+    let x = addr_at(installed, place);
+    let len = len_at(installed, place);
+    let hop = hop_at(installed, place);
+    let goal = climb(new, x);
+    let to = best_hop(&goal.hops, len);
+    Check {
+        stage: Stage::AtOwn,
+        number: 0,
+        index: 0,
+        from: 0,
+        to: n,
+        place,
+        len,
+        fresh: false,
+        aim: goal.hops[len as usize],
+        count,
+        strict: false,
+        pass: finding(Purpose::Presence, x, len, hop, fine_of(hop, to)),
+    }
+}
+
+// The n steps are to be followed for the class of the prefix that starts at x.
+fn class_at(
+    installed: &[u8],
+    new: &[u8],
+    n: usize,
+    fresh: bool,
+    index: usize,
+    place: usize,
+    count: usize,
+    x: u32,
+    len: u8,
+) -> Check
+    requires { ⌜ Table 32 (routes (now installed)) × Table 32 (routes (now new)) ⌝ }
+    requires { ⌜ len ≤ 32 ⌝ }
+    ensures { λ r. ⌜ r ≡ classOf (now (installed .entry)) (now (new .entry)) n fresh index place count x len ⌝ }
+{
+    let old = climb(installed, x);
+    let goal = climb(new, x);
+    let pass = class_pass(&old.hops, &goal.hops, x, len);
+    Check {
+        stage: Stage::AtClass,
+        number: 0,
+        index,
+        from: 0,
+        to: n,
+        place,
+        len,
+        fresh,
+        aim: goal.hops[len as usize],
+        count,
+        strict: false,
+        pass,
+    }
+}
+
+// The first length above `len` with a hop; 33 where there is none.
+fn next_from(hops: &[u8; 33], len: u8) -> u8
+    requires { ⌜ len ≤ 32 ⌝ }
+    ensures { λ r. ⌜ r ≡ nextFrom (now (hops .entry)) (len + 1) (32 - len) ⌝ }
+{
+    let mut l = len + 1;
+    while l < 33 {
+        if hops[l as usize] != NO_HOP {
+            return l;
+        }
+        l += 1;
+    }
+    33
+}
+
+// The length of the shortest prefix above `len` that holds y: of the installed table, or else of the new one; 33 for none.
+fn known_longer(installed: &[u8], new: &[u8], y: u32, len: u8) -> u8
+    requires { ⌜ Table 32 (routes (now installed)) × Table 32 (routes (now new)) ⌝ }
+    requires { ⌜ len ≤ 32 ⌝ }
+    ensures { λ r. ⌜ r ≡ knownLonger (now (installed .entry)) (now (new .entry)) y len ⌝ }
+{
+    let old = climb(installed, y);
+    let found = next_from(&old.hops, len);
+    if found < 33 {
+        return found;
+    }
+    let goal = climb(new, y);
+    next_from(&goal.hops, len)
+}
+
+// Of the n steps, so many are to be followed for what is found already or not.
+fn unless_found(found: u8, n: usize) -> usize
+    ensures { λ r. ⌜ r ≡ unlessFound found n ⌝ }
+{
+    if found < 33 { 0 } else { n }
+}
+
+// The steps are to be followed at y for a longer prefix that holds it, unless a table has one.
+fn cover_at(
+    installed: &[u8],
+    new: &[u8],
+    n: usize,
+    fresh: bool,
+    index: usize,
+    place: usize,
+    count: usize,
+    y: u32,
+    len: u8,
+) -> Check
+    requires { ⌜ Table 32 (routes (now installed)) × Table 32 (routes (now new)) ⌝ }
+    requires { ⌜ len ≤ 32 ⌝ }
+    ensures { λ r. ⌜ r ≡ coverOf (now (installed .entry)) (now (new .entry)) n fresh index place count y len ⌝ }
+{
+    let found = known_longer(installed, new, y, len);
+    Check {
+        stage: Stage::Covering,
+        number: 0,
+        index,
+        from: 0,
+        to: unless_found(found, n),
+        place,
+        len,
+        fresh,
+        aim: NO_HOP,
+        count,
+        strict: false,
+        pass: finding(Purpose::Cover, y, len, found, 0),
     }
 }
 
@@ -328,18 +531,7 @@ fn record_or_end(installed: &[u8], new: &[u8], n: usize, place: usize, count: us
     ensures { λ r. ⌜ r ≡ recordOrEnd (now (installed .entry)) (now (new .entry)) n place count ⌝ }
 {
     if place < installed.len() / 8 {
-        return pass_at(
-            installed,
-            new,
-            Stage::AtRecordStart,
-            0,
-            place,
-            count,
-            n,
-            addr_at(installed, place),
-            len_at(installed, place),
-            false,
-        );
+        return own_at(installed, new, n, place, count);
     }
     if count == new.len() / 8 {
         return over(Stage::Yes, 0, 0, n);
@@ -360,10 +552,28 @@ fn step_or_record(installed: &[u8], new: &[u8], n: usize, index: usize, count: u
     record_or_end(installed, new, n, 0, count)
 }
 
-// The step has been judged.
-fn judged(
+// The prefix that was looked at is done with.
+fn go_on(
     installed: &[u8],
     new: &[u8],
+    n: usize,
+    fresh: bool,
+    index: usize,
+    place: usize,
+    count: usize,
+) -> Check
+    requires { ⌜ Table 32 (routes (now installed)) × Table 32 (routes (now new)) ⌝ }
+    requires { ⌜ (index < n) × (place ≤ 1024) ⌝ }
+    ensures { λ r. ⌜ r ≡ goOnOf (now (installed .entry)) (now (new .entry)) n fresh index place count ⌝ }
+{
+    if fresh {
+        return step_or_record(installed, new, n, index, count);
+    }
+    record_or_end(installed, new, n, place + 1, count)
+}
+
+// The step has been judged.
+fn judged(
     n: usize,
     index: usize,
     count: usize,
@@ -373,9 +583,8 @@ fn judged(
     len: u8,
     hop: u8,
 ) -> Check
-    requires { ⌜ Table 32 (routes (now installed)) × Table 32 (routes (now new)) ⌝ }
     requires { ⌜ index < n ⌝ }
-    ensures { λ r. ⌜ r ≡ judgedOf (now (installed .entry)) (now (new .entry)) n index count strict put addr len hop ⌝ }
+    ensures { λ r. ⌜ r ≡ judgedOf n index count strict put addr len hop ⌝ }
 {
     if !step_kept(strict, put, addr, len, hop) {
         return over(Stage::Refused, 13, index, n);
@@ -384,37 +593,129 @@ fn judged(
     if next < n {
         return judging(next, count, strict);
     }
-    pass_at(installed, new, Stage::AtZero, 0, 0, count, n, 0, 0, false)
+    picking(0, count)
 }
 
-// The step whose prefix starts at the pass's address has been come to.
+// What stood at the prefix before the step: what the last step for it left, or what the installed table has.
+fn stood(installed: &[u8], x: u32, len: u8, found: u8) -> u8
+    requires { ⌜ Table 32 (routes (now installed)) ⌝ }
+    requires { ⌜ len ≤ 32 ⌝ }
+    ensures { λ r. ⌜ r ≡ stoodOf (now (installed .entry)) x len found ⌝ }
+{
+    if found != UNSEEN {
+        return found;
+    }
+    let old = climb(installed, x);
+    old.hops[len as usize]
+}
+
+// Does the step put a prefix that the installed table lacks and no earlier step has?
+fn is_fresh(put: bool, found: u8, stood: u8) -> bool
+    ensures { λ r. ⌜ r ≡ freshOf put found stood ⌝ }
+{
+    if put {
+        if found == UNSEEN {
+            stood == NO_HOP
+        } else {
+            false
+        }
+    } else {
+        false
+    }
+}
+
+// The steps before a step have been sought through for its prefix.
 fn met(installed: &[u8], new: &[u8], n: usize, c: Check, p: Pass, put: bool) -> Check
     requires { ⌜ Table 32 (routes (now installed)) × Table 32 (routes (now new)) ⌝ }
     requires { ⌜ (c .index < n) × (c .len ≤ 32) × (c .count ≤ 1024) ⌝ }
     ensures { λ r. ⌜ r ≡ metOf (now (installed .entry)) (now (new .entry)) n c p put ⌝ }
 {
-    let at = c.len as usize;
-    let count = counted(put, p.hops[at] != NO_HOP, c.count);
+    let stands = stood(installed, p.x, c.len, p.found);
+    let count = counted(put, stands != NO_HOP, c.count);
     if 1024 < count {
         return over(Stage::No, 0, 0, n);
     }
-    if !c.fresh {
-        return step_or_record(installed, new, n, c.index, count);
+    if is_fresh(put, p.found, stands) {
+        return class_at(installed, new, n, true, c.index, 0, count, p.x, c.len);
     }
-    Check {
-        stage: Stage::FromStep,
-        number: 0,
-        index: c.index,
-        from: c.index,
-        to: n,
-        place: 0,
-        len: c.len,
-        fresh: true,
-        aim: c.aim,
-        count,
-        strict: false,
-        pass: p,
+    step_or_record(installed, new, n, c.index, count)
+}
+
+// The steps have been followed for an installed prefix by itself.
+fn kept_own(installed: &[u8], new: &[u8], n: usize, c: Check, p: Pass) -> Check
+    requires { ⌜ Table 32 (routes (now installed)) × Table 32 (routes (now new)) ⌝ }
+    requires { ⌜ (c .len ≤ 32) × (c .place ≤ 1024) ⌝ }
+    ensures { λ r. ⌜ r ≡ keptOwnOf (now (installed .entry)) (now (new .entry)) n c p ⌝ }
+{
+    if p.found != c.aim {
+        return over(Stage::No, 0, 0, n);
     }
+    if p.good {
+        return record_or_end(installed, new, n, c.place + 1, c.count);
+    }
+    class_at(installed, new, n, false, 0, c.place, c.count, p.x, c.len)
+}
+
+// The steps have been followed for a class.
+fn classed(installed: &[u8], new: &[u8], n: usize, c: Check, p: Pass) -> Check
+    requires { ⌜ Table 32 (routes (now installed)) × Table 32 (routes (now new)) ⌝ }
+    requires { ⌜ (c .index < n) × (c .len ≤ 32) × (c .place ≤ 1024) ⌝ }
+    ensures { λ r. ⌜ r ≡ classedOf (now (installed .entry)) (now (new .entry)) n c p ⌝ }
+{
+    if p.found != c.aim {
+        return over(Stage::No, 0, 0, n);
+    }
+    if p.good {
+        return go_on(installed, new, n, c.fresh, c.index, c.place, c.count);
+    }
+    cover_at(
+        installed,
+        new,
+        n,
+        c.fresh,
+        c.index,
+        c.place,
+        c.count,
+        p.x,
+        c.len,
+    )
+}
+
+// Is y, behind x, still in the prefix of this length that holds x?
+fn remains(x: u32, y: u32, len: u8) -> bool
+    ensures { λ r. ⌜ r ≡ remainsOf x y len ⌝ }
+{
+    if x < y {
+        masked(y, len) == masked(x, len)
+    } else {
+        false
+    }
+}
+
+// A longer prefix has been looked for at an address of a class: without one the class has that address.
+fn covering(installed: &[u8], new: &[u8], n: usize, c: Check, p: Pass) -> Check
+    requires { ⌜ Table 32 (routes (now installed)) × Table 32 (routes (now new)) ⌝ }
+    requires { ⌜ (c .index < n) × (c .len ≤ 32) × (c .place ≤ 1024) ⌝ }
+    ensures { λ r. ⌜ r ≡ coveringOf (now (installed .entry)) (now (new .entry)) n c p ⌝ }
+{
+    if 32 < p.found {
+        return over(Stage::No, 0, 0, n);
+    }
+    let y = behind(masked(p.x, p.found), p.found);
+    if remains(p.x, y, c.len) {
+        return cover_at(
+            installed,
+            new,
+            n,
+            c.fresh,
+            c.index,
+            c.place,
+            c.count,
+            y,
+            c.len,
+        );
+    }
+    go_on(installed, new, n, c.fresh, c.index, c.place, c.count)
 }
 
 // The check goes on: `p` is how following the steps came out, and the step that it asked for is shown to it.
@@ -429,88 +730,17 @@ pub fn see(
     len: u8,
     hop: u8,
 ) -> Check
-    requires { ⌜ (Table 32 (routes (now installed)) × Table 32 (routes (now new))) × MaySee n c len ⌝ }
+    requires { ⌜ (Table 32 (routes (now installed)) × Table 32 (routes (now new))) × MaySee n c ⌝ }
     ensures { λ r. ⌜ r ≡ seenOf (now (installed .entry)) (now (new .entry)) n c p (puts put) addr len hop ⌝ }
 {
-    if !p.good {
-        return over(Stage::No, 0, 0, n);
-    }
-    let at = c.len as usize;
     let stage = c.stage;
     match stage {
-        Stage::Judging => judged(
-            installed,
-            new,
-            n,
-            c.index,
-            c.count,
-            c.strict,
-            put != 0,
-            addr,
-            len,
-            hop,
-        ),
-        Stage::AtZero => pass_at(
-            installed,
-            new,
-            Stage::ToStep,
-            c.index,
-            0,
-            c.count,
-            c.index,
-            masked(addr, len),
-            len,
-            put != 0,
-        ),
-        Stage::Picking => pass_at(
-            installed,
-            new,
-            Stage::ToStep,
-            c.index,
-            0,
-            c.count,
-            c.index,
-            masked(addr, len),
-            len,
-            put != 0,
-        ),
+        Stage::Judging => judged(n, c.index, c.count, c.strict, put != 0, addr, len, hop),
+        Stage::Picking => seek_at(c.index, c.count, masked(addr, len), len),
         Stage::ToStep => met(installed, new, n, c, p, put != 0),
-        Stage::FromStep => {
-            if p.hops[at] != c.aim {
-                return over(Stage::No, 0, 0, n);
-            }
-            pass_at(
-                installed,
-                new,
-                Stage::AtStepEnd,
-                c.index,
-                0,
-                c.count,
-                n,
-                behind(p.x, c.len),
-                c.len,
-                false,
-            )
-        }
-        Stage::AtStepEnd => step_or_record(installed, new, n, c.index, c.count),
-        Stage::AtRecordStart => {
-            if p.hops[at] != c.aim {
-                return over(Stage::No, 0, 0, n);
-            }
-            pass_at(
-                installed,
-                new,
-                Stage::AtRecordEnd,
-                0,
-                c.place,
-                c.count,
-                n,
-                behind(p.x, c.len),
-                c.len,
-                false,
-            )
-        }
-        Stage::AtRecordEnd => record_or_end(installed, new, n, c.place + 1, c.count),
+        Stage::AtOwn => kept_own(installed, new, n, c, p),
+        Stage::AtClass => classed(installed, new, n, c, p),
+        Stage::Covering => covering(installed, new, n, c, p),
         Stage::Yes => over(Stage::No, 0, 0, n),
         Stage::No => over(Stage::No, 0, 0, n),
         Stage::Refused => over(Stage::No, 0, 0, n),

@@ -24,16 +24,15 @@ use Rattle.steps.proofs.Entries.{and-true}
 use Rattle.plans.specs.declared.answers.Step.{Step}
 use Rattle.plans.specs.declared.answers.Judged.{Judged}
 use Rattle.plans.specs.declared.answers.Judged.the-variants as judged
-use Rattle.checking.specs.declared.Stage.the-variants.{Yes, No, Refused, AtZero}
+use Rattle.checking.specs.declared.Stage.the-variants.{Yes, No, Refused}
 use Rattle.checking.specs.declared.Check.{Check}
-use Rattle.checking.specs.Passes.{puts, emptyPass}
+use Rattle.checking.specs.Passes.{puts}
 use Rattle.plans.specs.Following.{stepAt, followedOf, MayFollow}
-use Rattle.checking.specs.Checking.{sameFrom, unchangedOf, MaySee, overOf, judgingOf, passOf, seenOf, begunBy, begunOf}
+use Rattle.checking.specs.Checking.{sameFrom, unchangedOf, MaySee, overOf, judgingOf, pickingOf, seenOf, begunBy, begunOf}
 use Rattle.plans.specs.Following.{verdictOf}
 use Rattle.plans.specs.Judging.{stepOf, checkRules, Accepts, Judges}
-use Rattle.plans.proofs.Followed.{followed-none}
 use Rattle.plans.proofs.Rules.{kept, old-refused, new-refused, all-kept, step-refused}
-use Rattle.plans.proofs.Deciding.{Fine, lawful, lawful′, rank, Going, zero-next, goes, falls, going-follow, going-see, going-end}
+use Rattle.plans.proofs.Deciding.{Fine, lawful, lawful′, rank, Going, pick-next, goes, falls, going-follow, going-see, going-end}
 
 -- ---- No steps.
 
@@ -154,10 +153,10 @@ module _ (form : Form) (t u : List ℕ) (ss : List Step) (bt : Bytes t) (bu : By
   found-next (same-tables e h) lt small = absurd (omega arith)
   found-next (other-tables e h) lt small = absurd (omega arith)
   found-next (going valid valid′ fine g) lt small = going valid valid′ fine (goes form t u ss bt bu valid valid′ fine g lt)
-  found-next (judging {i = i} e f h fine) lt small = rw (sym (followed-none ss emptyPass 0)) (go (kept form (stepAt ss i)) refl)
+  found-next (judging {i = i} e f h fine) lt small = go (kept form (stepAt ss i)) refl
     where
       go : (b : Bool) → kept form (stepAt ss i) ≡ b
-          → Found (cond b (cond (ltb (i + 1) n) (judgingOf (i + 1) (length (routes t)) (form .strict)) (passOf t u AtZero 0 0 (length (routes t)) n 0 0 false)) (overOf Refused 13 i n))
+          → Found (cond b (cond (ltb (i + 1) n) (judgingOf (i + 1) (length (routes t)) (form .strict)) (pickingOf 0 (length (routes t)))) (overOf Refused 13 i n))
       go false q = refused (step-refused form t u ss true e f i h (λ j l. fine j l .0) q)
       go true q = pick (ltb (i + 1) n) refl
         where
@@ -166,31 +165,35 @@ module _ (form : Form) (t u : List ℕ) (ss : List Step) (bt : Bytes t) (bu : By
           more j (inr y) = fine j (omega arith)
 
           pick : (b : Bool) → ltb (i + 1) n ≡ b
-              → Found (cond b (judgingOf (i + 1) (length (routes t)) (form .strict)) (passOf t u AtZero 0 0 (length (routes t)) n 0 0 false))
+              → Found (cond b (judgingOf (i + 1) (length (routes t)) (form .strict)) (pickingOf 0 (length (routes t))))
           pick true y = judging e f (ltb-true (i + 1) n y) (λ j l. more j (eq-or-lt-of-le l))
           pick false y =
               let z : i + 1 ≡ n = omega (arith, ltb-false (i + 1) n y) in
-              going e f (λ j l. more j (eq-or-lt-of-le (omega arith))) (zero-next (omega arith))
+              going e f (λ j l. more j (eq-or-lt-of-le (omega arith))) (pick-next {i = 0} (omega arith)
+              (record { able = λ j l. absurd (omega arith); small = λ j le. few j le; classed = λ j l. absurd (omega arith) }))
+            where
+              few : (j : ℕ) → j ≤ 0 → length (after j (map stepOf ss) (routes t)) ≤ 1024
+              few j le = let q : j ≡ 0 = omega arith in rw q (lawful form t u ss bt bu e f .few)
 
   pub found-falls : {c : Check} → Found c → c .index < n → rank form t u ss bt bu (afterIt c) < rank form t u ss bt bu c
   found-falls (refused e) lt = absurd (omega arith)
   found-falls (same-tables e h) lt = absurd (omega arith)
   found-falls (other-tables e h) lt = absurd (omega arith)
   found-falls (going valid valid′ fine g) lt = falls form t u ss bt bu valid valid′ fine g lt
-  found-falls (judging {i = i} e f h fine) lt = rw (sym (followed-none ss emptyPass 0)) (go (kept form (stepAt ss i)) (ltb (i + 1) n))
+  found-falls (judging {i = i} e f h fine) lt = go (kept form (stepAt ss i)) (ltb (i + 1) n)
     where
-      go : (b c : Bool) → rank form t u ss bt bu (cond b (cond c (judgingOf (i + 1) (length (routes t)) (form .strict)) (passOf t u AtZero 0 0 (length (routes t)) n 0 0 false)) (overOf Refused 13 i n))
+      go : (b c : Bool) → rank form t u ss bt bu (cond b (cond c (judgingOf (i + 1) (length (routes t)) (form .strict)) (pickingOf 0 (length (routes t)))) (overOf Refused 13 i n))
           < rank form t u ss bt bu (judgingOf i (length (routes t)) (form .strict))
       go false c = omega arith
       go true false = omega arith
       go true true = omega arith
 
-  pub found-follow : {c : Check} → Found c → c .index < n → MayFollow ss (c .from) (c .to) (c .pass)
+  pub found-follow : {c : Check} → Found c → c .index < n → MayFollow ss (c .from) (c .to)
   found-follow (refused e) lt = absurd (omega arith)
   found-follow (same-tables e h) lt = absurd (omega arith)
   found-follow (other-tables e h) lt = absurd (omega arith)
   found-follow (going valid valid′ fine g) lt = going-follow form t u ss bt bu valid valid′ fine g lt
-  found-follow (judging e f h fine) lt = record { low = omega arith; high = omega arith; short = λ j ge l. absurd (omega arith); top-short = omega arith }
+  found-follow (judging e f h fine) lt = record { low = omega arith; high = omega arith; short = λ j ge l. absurd (omega arith) }
 
   pub found-tables : {c : Check} → Found c → c .index < n → Table 32 (routes t) × Table 32 (routes u)
   found-tables (refused e) lt = absurd (omega arith)
@@ -199,13 +202,13 @@ module _ (form : Form) (t u : List ℕ) (ss : List Step) (bt : Bytes t) (bu : By
   found-tables (going valid valid′ fine g) lt = (lawful form t u ss bt bu valid valid′ .table, lawful′ form t u ss bt bu valid valid′ .table)
   found-tables (judging e f h fine) lt = (lawful form t u ss bt bu e f .table, lawful′ form t u ss bt bu e f .table)
 
-  pub found-see : {c : Check} → Found c → c .index < n → MaySee n c (stepAt ss (c .index) .len)
+  pub found-see : {c : Check} → Found c → c .index < n → MaySee n c
   found-see (refused e) lt = absurd (omega arith)
   found-see (same-tables e h) lt = absurd (omega arith)
   found-see (other-tables e h) lt = absurd (omega arith)
   found-see (going valid valid′ fine g) lt = going-see form t u ss bt bu valid valid′ fine g lt
   found-see (judging e f h fine) lt =
-      record { in-steps = lt; in-records = omega arith; in-lengths = omega arith; few = lawful form t u ss bt bu e f .few; short = inl refl }
+      record { in-steps = lt; in-records = omega arith; in-lengths = omega arith; few = lawful form t u ss bt bu e f .few }
 
   answers-yes : (r : Judged) → r ≡ judged.Yes → judge rules true ≡ gives true → Accepts t u ss → Judges form t u ss r
   answers-yes r e k h = rw e (record { word = true; answer = sym k; exactly = λ g. (λ y. h, λ y. refl) })

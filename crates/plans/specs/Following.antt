@@ -5,7 +5,7 @@ use mathlib.Core.List.{List}
 use lib.ListN.{length, getD}
 use Rattle.words.specs.Prefix.{agree}
 use Rattle.checking.specs.declared.Stage.{Stage}
-use Rattle.checking.specs.declared.Stage.the-variants.{Yes, No, Refused, Judging, AtZero, Picking, ToStep, FromStep, AtStepEnd, AtRecordStart, AtRecordEnd}
+use Rattle.checking.specs.declared.Stage.the-variants.{Yes, No, Refused, Judging, Picking, ToStep, AtOwn, AtClass, Covering}
 use Rattle.checking.specs.declared.Pass.{Pass}
 use Rattle.checking.specs.declared.Check.{Check}
 use Rattle.checking.specs.Passes.{puts, passedOf}
@@ -27,11 +27,10 @@ followedOf ss p from zero = p
 followedOf ss p from (suc k) = nextOf (followedOf ss p from k) (stepAt ss (from + k))
 
 -- What following the steps from..to asks: they are steps of the list, of lengths up to 32.
-pub record MayFollow (ss : List Step) (from to : ℕ) (p : Pass) : Type 0 where
+pub record MayFollow (ss : List Step) (from to : ℕ) : Type 0 where
   pub low : from ≤ to
   pub high : to ≤ length ss
   pub short : (j : ℕ) → from ≤ j → j < to → stepAt ss j .len ≤ 32
-  pub top-short : p .top ≤ 32
 
 -- What a check says.
 abbrev pub verdictBy : Stage → Check → Judged
@@ -39,13 +38,11 @@ verdictBy Yes c = judged.Yes
 verdictBy No c = judged.No
 verdictBy Refused c = judged.Refused (c .number) (c .place)
 verdictBy Judging c = judged.No
-verdictBy AtZero c = judged.No
 verdictBy Picking c = judged.No
 verdictBy ToStep c = judged.No
-verdictBy FromStep c = judged.No
-verdictBy AtStepEnd c = judged.No
-verdictBy AtRecordStart c = judged.No
-verdictBy AtRecordEnd c = judged.No
+verdictBy AtOwn c = judged.No
+verdictBy AtClass c = judged.No
+verdictBy Covering c = judged.No
 
 abbrev pub verdictOf : Check → Judged
 verdictOf c = verdictBy (c .stage) c

@@ -19,7 +19,7 @@ ghost use Rattle.plans.specs.Judging.{Judges};
 
 // Follows the steps from..to at the address of a pass.
 fn follow(steps: &[Step], from: usize, to: usize, pass: Pass) -> Pass
-    requires { ⌜ MayFollow (now steps) from to pass ⌝ }
+    requires { ⌜ MayFollow (now steps) from to ⌝ }
     ensures { λ r. ⌜ r ≡ followedOf (now (steps .entry)) pass from (to - from) ⌝ }
 {
     let mut p = pass;
@@ -47,13 +47,11 @@ fn verdict(c: Check) -> Judged
         },
         Stage::No => Judged::No,
         Stage::Judging => Judged::No,
-        Stage::AtZero => Judged::No,
         Stage::Picking => Judged::No,
         Stage::ToStep => Judged::No,
-        Stage::FromStep => Judged::No,
-        Stage::AtStepEnd => Judged::No,
-        Stage::AtRecordStart => Judged::No,
-        Stage::AtRecordEnd => Judged::No,
+        Stage::AtOwn => Judged::No,
+        Stage::AtClass => Judged::No,
+        Stage::Covering => Judged::No,
     }
 }
 

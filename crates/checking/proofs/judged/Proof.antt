@@ -1,7 +1,6 @@
 -- `checking::judged` meets its contract. Assumes nothing.
-use borrow.Author.Tests.{not-true, not-false}
-use borrow.Author.Tests.{lt-ltb, le-ltb}
 use mathlib.Core.Path.{sym, _∙_}
+use borrow.Author.Tests.{lt-ltb, le-ltb, not-true, not-false}
 use borrow.Author.Needs.{needs}
 use Rattle.checking.proofs.judged.Statement.{statement}
 use Rattle.checking.proofs.judged.Tie as tie
@@ -24,11 +23,11 @@ judging-requires c κs = search needs
 returns-2 : tie.Need-returns-2
 returns-2 c = rw (sym (c .before .before .before .step-kept .ensures) ∙ not-false _ (c .before .before .if1 .left), lt-ltb _ _ (c .before .if2 .taken)) (c .judging .ensures)
 
-pass-at-requires : tie.Need-pass-at-requires
-pass-at-requires c κs = search needs
+picking-requires : tie.Need-picking-requires
+picking-requires c κs = search needs
 
 returns-3 : tie.Need-returns-3
-returns-3 c = rw (sym (c .before .before .before .step-kept .ensures) ∙ not-false _ (c .before .before .if1 .left), le-ltb _ _ (c .before .if2 .left)) (c .pass-at .ensures)
+returns-3 c = rw (sym (c .before .before .before .step-kept .ensures) ∙ not-false _ (c .before .before .if1 .left), le-ltb _ _ (c .before .if2 .left)) (c .picking .ensures)
 
 pub judged-spec : {M : Type 1} → statement M
 judged-spec =
@@ -40,5 +39,5 @@ judged-spec =
     add-next
     judging-requires
     returns-2
-    pass-at-requires
+    picking-requires
     returns-3)

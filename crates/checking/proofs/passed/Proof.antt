@@ -1,48 +1,65 @@
 -- `checking::passed` meets its contract. Assumes nothing.
-use mathlib.Core.Bool.{true, false}
-use mathlib.Core.Path.{sym, _∙_}
-use native.Mathlib.Omega.{arith}
-use Rattle.rungs.proofs.Rows.{top-low}
-use lib.ListN.{set}
 use Rattle.checking.specs.Passes.{puts}
-use Rattle.checking.proofs.Stepping.{longer-short, passed-is}
+use Rattle.checking.proofs.Stepping.{passed-answers, passed-own}
+use mathlib.Core.Path.{sym, _∙_}
+use borrow.Author.Tests.{lt-ltb, le-ltb, eq-eqb, ne-eqb}
 use borrow.Author.Needs.{needs}
 use Rattle.checking.proofs.passed.Statement.{statement}
 use Rattle.checking.proofs.passed.Tie as tie
 
+enum-told : tie.Need-enum-told
+enum-told c = search needs
+
+returns : tie.Need-returns
+returns c = rw (c .before .before .enum-told .given .1, lt-ltb _ _ (c .if1 .taken))
+
+answered-requires : tie.Need-answered-requires
+answered-requires c κs = search needs
+
+enum-told-2 : tie.Need-enum-told-2
+enum-told-2 c = search needs
+
+returns-2 : tie.Need-returns-2
+returns-2 c = rw (c .before .before .enum-told2 .given .1, ne-eqb _ _ (c .if2 .taken))
+
 left-requires : tie.Need-left-requires
 left-requires c κs = search needs
 
-element-write-p : tie.Need-element-write-p
-element-write-p c = search needs
+owned-requires : tie.Need-owned-requires
+owned-requires c κs = search needs
 
-longer-requires : tie.Need-longer-requires
-longer-requires c κs = search needs
+enum-told-3 : tie.Need-enum-told-3
+enum-told-3 c = search needs
 
-top-from-requires : tie.Need-top-from-requires
-top-from-requires c κs = let a = c .before .before .before .before .args in let z = longer-short (a .pass .top) (a .len) (c .before .before .before .before .pre .1) (c .before .before .before .before .pre .0) in omega (arith, c .longer .ensures)
+nearer-requires : tie.Need-nearer-requires
+nearer-requires c κs = search needs
 
-element-copy-out-one-of : tie.Need-element-copy-out-one-of
-element-copy-out-one-of c = let z = c .before .longer .ensures in omega (arith, c .top-from .ensures, top-low (set (c .before .before .before .before .before .args .pass .hops) (c .before .before .before .before .before .args .len) (c .before .before .before .before .left .result)) (c .before .longer .result), longer-short (c .before .before .before .before .before .args .pass .top) (c .before .before .before .before .before .args .len) (c .before .before .before .before .before .pre .1) (c .before .before .before .before .before .pre .0))
+returns-3 : tie.Need-returns-3
+returns-3 c = let a = c .before .before .before .before .before .args in c .answered .ensures ∙ passed-answers (a .pass) (puts (a .put)) (a .len) (a .hop) (c .before .before .before .enum-told .given .1) (le-ltb _ _ (c .before .if1 .left))
 
-one-of-requires : tie.Need-one-of-requires
-one-of-requires c κs = search needs
+returns-4 : tie.Need-returns-4
+returns-4 c = let a = c .before .before .before .before .before .before .args in (rw (c .before .left .ensures) at (c .owned .ensures)) ∙ passed-own (a .pass) (puts (a .put)) (a .len) (a .hop) (c .before .before .before .before .enum-told2 .given .1) (eq-eqb _ _ (c .before .before .if2 .left))
 
-returns : tie.Need-returns
-returns c = let a = c .before .before .before .before .before .before .before .before .args in passed-is (a .pass) (puts (a .put)) (a .len) (a .hop) (c .before .before .before .before .before .before .before .left .result) (c .before .before .before .before .longer .result) (c .before .before .before .top-from .result) true (c .before .before .before .before .before .before .before .left .ensures) (c .before .before .before .before .longer .ensures) (c .before .before .before .top-from .ensures) (sym (c .if1 .taken) ∙ c .before .one-of .ensures)
+returns-5 : tie.Need-returns-5
+returns-5 c = rw (c .before .before .enum-told3 .given .1, sym (c .before .nearer .ensures) ∙ c .if3 .taken)
 
-returns-2 : tie.Need-returns-2
-returns-2 c = let a = c .before .before .before .before .before .before .before .before .args in passed-is (a .pass) (puts (a .put)) (a .len) (a .hop) (c .before .before .before .before .before .before .before .left .result) (c .before .before .before .before .longer .result) (c .before .before .before .top-from .result) false (c .before .before .before .before .before .before .before .left .ensures) (c .before .before .before .before .longer .ensures) (c .before .before .before .top-from .ensures) (sym (c .if1 .left) ∙ c .before .one-of .ensures)
+returns-6 : tie.Need-returns-6
+returns-6 c = rw (c .before .before .enum-told3 .given .1, sym (c .before .nearer .ensures) ∙ c .if3 .left)
 
 pub passed-spec : {M : Type 1} → statement M
 passed-spec =
     tie.close
     (tie.spec
-    left-requires
-    element-write-p
-    longer-requires
-    top-from-requires
-    element-copy-out-one-of
-    one-of-requires
+    enum-told
     returns
-    returns-2)
+    answered-requires
+    enum-told-2
+    returns-2
+    left-requires
+    owned-requires
+    enum-told-3
+    nearer-requires
+    returns-3
+    returns-4
+    returns-5
+    returns-6)

@@ -1,23 +1,14 @@
 -- `checking::record_or_end` meets its contract. Assumes nothing.
-use mathlib.Core.Path.{ap, ap₂, _∙_}
-use Rattle.checking.proofs.Stepping.{short-at}
-use native.Mathlib.Omega.{arith}
 use borrow.Author.Tests.{lt-ltb, le-ltb, eq-eqb, ne-eqb}
 use borrow.Author.Needs.{needs}
 use Rattle.checking.proofs.record_or_end.Statement.{statement}
 use Rattle.checking.proofs.record_or_end.Tie as tie
 
-addr-at-requires : tie.Need-addr-at-requires
-addr-at-requires c κs = search needs
-
-len-at-requires : tie.Need-len-at-requires
-len-at-requires c κs = search needs
-
-pass-at-requires : tie.Need-pass-at-requires
-pass-at-requires c κs = let s = c .before .before .before .before .before in (s .pre, rw (c .len-at .ensures) (short-at (s .args .installed .now) (s .args .place) (s .pre .0) (c .before .before .if1 .taken)))
+own-at-requires : tie.Need-own-at-requires
+own-at-requires c κs = search needs
 
 returns : tie.Need-returns
-returns c = rw (lt-ltb _ _ (c .before .before .before .if1 .taken)) (rw (c .before .before .addr-at .ensures, c .before .len-at .ensures) at (c .pass-at .ensures))
+returns c = rw (lt-ltb _ _ (c .before .if1 .taken)) (c .own-at .ensures)
 
 over-requires : tie.Need-over-requires
 over-requires c κs = search needs
@@ -33,13 +24,4 @@ returns-3 c = rw (le-ltb _ _ (c .before .before .if1 .left), ne-eqb _ _ (c .befo
 
 pub record-or-end-spec : {M : Type 1} → statement M
 record-or-end-spec =
-    tie.close
-    (tie.spec
-    addr-at-requires
-    len-at-requires
-    pass-at-requires
-    returns
-    over-requires
-    returns-2
-    over-requires-2
-    returns-3)
+    tie.close (tie.spec own-at-requires returns over-requires returns-2 over-requires-2 returns-3)

@@ -52,7 +52,7 @@ use Rattle.plans.specs.declared.answers.Step.{Step}
 use Rattle.checking.specs.declared.Pass.{Pass}
 use Rattle.checking.specs.Passes.{puts, passedOf}
 use Rattle.plans.specs.Following.{stepAt, followedOf, MayFollow}
-use Rattle.plans.proofs.Followed.{followed-none, followed-holds, followed-other, followed-top}
+use Rattle.plans.proofs.Followed.{followed-none, followed-holds, followed-other}
 use Rattle.plans.proofs.answers.Step as S
 use Rattle.plans.proofs.answers.Step.Laws as S′
 use Rattle.checking.proofs.Pass as T
@@ -113,7 +113,7 @@ pass-val p = LL.val T.the-type T′.the-laws p
 abbrev IsPass : Pass → Type 0
 IsPass p = Is T.the-row p (pass-val p ∷ [])
 
-module _ {M : Type 1} (𝓤 : URA M) (H : Heap 𝓤) (A : Atoms 𝓤) (W : Given 𝓤 H A) (at-mem : Memory → SProp 𝓤) (run : Routine → Fun 𝓤) (κ : Lft) (q : Share) (b o : ℕ) (γ : GName) (ys : List Step) (lo hi : ℕ) (p₀ : Pass) (lo-fits : lo < 2 ^ 64) (hi-fits : hi < 2 ^ 64) (p₀-is : IsPass p₀) (space : Room S.the-row (length ys)) (may : MayFollow ys lo hi p₀) where
+module _ {M : Type 1} (𝓤 : URA M) (H : Heap 𝓤) (A : Atoms 𝓤) (W : Given 𝓤 H A) (at-mem : Memory → SProp 𝓤) (run : Routine → Fun 𝓤) (κ : Lft) (q : Share) (b o : ℕ) (γ : GName) (ys : List Step) (lo hi : ℕ) (p₀ : Pass) (lo-fits : lo < 2 ^ 64) (hi-fits : hi < 2 ^ 64) (p₀-is : IsPass p₀) (space : Room S.the-row (length ys)) (may : MayFollow ys lo hi) where
   abbrev x : RefT (List Step)
   x = record { ptr = (b, o); name = γ; now = ys }
 
@@ -169,9 +169,6 @@ module _ {M : Type 1} (𝓤 : URA M) (H : Heap 𝓤) (A : Atoms 𝓤) (W : Given
   short : (k : ℕ) → lo + k < hi → e k .len ≤ 32
   short k lt = may .short (lo + k) (omega arith) lt
 
-  top-short : (k : ℕ) → lo + k ≤ hi → P k .top ≤ 32
-  top-short k le = followed-top ys p₀ lo k (may .top-short) (λ j ge lt. may .short j ge (omega arith))
-
   goes-holds : (k : ℕ) → lo + k < hi → Is-e k → IsPass (P k) → ent 𝓤 (sem 𝓤 H A ftrue) (HoldsC 𝓤 H A at-mem run .pre (to-holds k))
   goes-holds k lt g is =
       let fields = LL.owed S.the-type S′.the-laws (e k) _ g in
@@ -182,7 +179,7 @@ module _ {M : Type 1} (𝓤 : URA M) (H : Heap 𝓤) (A : Atoms 𝓤) (W : Given
   goes-passed : (k : ℕ) → lo + k < hi → Is-e k → IsPass (P k) → ent 𝓤 (sem 𝓤 H A ftrue) (PassedC 𝓤 H A at-mem run .pre (to-passed k))
   goes-passed k lt g is =
       let fields = LL.owed S.the-type S′.the-laws (e k) _ g in
-      qed W (‵ ftrue ∷ []) ∵ says ! (short k lt, top-short k (omega arith)) $ frame ! $ nothing ! $ owned ! u8 (Is u8) (uint-makes 𝓤 H A W w8) (e k .hop) _ (refl, fields .1 .1 .0 .1) $ fjoin ! $
+      qed W (‵ ftrue ∷ []) ∵ says ! (short k lt) $ frame ! $ nothing ! $ owned ! u8 (Is u8) (uint-makes 𝓤 H A W w8) (e k .hop) _ (refl, fields .1 .1 .0 .1) $ fjoin ! $
       owned ! u8 (Is u8) (uint-makes 𝓤 H A W w8) (e k .len) _ (refl, fields .1 .0 .1) $ fjoin ! $ owned ! u8 (Is u8) (uint-makes 𝓤 H A W w8) (e k .put) _ (refl, fields .1 .1 .1 .0 .1) $ fjoin ! $
       owned ! T.the-row (Is T.the-row) ((LL.makes T.the-type T′.the-plain) 𝓤 H A) (P k) _ is $ fjoin ! $ done !
 
@@ -351,7 +348,7 @@ module _ {M : Type 1} (𝓤 : URA M) (H : Heap 𝓤) (A : Atoms 𝓤) (W : Given
   follow-walks : Walks 𝓤 H A f.ended stayed (WpFn 𝓤 H (𝓣 .C) (𝓣 .Λ) code.function) (f.clauses 𝓤 H A mem run)
   follow-walks = walked 𝓤 H A f.ended stayed (f.clauses 𝓤 H A mem run) (WpFn 𝓤 H (𝓣 .C) (𝓣 .Λ) code.function)
       (λ κs. (slice-vals, (uint-vals w64, (uint-vals w64, (LL.vals T.the-type T′.the-laws, tt))))) (λ κs. (shr-slice-tells (named 0) (κs .0) S.the-row, (uint-tells w64, (uint-tells w64, (LL.tells T.the-type T′.the-laws, tt)))))
-      (λ κs qs bounds a g are. needs 𝓤 (MayFollow (a .0 .now) (a .1 .0) (a .1 .1 .0) (a .1 .1 .1 .0)) _ (λ may.
+      (λ κs qs bounds a g are. needs 𝓤 (MayFollow (a .0 .now) (a .1 .0) (a .1 .1 .0)) _ (λ may.
       walk 𝓤 H A W mem run (κs .0) (qs .0) (a .0 .ptr .0) (a .0 .ptr .1) (a .0 .name) (a .0 .now) (a .1 .0) (a .1 .1 .0) (a .1 .1 .1 .0) (are .1 .0 .1) (are .1 .1 .0 .1) (are .1 .1 .1 .0) (are .0 .0 .1) may 𝓣 (fmOf 𝓤 H (W .laws) 𝓣) known known₂))
 
   follow-meets : Meets 𝓤 H A f.signature (WpFn 𝓤 H (𝓣 .C) (𝓣 .Λ) code.function) (f.spec 𝓤 H A mem run)

@@ -30,12 +30,6 @@ enum-told-8 c = search needs
 enum-told-9 : tie.Need-enum-told-9
 enum-told-9 c = search needs
 
-enum-told-10 : tie.Need-enum-told-10
-enum-told-10 c = search needs
-
-enum-told-11 : tie.Need-enum-told-11
-enum-told-11 c = search needs
-
 returns : tie.Need-returns
 returns c = rw (c .enum-told .given .1)
 
@@ -63,12 +57,6 @@ returns-8 c = rw (c .enum-told8 .given .1)
 returns-9 : tie.Need-returns-9
 returns-9 c = rw (c .enum-told9 .given .1)
 
-returns-10 : tie.Need-returns-10
-returns-10 c = rw (c .enum-told10 .given .1)
-
-returns-11 : tie.Need-returns-11
-returns-11 c = rw (c .enum-told11 .given .1)
-
 pub verdict-spec : {M : Type 1} → statement M
 verdict-spec =
     tie.close
@@ -82,8 +70,6 @@ verdict-spec =
     enum-told-7
     enum-told-8
     enum-told-9
-    enum-told-10
-    enum-told-11
     returns
     returns-2
     returns-3
@@ -93,5 +79,4 @@ verdict-spec =
     returns-7
     returns-8
     returns-9
-    returns-10
-    returns-11)
+    )

@@ -13,6 +13,8 @@ use Rattle.theory.specs.Routes.{Route}
 use Rattle.records.specs.Wire.{recordOf, bytesOf}
 use Rattle.records.specs.Sized.{route, laid, bytesIn}
 use Rattle.records.proofs.Laid.{laid-none, length-laid, take-laid, drop-laid}
+use Rattle.records.proofs.Reading.{eight}
+use Rattle.records.proofs.SizedWritten.{length-record}
 use Rattle.tabletext.specs.Reading.{Reading, Written, Reads, linesIn, unmarked, ends, before, withLine, readLines, says, readInto, stored, storedBytes, storedNumbers}
 use Rattle.tabletext.specs.declared.Reason.{Reason}
 use Rattle.tabletext.specs.declared.Reason.the-variants.{TooMany}
@@ -44,8 +46,9 @@ record-on : (n : ℕ) (r : Route) (rs : List Route) (o : List ℕ) → 8 * n + 8
     → laid (8 * n) (bytesOf (r ∷ rs)) o ≡ laid (8 * (n + 1)) (bytesOf rs) (laid (8 * n) (recordOf r) o)
 unfolding bytesIn
 record-on n r rs o fits =
-    let e : 8 * n + 8 ≡ 8 * (n + 1) = omega arith in
-    laid-on (8 * n) (recordOf r) (bytesOf rs) o fits ∙ ap (λ (j : ℕ). laid j (bytesOf rs) (laid (8 * n) (recordOf r) o)) e
+    let size = length-record 8 eight r in
+    let e : 8 * n + length (recordOf r) ≡ 8 * (n + 1) = omega arith in
+    laid-on (8 * n) (recordOf r) (bytesOf rs) o (omega arith) ∙ ap (λ (j : ℕ). laid j (bytesOf rs) (laid (8 * n) (recordOf r) o)) e
 
 one : (n k : ℕ) (o : List ℕ) → n < length o → set o n k ≡ laid n (k ∷ []) o
 unfolding laid
@@ -138,7 +141,10 @@ module _ (n k : ℕ) (out lines : List ℕ) (wide : 8192 ≤ length out) where
   stored-bytes-length (Record addr len hop) = go (ltb n 1024) refl
     where
       go : (t : Bool) → ltb n 1024 ≡ t → length (cond t (laid (8 * n) (recordOf (route addr len hop)) out) out) ≡ length out
-      go true e = let low = ltb-true n 1024 e in length-laid (8 * n) (recordOf (route addr len hop)) out (omega arith)
+      go true e =
+          let low = ltb-true n 1024 e in
+          let size = length-record 8 eight (route addr len hop) in
+          length-laid (8 * n) (recordOf (route addr len hop)) out (omega arith)
       go false e = refl
   stored-bytes-length (Wrong why) = refl
 

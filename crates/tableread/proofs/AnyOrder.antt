@@ -10,8 +10,10 @@ use lib.ListN.{length, getD, take, drop}
 use lib.Seq.{getD-append-add}
 use Rattle.theory.specs.Routes.{Route}
 use Rattle.records.specs.Wire.{recordOf, bytesOf}
-use Rattle.records.specs.Sized.{laid, bytesIn}
+use Rattle.records.specs.Sized.{laid, octetsOf, recordIn, bytesIn}
 use Rattle.records.proofs.Laid.{length-laid}
+use Rattle.records.proofs.Reading.{eight}
+use Rattle.records.proofs.SizedWritten.{length-record}
 use Rattle.records.proofs.Written.{length-bytes}
 use Rattle.tabletext.specs.Reading.{ends, says, readInto, Written, Reads}
 use Rattle.tabletext.specs.declared.Read.{Read}
@@ -30,7 +32,7 @@ shift : (r : Route) (s : List ℕ) (i : ℕ) → recordAt (recordOf r ++ s) (suc
 shift r s i =
     record-same (recordOf r ++ s) s (suc i) i
     (λ k low.
-    let e : 8 * suc i + k ≡ 8 + (8 * i + k) = omega arith in
+    let e : 8 * suc i + k ≡ length (recordOf r) + (8 * i + k) = omega (arith, length-record 8 eight r) in
     ap (λ (m : ℕ). getD (recordOf r ++ s) m 0) e ∙ getD-append-add (recordOf r) s (8 * i + k) 0)
 
 shifted : (r : Route) (s : List ℕ) (i n : ℕ) → listed (recordAt (recordOf r ++ s)) (suc i) n ≡ listed (recordAt s) i n
@@ -40,7 +42,7 @@ shifted r s i (suc n) = ap₂ (λ (b : List ℕ) (l : List (List ℕ)). b ∷ l)
 
 -- The records of routes are the routes'.
 records-front : (rs : List Route) (s : List ℕ) → recordsOf (bytesOf rs ++ s) (length rs) ≡ map recordOf rs
-unfolding listed bytesIn
+unfolding listed bytesIn recordIn octetsOf
 records-front [] s = refl
 records-front (r ∷ rs) s = ap (λ (l : List (List ℕ)). recordOf r ∷ l) (shifted r (bytesOf rs ++ s) 0 (length rs) ∙ records-front rs s)
 

@@ -7,6 +7,7 @@ use native.Mathlib.Omega.{arith}
 use borrow.Author.Tests.{lt-ltb, le-leb}
 use lib.ListN.{length}
 use Rattle.theory.specs.Routes.{Route, All, nil, cons}
+use Rattle.text.specs.Text as text
 use Rattle.text.specs.Text.{lineOf, linesOf}
 use Rattle.tabletext.specs.Reading.{linesIn, marked, unmarked, Reading, before, withLine, readLines, says, readInto, Written, Reads}
 use Rattle.tabletext.specs.declared.Said.{Said}
@@ -35,7 +36,7 @@ read-record : (hops : Bool) (n k : ℕ) (r : Route) (rest : Reading) (same : Rea
 read-record hops n k r rest same low = rw (lt-ltb n 1024 low)
 
 lines-back : (hops : Bool) (n k : ℕ) (rs : List Route) → All (Held hops) rs → n + length rs ≤ 1024 → readLines hops n k (linesIn (linesOf hops rs)) ≡ back n k rs
-unfolding readLines linesIn linesOf upward
+unfolding readLines linesIn text.linesIn upward
 lines-back hops n k [] nil few = let e : n + 0 ≡ n = omega arith in rw (blank-says-nothing hops none, e)
 lines-back hops n k (r ∷ rs) (cons g gs) few =
     let s = linesOf hops rs in
@@ -51,7 +52,7 @@ lines-back hops n k (r ∷ rs) (cons g gs) few =
 
 -- It begins with no byte order mark.
 unmarked-lines : (hops : Bool) (rs : List Route) → All (Held hops) rs → unmarked (linesOf hops rs) ≡ linesOf hops rs
-unfolding unmarked marked linesOf
+unfolding unmarked marked text.linesIn
 unmarked-lines hops [] nil = refl
 unmarked-lines hops (r ∷ rs) (cons g gs) = line-unmarked hops r g (linesOf hops rs)
 

@@ -9,7 +9,7 @@ use lib.Dec.{leb, eqb}
 use lib.ListN.{length}
 use Rattle.theory.specs.Routes.{Route}
 use Rattle.records.specs.Wire.{join}
-use Rattle.text.specs.Text.{decimal, dotted, hopEnd, lineOf}
+use Rattle.text.specs.Text.{decimal, dotted, hopEnd, addressIn, lineIn, lineOf}
 use Rattle.tabletext.specs.Pieces.{is, upTo, behind, unblank, none, number, joined, address, isDefault, prefixAddress, prefixLength}
 use Rattle.tabletext.specs.Lines.{endOfSet, endOfMap, ofPrefix, ofWords, ofBody, ofLine, said}
 use Rattle.tabletext.specs.Reading.{marked, unmarked}
@@ -155,7 +155,7 @@ abbrev pub bodyOf : Bool → Route → List ℕ
 bodyOf hops r = prefixOf (r .addr) (r .len) ++ hopOf hops (r .hop)
 
 pub line-body : (hops : Bool) (r : Route) → lineOf hops r ≡ bodyOf hops r ++ (10 ∷ [])
-unfolding lineOf hopEnd
+unfolding lineIn addressIn hopEnd
 line-body hops r =
     sym (append-assoc (prefixOf (r .addr) (r .len)) (hopOf hops (r .hop)) (10 ∷ [])
     ∙ append-assoc (dotted (r .addr)) (47 ∷ decimal (r .len)) (hopOf hops (r .hop) ++ (10 ∷ [])))

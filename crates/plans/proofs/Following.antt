@@ -16,7 +16,7 @@ use Rattle.theory.proofs.Blocks.{in→block, aligned-start, in-start}
 use Rattle.theory.proofs.Lists.{all-member}
 use Rattle.words.specs.Prefix.{agree}
 use Rattle.positions.specs.Runs.{noHop, orElse}
-use Rattle.records.specs.Wire.{route}
+use Rattle.records.specs.Sized.{route}
 use Rattle.steps.specs.Steps.{Step as Move, putting, taking, same, entry, apply, after}
 use Rattle.steps.specs.Views.{rung, best}
 use Rattle.steps.proofs.Entries.{and-true, entry-step, entry-member, true-same, same-false}

@@ -11,10 +11,9 @@ use borrow.Author.Tests.{eq-eqb}
 use Rattle.theory.specs.Routes.{hit, miss, longer, under, lookup, none, via}
 use Rattle.words.specs.Prefix.{agree}
 use Rattle.refusals.specs.Rules.{gives, judge}
-use Rattle.records.specs.Wire.{rawAt, routeAt, routes, routesFrom}
-use Rattle.records.specs.declared.Form.{Form}
-use Rattle.table.specs.TableRules.{recordRules, rulesFrom, tableRules}
+use Rattle.records.specs.Wire.{routes}
 use Rattle.records.specs.Sized.{clear, number, rawIn, routeIn, routesFromIn, routesIn}
+use Rattle.records.specs.declared.Form.{Form}
 use Rattle.table.specs.SizedRules.{recordRulesIn, rulesFromIn, tableRulesIn}
 use Rattle.steps.specs.Steps.{after, OldOrNew}
 use Rattle.steps.proofs.Turns.{after-every}

@@ -4,6 +4,7 @@
 // it is safe and ends: no contract can say what was read and what was written, which runs show.
 //
 // There is no memory but the stack, 8 MiB where nobody says otherwise: each kind of case has rooms of its own, which are there only while it is answered.
+// A function with large rooms is called in two places, so that the compiler does not make its rooms those of `main`.
 
 use kept::Turn;
 use kept::bytes_behind;
@@ -33,36 +34,93 @@ ghost use Prim.Native.Nat.{_≤_};
 ghost use lib.ListN.{length};
 ghost use Rattle.kept.specs.Kept.{wordsOf};
 
+// Rooms of zeros. Made by a call, each is to the caller an array of that length and no list of that many zeros.
+fn table_room() -> [u8; 65535] {
+    [0; 65535]
+}
+
+fn kept_room() -> [u8; 262144] {
+    [0; 262144]
+}
+
+fn live_room() -> [u8; 524288] {
+    [0; 524288]
+}
+
+fn list_room() -> [u8; 1048576] {
+    [0; 1048576]
+}
+
+fn list_text_room() -> [u8; 3145764] {
+    [0; 3145764]
+}
+
+fn small_work() -> [u32; 32768] {
+    [0; 32768]
+}
+
+fn large_work() -> [u32; 1807520] {
+    [0; 1807520]
+}
+
 // Reads what stands behind the installed table in a case with call 7 or 8, the new table and, with call 7, so many bytes of steps, and keeps its answer, or
 // the line that ends the run.
-fn steps_turn(head: &[u8; 16], installed: &[u8], size: usize, at: usize, kept: &mut [u8]) -> Turn
+fn steps_turn(
+    head: &[u8; 16],
+    installed: &[u8],
+    new: &mut [u8],
+    steps: &mut [u8],
+    at: usize,
+    kept: &mut [u8],
+) -> Turn
+    requires { ⌜ 65535 ≡ length (now new) ⌝ }
+    requires { ⌜ length (now steps) ≤ 262144 ⌝ }
+    requires { ⌜ at ≤ length (now kept) ⌝ }
+    requires { ⌜ 262144 ≤ length (now kept) ⌝ }
+    ensures { λ r. ⌜ r .at ≤ length (now (kept .entry)) ⌝ }
+{
+    let size = join2(head[8], head[9]);
+    if io::read_full(STDIN_FILENO, &mut new[..size]) < size {
+        return last_line(b"case cut short\n", at, kept);
+    }
+    if call_of(head[0]) == 8 {
+        return Turn {
+            at: plan_turn(head, installed, &new[..size], at, kept),
+            more: true,
+        };
+    }
+    if io::read_full(STDIN_FILENO, steps) < steps.len() {
+        return last_line(b"case cut short\n", at, kept);
+    }
+    Turn {
+        at: check_turn(head, installed, &new[..size], steps, at, kept),
+        more: true,
+    }
+}
+
+// The same with rooms of its own.
+fn plan_rooms(head: &[u8; 16], installed: &[u8], size: usize, at: usize, kept: &mut [u8]) -> Turn
     requires { ⌜ size ≤ 262144 ⌝ }
     requires { ⌜ at ≤ length (now kept) ⌝ }
     requires { ⌜ 262144 ≤ length (now kept) ⌝ }
     ensures { λ r. ⌜ r .at ≤ length (now (kept .entry)) ⌝ }
 {
-    let mut new = [0u8; 65535];
-    let bytes = join2(head[8], head[9]);
-    if io::read_full(STDIN_FILENO, &mut new[..bytes]) < bytes {
-        return last_line(b"case cut short\n", at, kept);
-    }
-    if call_of(head[0]) == 8 {
-        return Turn {
-            at: plan_turn(head, installed, &new[..bytes], at, kept),
-            more: true,
-        };
-    }
-    let mut steps = [0u8; 262144];
-    if io::read_full(STDIN_FILENO, &mut steps[..size]) < size {
-        return last_line(b"case cut short\n", at, kept);
-    }
-    Turn {
-        at: check_turn(head, installed, &new[..bytes], &steps[..size], at, kept),
-        more: true,
-    }
+    let mut new = table_room();
+    let mut steps = kept_room();
+    steps_turn(head, installed, &mut new, &mut steps[..size], at, kept)
 }
 
-// Writes what is kept, and then the lines of commands on a live map of so many words.
+// Writes the lines of commands on a live map of so many words.
+fn live_lines_out(words: usize, commands: &[u8])
+    requires { ⌜ words ≤ 412240 ⌝ }
+    requires { ⌜ length (now commands) ≤ 65535 ⌝ }
+{
+    let mut text = live_room();
+    let end = live_text(commands, words, &mut text);
+    send(&text, end);
+}
+
+// Writes what is kept, and then these.
 fn live_turn(words: usize, commands: &[u8], at: usize, kept: &mut [u8]) -> Turn
     requires { ⌜ length (now commands) ≤ 65535 ⌝ }
     requires { ⌜ at ≤ length (now kept) ⌝ }
@@ -73,34 +131,67 @@ fn live_turn(words: usize, commands: &[u8], at: usize, kept: &mut [u8]) -> Turn
         return last_line(b"work room too large\n", at, kept);
     }
     send(kept, at);
-    let mut text = [0u8; 524288];
-    let end = live_text(commands, words, &mut text);
-    send(&text, end);
+    live_lines_out(words, commands);
     Turn { at: 0, more: true }
 }
 
-// The most bytes of output that are lent to a list.
-fn most_list(first: u8) -> usize
-    ensures { λ r. ⌜ r ≤ 1048576 ⌝ }
+// Writes the text of a list of what has no route, in an output of so many bytes.
+fn list_out(first: u8, bytes: usize, table: &[u8])
+    requires { ⌜ bytes ≤ 1048576 ⌝ }
 {
-    if is_long(first) { 1048576 } else { 262144 }
+    let mut output = list_room();
+    let mut text = list_text_room();
+    let end = list_text(table, form_of(first), &mut output[..bytes], &mut text);
+    send(&text, end);
 }
 
-// Writes what is kept, and then the text of a list of what has no route.
+// Writes what is kept, and then this.
 fn list_turn(first: u8, bytes: usize, table: &[u8], at: usize, kept: &mut [u8]) -> Turn
     requires { ⌜ at ≤ length (now kept) ⌝ }
     requires { ⌜ 262144 ≤ length (now kept) ⌝ }
     ensures { λ r. ⌜ r .at ≤ length (now (kept .entry)) ⌝ }
 {
-    if most_list(first) < bytes {
+    if is_long(first) {
+        if 1048576 < bytes {
+            return last_line(b"output too large\n", at, kept);
+        }
+        send(kept, at);
+        list_out(first, bytes, table);
+        return Turn { at: 0, more: true };
+    }
+    if 262144 < bytes {
         return last_line(b"output too large\n", at, kept);
     }
     send(kept, at);
-    let mut output = [0u8; 1048576];
-    let mut text = [0u8; 3145764];
-    let end = list_text(table, form_of(first), &mut output[..bytes], &mut text);
-    send(&text, end);
+    list_out(first, bytes, table);
     Turn { at: 0, more: true }
+}
+
+// Keeps or writes the answer of a case with call 7, 8 or 10, with so many bytes of steps; or the line that ends the run.
+fn apart_turn(head: &[u8; 16], table: &[u8], size: usize, at: usize, kept: &mut [u8]) -> Turn
+    requires { ⌜ size ≤ 262144 ⌝ }
+    requires { ⌜ at ≤ length (now kept) ⌝ }
+    requires { ⌜ 262144 ≤ length (now kept) ⌝ }
+    ensures { λ r. ⌜ r .at ≤ length (now (kept .entry)) ⌝ }
+{
+    let call = call_of(head[0]);
+    let asked = join4(head[8], head[9], head[10], head[11]) as usize;
+    if call == 10 {
+        if table.len() <= 65535 {
+            return live_turn(asked, table, at, kept);
+        }
+    }
+    plan_rooms(head, table, size, at, kept)
+}
+
+// Of a plan.
+fn plan_case(head: &[u8; 16], installed: &[u8], size: usize, at: usize, kept: &mut [u8]) -> Turn
+    requires { ⌜ size ≤ 262144 ⌝ }
+    requires { ⌜ at ≤ length (now kept) ⌝ }
+    requires { ⌜ 262144 ≤ length (now kept) ⌝ }
+    ensures { λ r. ⌜ r .at ≤ length (now (kept .entry)) ⌝ }
+{
+    apart_turn(head, installed, size, at, kept)
 }
 
 // Keeps the answer of a case with call 0 to 3, with a work room that holds what it asks for.
@@ -120,47 +211,7 @@ fn small_turn(
     requires { ⌜ 262144 ≤ length (now kept) ⌝ }
     ensures { λ r. ⌜ r ≤ length (now (kept .entry)) ⌝ }
 {
-    let mut work = [0u32; 32768];
-    keep_answer(head, query, table, ranks, output, &mut work, at, kept)
-}
-
-fn middle_turn(
-    head: &[u8; 16],
-    query: &[u8],
-    table: &[u8],
-    ranks: &[u16],
-    output: &mut [u8],
-    at: usize,
-    kept: &mut [u8],
-) -> usize
-    requires { ⌜ 8 ≡ length (now query) ⌝ }
-    requires { ⌜ 65535 ≡ length (now output) ⌝ }
-    requires { ⌜ wordsOf (now head) ≤ 824480 ⌝ }
-    requires { ⌜ at ≤ length (now kept) ⌝ }
-    requires { ⌜ 262144 ≤ length (now kept) ⌝ }
-    ensures { λ r. ⌜ r ≤ length (now (kept .entry)) ⌝ }
-{
-    let mut work = [0u32; 824480];
-    keep_answer(head, query, table, ranks, output, &mut work, at, kept)
-}
-
-fn large_turn(
-    head: &[u8; 16],
-    query: &[u8],
-    table: &[u8],
-    ranks: &[u16],
-    output: &mut [u8],
-    at: usize,
-    kept: &mut [u8],
-) -> usize
-    requires { ⌜ 8 ≡ length (now query) ⌝ }
-    requires { ⌜ 65535 ≡ length (now output) ⌝ }
-    requires { ⌜ wordsOf (now head) ≤ 1807520 ⌝ }
-    requires { ⌜ at ≤ length (now kept) ⌝ }
-    requires { ⌜ 262144 ≤ length (now kept) ⌝ }
-    ensures { λ r. ⌜ r ≤ length (now (kept .entry)) ⌝ }
-{
-    let mut work = [0u32; 1807520];
+    let mut work = small_work();
     keep_answer(head, query, table, ranks, output, &mut work, at, kept)
 }
 
@@ -171,8 +222,8 @@ fn most_words(first: u8) -> usize
     if is_long(first) { 1807520 } else { 824480 }
 }
 
-// Keeps the answer of a case with call 0 to 3, or the line that ends the run.
-fn answer_turn(
+// Keeps the answer of a case with call 6, or of one with call 0 to 3 and a work room of any size that is lent; or the line that ends the run.
+fn roomy_turn(
     head: &[u8; 16],
     query: &[u8],
     table: &[u8],
@@ -187,24 +238,19 @@ fn answer_turn(
     requires { ⌜ 262144 ≤ length (now kept) ⌝ }
     ensures { λ r. ⌜ r .at ≤ length (now (kept .entry)) ⌝ }
 {
+    if call_of(head[0]) == 6 {
+        return Turn {
+            at: chip_turn(head, table, output, at, kept),
+            more: true,
+        };
+    }
     let words = join4(head[8], head[9], head[10], head[11]) as usize;
     if most_words(head[0]) < words {
         return last_line(b"work room too large\n", at, kept);
     }
-    if words <= 32768 {
-        return Turn {
-            at: small_turn(head, query, table, ranks, output, at, kept),
-            more: true,
-        };
-    }
-    if words <= 824480 {
-        return Turn {
-            at: middle_turn(head, query, table, ranks, output, at, kept),
-            more: true,
-        };
-    }
+    let mut work = large_work();
     Turn {
-        at: large_turn(head, query, table, ranks, output, at, kept),
+        at: keep_answer(head, query, table, ranks, output, &mut work, at, kept),
         more: true,
     }
 }
@@ -244,7 +290,7 @@ fn case_turn(
         return list_turn(head[0], asked, table, at, kept);
     }
     if call == 10 {
-        return live_turn(asked, table, at, kept);
+        return apart_turn(head, table, 0, at, kept);
     }
     if call == 9 {
         return Turn {
@@ -252,7 +298,7 @@ fn case_turn(
             more: true,
         };
     }
-    let mut output = [0u8; 65535];
+    let mut output = table_room();
     if call == 5 {
         return Turn {
             at: plain_turn(head, table, ranks, &mut output, at, kept),
@@ -260,12 +306,15 @@ fn case_turn(
         };
     }
     if call == 6 {
+        return roomy_turn(head, query, table, ranks, &mut output, at, kept);
+    }
+    if asked <= 32768 {
         return Turn {
-            at: chip_turn(head, table, &mut output, at, kept),
+            at: small_turn(head, query, table, ranks, &mut output, at, kept),
             more: true,
         };
     }
-    answer_turn(head, query, table, ranks, &mut output, at, kept)
+    roomy_turn(head, query, table, ranks, &mut output, at, kept)
 }
 
 // Reads the query of a case, where addresses have 64 bits. Says whether it is there.
@@ -322,7 +371,7 @@ fn turn(table: &mut [u8], at: usize, kept: &mut [u8]) -> Turn
     if 6 < call {
         if call < 9 {
             if !is_long(head[0]) {
-                return steps_turn(&head, &table[..size], steps, at, kept);
+                return plan_case(&head, &table[..size], steps, at, kept);
             }
         }
     }
@@ -331,8 +380,8 @@ fn turn(table: &mut [u8], at: usize, kept: &mut [u8]) -> Turn
 
 // A proved loop has to end, so the turns are counted down from a number that no input uses up.
 fn main() {
-    let mut table = [0u8; 65535];
-    let mut kept = [0u8; 262144];
+    let mut table = table_room();
+    let mut kept = kept_room();
     let mut at: usize = 0;
     let mut turns = u64::MAX;
     while turns > 0 {

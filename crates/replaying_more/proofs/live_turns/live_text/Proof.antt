@@ -36,7 +36,7 @@ same-length c = search needs
 returns : tie.Need-returns
 returns c =
     let s = c .before .before .before .before .before .before .before .before .before .before .before .before .args in
-    let done = c .before .before .before .before .before .before .before .before .live-lines .ensures in
+    let done = c .before .before .before .before .live-lines .ensures in
     (put-as (ap (liveAnswer (s .commands .now)) (simp length-take (omega arith))) done, search needs)
 
 pub live-text-spec : {M : Type 1} → statement M

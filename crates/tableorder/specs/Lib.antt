@@ -1,0 +1,2 @@
+-- Rows, their order, and what sorting them leaves.
+pub mod Rows

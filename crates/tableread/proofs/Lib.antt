@@ -1,0 +1,2 @@
+-- Records that are laid, and texts whose lines stand in another order.
+pub mod AnyOrder

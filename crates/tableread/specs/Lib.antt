@@ -1,0 +1,2 @@
+-- What is read and sorted.
+pub mod Sorted

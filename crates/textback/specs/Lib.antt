@@ -1,0 +1,2 @@
+-- Routes that lines can hold.
+pub mod Held

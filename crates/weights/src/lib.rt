@@ -1,0 +1,1 @@
+// The definitions and laws of what a table's nodes weigh. There is no code.

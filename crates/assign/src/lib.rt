@@ -70,7 +70,7 @@ pub fn with_entry(entries: u32, b: u32, hop: u8, over: u8) -> u32
 }
 
 // What a position is assigned, the entries with it, and the reader past it.
-#[derive(Drop)]
+#[derive(Clone, Copy)]
 pub struct Step {
     pub hop: u8,
     pub entries: u32,
@@ -109,7 +109,7 @@ pub fn step_at(
 }
 
 // What a node's positions are assigned, NO_HOP for nothing; which of them have an entry; and where its own words end.
-#[derive(Drop)]
+#[derive(Clone, Copy)]
 pub struct Assigned {
     pub hops: [u8; 31],
     pub entries: u32,

@@ -29,14 +29,14 @@ pub fn push_sets(sets: &[u64; 63], work: &mut [u32], top: usize) -> usize
 }
 
 // The reader of a node's stored sets: the mask of the positions that are still to come, and where the next set stands.
-#[derive(Drop)]
+#[derive(Clone, Copy)]
 pub struct NodeReader {
     pub mask: u32,
     pub top: usize,
 }
 
 // A set that was read, and the reader after it.
-#[derive(Drop)]
+#[derive(Clone, Copy)]
 pub struct Popped {
     pub set: u64,
     pub reader: NodeReader,

@@ -6,6 +6,7 @@
 // longer prefix holds, of those installed and put. They all have one answer, from the prefixes that hold all of them, and that must be the old or the new
 // one after each step. While an installed prefix is present its own hop is that answer, so it is first followed by itself. Where a class's answer was
 // another, the class must be empty: its addresses are gone through, from the end of one longer prefix to that of the next.
+#![tactic(auto)]
 
 pub mod marks;
 
@@ -27,7 +28,7 @@ use words::prefix::{host_bits_clear, masked};
 const UNSEEN: u8 = 65;
 
 // What a check is at.
-#[derive(Drop)]
+#[derive(Clone, Copy)]
 pub enum Stage {
     // It is over.
     Yes,
@@ -48,7 +49,7 @@ pub enum Stage {
 }
 
 // What steps are followed for.
-#[derive(Drop)]
+#[derive(Clone, Copy)]
 pub enum Purpose {
     // What the prefix itself has.
     Presence,
@@ -59,7 +60,7 @@ pub enum Purpose {
 }
 
 // The steps followed for a prefix, at one of its addresses.
-#[derive(Drop)]
+#[derive(Clone, Copy)]
 pub struct Pass {
     pub x: u32,
     pub purpose: Purpose,
@@ -74,7 +75,7 @@ pub struct Pass {
     pub marks: Marks,
 }
 
-#[derive(Drop)]
+#[derive(Clone, Copy)]
 pub struct Check {
     pub stage: Stage,
     // The number of a refusal.

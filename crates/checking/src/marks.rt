@@ -6,7 +6,7 @@ ghost use Rattle.checking.specs.Marks.{alone_of, fine_of, is_fine, mark_of, mark
 
 use hops::NO_HOP;
 
-#[derive(Drop)]
+#[derive(Clone, Copy)]
 pub struct Marks {
     pub fair: u64,
     pub foul: u64,

@@ -2,7 +2,7 @@
 -- match in the table, and the image gives the table back. The answer of a call is any r, and the image m', of which the call's `ensures` holds.
 -- Assumes nothing.
 use Prim.{tt}
-use Prim.Native.Nat.{ℕ, ◌+◌, ◌-◌, ◌≤◌}
+use Prim.Native.Nat.{ℕ, ◌≤◌}
 use mathlib.Core.Path.{◌≡◌, refl, sym, ap, subst, ◌∙◌}
 use mathlib.Core.Bool.{false}
 use mathlib.Core.List.{List, [], ◌∷◌, ◌++◌}

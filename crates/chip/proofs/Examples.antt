@@ -7,7 +7,7 @@ use native.Mathlib.Omega.{arith}
 use Rattle.theory.specs.Falling.{falling}
 use Rattle.theory.specs.Routes.{Route, matches, miss, nil}
 use Rattle.theory.proofs.Lists.{all_map}
-use Rattle.records.specs.Wire.{raw_at, route_at, routes_from, routes}
+use Rattle.records.specs.Wire.{routes}
 use Rattle.records.specs.Sized.{route, number, raw_in, route_in, routes_from_in, routes_in}
 use Rattle.chip.specs.Chip.{first_match}
 use Rattle.chip.specs.Images.{image_of, slots_of, arranged}

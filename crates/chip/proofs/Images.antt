@@ -9,7 +9,7 @@ use Rattle.theory.specs.Results.{part}
 use Rattle.theory.specs.Routes.{Route, Valid, All, nil, cons}
 use Rattle.theory.proofs.Lists.{all_member}
 use Rattle.theory.proofs.Parts.{part-append, part-whole, part_none}
-use Rattle.records.specs.Wire.{routes_from, routes, bytes_of}
+use Rattle.records.specs.Wire.{routes_from, bytes_of}
 use Rattle.records.proofs.Reading.{route-length}
 use Rattle.records.proofs.Laid.{take-laid}
 use Rattle.records.proofs.Written.{length-bytes, routes_front}

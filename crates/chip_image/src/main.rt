@@ -10,7 +10,7 @@ use records::Form;
 use text::put_refused;
 
 // How many bytes go to standard output, and how many to standard error.
-#[derive(Drop)]
+#[derive(Clone, Copy)]
 struct Written {
     shown: usize,
     said: usize,

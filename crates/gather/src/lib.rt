@@ -1,5 +1,6 @@
 // One pass over a node's run: which records stand at each of its positions, and which lie in each of its slots; and by these the hop that covers
 // each position.
+#![tactic(auto)]
 
 ghost use Rattle.std.specs.Prelude.{◌≡◌, ℕ, ◌+◌, ◌-◌, ◌*◌, ◌/◌, ◌^◌, ◌≤◌, ◌<◌, eqb, false, ◌||◌, length, get_or};
 ghost use Rattle.theory.specs.Results.{In};
@@ -163,7 +164,7 @@ pub fn place_end(
 }
 
 // What one pass finds: the positions with a record, and the slots with one, as the bits of two words.
-#[derive(Drop)]
+#[derive(Clone, Copy)]
 pub struct Gathering {
     pub present: u32,
     pub occupied: u32,

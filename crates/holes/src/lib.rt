@@ -15,14 +15,14 @@ use runs::{past_own, right_half, split};
 use table::{Checked, check_sized};
 
 // What the call answers: the number of records written, or the refusal, with the record's index for numbers 5 to 8 (else 0).
-#[derive(Drop)]
+#[derive(Clone, Copy)]
 pub enum Listed {
     Records(usize),
     Refused { number: u8, index: usize },
 }
 
 // What a position is to whoever lists its holes.
-#[derive(Drop)]
+#[derive(Clone, Copy)]
 enum Kind {
     // No record lies in it: it is a hole.
     Hole,

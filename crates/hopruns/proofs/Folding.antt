@@ -157,7 +157,7 @@ module _ {runs : ℕ → List ℕ} {holding top left : ℕ} {o₀ from₀ to₀ 
         left = below_left.0;
         right = below_right.0;
         under_left = below_left.1;
-        under-right = below_right.1;
+        under_right = below_right.1;
         sized = e;
         room = λ some. fold_room size e fits;
       }

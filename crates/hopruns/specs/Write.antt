@@ -13,7 +13,7 @@ pub record MayPush (w : NodeWriter) (o : List ℕ) (a e b f size : ℕ) : Type 0
   pub left : Run o a e
   pub right : Run o b f
   pub under_left : w.top ≤ a
-  pub under-right : w.top ≤ b
+  pub under_right : w.top ≤ b
   pub sized : size ≡ length (combined (slice a e o) (slice b f o))
   pub room : 0 < size → size < w.top
 

@@ -1,5 +1,6 @@
 // Candidate sets as runs of hops in the work room: ascending words from one place to another. The empty run is a hole.
 // Runs are combined into new ones below them, stored for a node, read back, and give the hop that a position is assigned.
+#![tactic(auto)]
 
 pub mod choosing;
 pub mod combining;

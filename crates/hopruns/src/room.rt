@@ -12,7 +12,7 @@ ghost use Rattle.hopruns.specs.Fold.{MayFold, DidFold};
 use super::combining::{combine_runs, combined_size};
 
 // The writer of a node's runs: the mask of the positions pushed so far, the latest of them its lowest bit, and where the words pushed so far begin.
-#[derive(Drop)]
+#[derive(Clone, Copy)]
 pub struct NodeWriter {
     pub mask: u32,
     pub top: usize,
@@ -90,7 +90,7 @@ fn counted(b: usize, holding: usize, size: usize) -> usize
 
 // What the fold of a node has done, if the words that were left sufficed: where its own words begin, where the run of its first position stands,
 // and how many words are left.
-#[derive(Drop)]
+#[derive(Clone, Copy)]
 pub struct Folded {
     pub top: usize,
     pub from: usize,
@@ -150,14 +150,14 @@ pub fn fold_runs(
 }
 
 // The reader of a node's runs: the mask of the positions that are still to come, and where the next of their words stands.
-#[derive(Drop)]
+#[derive(Clone, Copy)]
 pub struct NodeReader {
     pub mask: u32,
     pub top: usize,
 }
 
 // A run that was read, and the reader after it.
-#[derive(Drop)]
+#[derive(Clone, Copy)]
 pub struct Popped {
     pub from: usize,
     pub to: usize,

@@ -1,4 +1,5 @@
 // Hops, and candidate sets of them as 64-bit words: hop h is bit h; the word 0 is a hole.
+#![tactic(auto)]
 
 pub mod ranking;
 

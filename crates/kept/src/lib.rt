@@ -20,7 +20,7 @@ pub const FILLED_BYTE: u8 = 165;
 pub const FILLED_WORD: u32 = 2779096485;
 
 // The bytes of text that are kept, and whether there is more to do.
-#[derive(Drop)]
+#[derive(Clone, Copy)]
 pub struct Turn {
     pub at: usize,
     pub more: bool,

@@ -129,12 +129,12 @@ unfolding table_answers
 runs_table w g nothing = refl
 runs_table {most} {t} {room} w g (put_then {after = after} {form = form} {a = a} {l = l} {h = h} k p rs) =
     ap₂ (λ (x : Said) (u : List Said). x ∷ u) (ap changed (put-said most t room g form a l h w.0 k after p))
-    (runs_table w.1 (put_good most t room g form a l h w.0 k after p) rs)
+    (runs_table {t = kept_by (table_put most t form a l h) (put (route (masked a l) l h) t) t} {room = after} w.1 (put_good most t room g form a l h w.0 k after p) rs)
 runs_table {most} {t} {room} w g (take_then {after = after} {form = form} {a = a} {l = l} k p rs) =
     ap₂ (λ (x : Said) (u : List Said). x ∷ u) (ap changed (take-said most t room g form a l k after p))
-    (runs_table w (take_good most t room g form a l k after p) rs)
+    (runs_table {t = kept_by (table_take t form a l) (without (masked a l) l t) t} {room = after} w (take_good most t room g form a l k after p) rs)
 runs_table {most} {t} {room} w g (look_then {x = x} k p rs) =
-    ap₂ (λ (y : Said) (u : List Said). y ∷ u) (ap found (p ∙ look_said most t room g x)) (runs_table w g rs)
+    ap₂ (λ (y : Said) (u : List Said). y ∷ u) (ap found (p ∙ look_said most t room g x)) (runs_table {t = t} {room = room} w g rs)
 
 -- An empty map that is made is held, with no routes.
 empty_mapped : Mapped []

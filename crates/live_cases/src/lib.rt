@@ -16,7 +16,7 @@ use records::{Form, join4};
 use text::put_bytes;
 
 // A command: what is to be done, how a prefix is read, and its numbers.
-#[derive(Drop)]
+#[derive(Clone, Copy)]
 pub struct Command {
     pub order: u8,
     pub form: Form,

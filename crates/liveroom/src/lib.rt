@@ -1,5 +1,6 @@
 // The room of a live map: its records, two words each, in table order. Whether it holds a map, where a prefix has its place, what matches an address, and
 // how a record is made and taken away.
+#![tactic(auto)]
 
 pub mod changes;
 pub mod check;

@@ -1,4 +1,5 @@
 // What a map's table is asked: the longest match of an address, at records of 8 bytes and of 16, and the addresses held, at 8.
+#![tactic(auto)]
 
 pub mod answers;
 mod matching;

@@ -10,7 +10,7 @@ use records::sized::{hop_of, key_at, length_at};
 use words::key::key_contains;
 
 // No match, or one.
-#[derive(Drop)]
+#[derive(Clone, Copy)]
 pub enum Found {
     Nothing,
     Match { hop: u8, length: u8 },

@@ -19,7 +19,7 @@ use words::coverage::{fold_coverage, keep_of, member_coverage, parent_coverage};
 use words::ladder::push_l4;
 
 // What the first walk of mode 1 says of a node: the positions that its members cover, and where its block begins.
-#[derive(Drop)]
+#[derive(Clone, Copy)]
 pub struct Covered {
     pub coverage: u32,
     pub top: usize,
@@ -74,7 +74,7 @@ pub fn collect_coverage(
 }
 
 // What the second walk has done: how many records it counted, and where its reading of the room ends.
-#[derive(Drop)]
+#[derive(Clone, Copy)]
 pub struct Walked {
     pub count: usize,
     pub top: usize,

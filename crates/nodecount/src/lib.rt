@@ -1,4 +1,5 @@
 // The number of nodes of a table, by which the work needed is measured: one pass that compares each record with the one before it.
+#![tactic(auto)]
 
 ghost use Rattle.std.specs.Prelude.{◌≡◌, ℕ, ◌*◌, ◌≤◌};
 ghost use Rattle.theory.specs.Routes.{Table};

@@ -5,5 +5,6 @@
 // levels of positions and its 32 slots. A node at depth d stands at a wide address, its key, with 65 - d bits below it. In code an address is
 // half of the wide one: a u64 with the first bit on top.
 // Positions and slots share one heap: position j of level l is 2^l - 1 + j, and slot c, level 5, is 31 + c.
+#![tactic(auto)]
 
 pub mod emit;

@@ -20,7 +20,7 @@ use records::sized::past_sized;
 use words::bits::{last_bit, next_bit};
 
 // What the first walk says of a node: its set, and where its block begins.
-#[derive(Drop)]
+#[derive(Clone, Copy)]
 pub struct Collected {
     pub set: u64,
     pub top: usize,
@@ -83,7 +83,7 @@ pub fn collect_sets(
 }
 
 // What the second walk has done: how many records it counted, and where its reading of the room ends.
-#[derive(Drop)]
+#[derive(Clone, Copy)]
 pub struct Walked {
     pub count: usize,
     pub top: usize,

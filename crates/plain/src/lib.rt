@@ -4,6 +4,7 @@
 // candidate set of a position and `write` the entries that document 01's definition gives it and the positions inside it. Both take a position apart by
 // `part_of`. Records have `size` bytes, 8 or 16, and the walks go down the 32 or 64 bits of their addresses.
 // A hop is a u8, NO_HOP for none. A candidate set is a u64 with a bit for each hop, 0 for a hole.
+#![tactic(auto)]
 
 ghost use Rattle.std.specs.Prelude.{◌≡◌, true, not, ◌-◌, ◌≤◌, ◌<◌, length};
 ghost use Rattle.theory.specs.Results.{Cand};
@@ -27,7 +28,7 @@ use runs::{past_own, right_half, split};
 use table::{Checked, check_sized};
 
 // How a position is taken apart.
-#[derive(Drop)]
+#[derive(Clone, Copy)]
 enum Part {
     // No record lies in its halves: every address of it is answered by `hop`.
     Uniform {

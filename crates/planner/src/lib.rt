@@ -11,7 +11,7 @@ use proposal::{count_of, propose};
 use records::Form;
 
 // A plan of so many steps; the planner gives up; or the refusal, with its number and the index of the record at fault (0 where none is).
-#[derive(Drop)]
+#[derive(Clone, Copy)]
 pub enum Planned {
     Steps { count: usize },
     GaveUp,

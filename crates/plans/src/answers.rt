@@ -3,7 +3,7 @@
 // A step: put the route of this prefix and hop, or take the prefix away. `put` is 0 for a take and anything else for a put; a take's hop is not read. Eight bytes
 // without padding: any eight bytes are a step.
 #[repr(C)]
-#[derive(Drop)]
+#[derive(Clone, Copy)]
 pub struct Step {
     pub addr: u32,
     pub len: u8,
@@ -14,7 +14,7 @@ pub struct Step {
 }
 
 // Yes, no, or the refusal.
-#[derive(Drop)]
+#[derive(Clone, Copy)]
 pub enum Judged {
     Yes,
     No,

@@ -1,6 +1,6 @@
 -- A node's levels: where their positions stand, and what a run of the node answers, holds and covers at each, by what stands above it there
 -- and by the run of the position itself.
-use Prim.Native.Nat.{ℕ, zero, suc, ◌+◌, ◌-◌, ◌*◌, ◌/◌, ◌%◌, ◌^◌, ◌≤◌, ◌<◌}
+use Prim.Native.Nat.{ℕ, zero, suc, ◌+◌, ◌*◌, ◌/◌, ◌%◌, ◌^◌, ◌≤◌, ◌<◌}
 use mathlib.Core.Path.{◌≡◌, refl, sym, ap, ap₂, subst, ◌∙◌}
 use mathlib.Core.Bool.{Bool, ◌||◌, ◌&&◌}
 use mathlib.Core.List.{List}

@@ -1,12 +1,11 @@
 -- Laws of laying bytes over a list: records that are written one after another are the bytes of their routes. Assumes nothing.
-use mathlib.Core.Path.{◌≡◌, refl, sym, ap, ap₂, ◌∙◌}
+use mathlib.Core.Path.{◌≡◌, sym, ap, ap₂, ◌∙◌}
 use mathlib.Core.List.{List, [], ◌∷◌, ◌++◌, append-nil, append_assoc}
-use Prim.Native.Nat.{ℕ, suc, ◌+◌, ◌-◌, ◌*◌, ◌≤◌}
+use Prim.Native.Nat.{ℕ, suc, ◌+◌, ◌-◌, ◌≤◌}
 use native.Mathlib.Nat.{add_assoc}
 use native.Mathlib.Omega.{arith}
 use lib.ListN.{length, take, drop, set, length-append, length-drop, take-append-drop, drop_of_length-le}
 use lib.Seq.{sets-eq, length-take-le, take_all, take_at, drop_at, drop-drop, take-add}
-use Rattle.theory.specs.Routes.{Route}
 use Rattle.records.specs.Sized.{laid}
 
 -- Eight bytes stored one by one are laid.

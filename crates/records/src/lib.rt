@@ -1,4 +1,5 @@
 // The table on the wire: reading a record's fields, and writing a record whole.
+#![tactic(auto)]
 
 pub mod sized;
 
@@ -11,7 +12,7 @@ use words::prefix::masked;
 
 // How a table's bytes are read: under the strict choice a record with host bits is refused, else they are masked; a long table has records of 16
 // bytes, with addresses of 64 bits, else they have 8, with addresses of 32.
-#[derive(Drop)]
+#[derive(Clone, Copy)]
 pub struct Form {
     pub strict: bool,
     pub long: bool,

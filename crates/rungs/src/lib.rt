@@ -1,4 +1,5 @@
 // What a table has at each length for one address: the prefixes that hold it, from the shortest to the longest.
+#![tactic(auto)]
 
 ghost use Rattle.std.specs.Prelude.{◌≡◌, cond, ◌<◌, ◌≤◌, eqb, ltb};
 ghost use Rattle.theory.specs.Routes.{Table};
@@ -11,7 +12,7 @@ use records::{addr_at, hop_at, len_at};
 use words::prefix::{contains, masked};
 
 // The hops by length, NO_HOP where there is none; and the greatest length with one, 0 where there is none.
-#[derive(Drop)]
+#[derive(Clone, Copy)]
 pub struct Rungs {
     pub hops: [u8; 33],
     pub top: usize,

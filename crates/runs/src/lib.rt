@@ -1,5 +1,6 @@
 // The run of a position is the records lo..hi of a sorted table that lie in it: its own record, if it has one, then the run of its left half, then the
 // run of its right half. Here is where one ends and the next begins. Addresses are held as keys, over the size of a record.
+#![tactic(auto)]
 
 ghost use Rattle.std.specs.Prelude.{◌≡◌, ℕ, ◌+◌, ◌-◌, ◌^◌, ◌≤◌, ◌<◌};
 ghost use Rattle.theory.specs.Routes.{Ascending};

@@ -3,9 +3,7 @@ use mathlib.Core.Path.{◌≡◌, refl}
 use mathlib.Core.List.{List, [], ◌∷◌}
 use Prim.Native.Nat.{ℕ}
 use Rattle.refusals.specs.Rules.{gives, refuses, judge}
-use Rattle.records.specs.Wire.{raw_at, route_at, routes_from, routes}
 use Rattle.records.specs.Forms.{by_default, strictly}
-use Rattle.table.specs.TableRules.{record_rules, rules_from, table_rules}
 use Rattle.records.specs.Sized.{clear, number, raw_in, route_in, routes_from_in, routes_in}
 use Rattle.table.specs.SizedRules.{record_rules_in, rules_from_in, table_rules_in}
 use Rattle.special.specs.Calls.{special_rules, special_reply}

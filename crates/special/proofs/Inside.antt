@@ -52,6 +52,7 @@ special_one w {r = r} (cons {r = s} {t = ranges} v vs) vr e = go (lies_in w s r)
     go false q f more = let m = more f in (m.0, (later m.1.0, m.1.1))
 
 one_special : (w : ℕ) {ranges : List Route} {r : Route} → All (Valid w) ranges → Valid w r → LiesInOne w ranges r → is_special w ranges r ≡ true
+one_special w {r = r} nil vr (u, (m, k)) = elim m [ ]
 one_special w (cons {r = s} {t = ranges} v vs) vr (u, (head, k)) = rw ((lies-exactly w v vr).1 k)
 one_special w {r = r} (cons {r = s} {t = ranges} v vs) vr (u, (later m, k)) =
     ap (λ (b : Bool). lies_in w s r || b) (one_special w vs vr (u, (m, k))) ∙ or-true (lies_in w s r)

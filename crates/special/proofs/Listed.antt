@@ -9,13 +9,13 @@ use borrow.Author.Tests.{ne_eqb}
 use Rattle.theory.specs.Routes.{Route, Table}
 use Rattle.refusals.specs.Rules.{gives, refuses, judge}
 use Rattle.refusals.proofs.Judged.{kept_next, broken-here}
-use Rattle.records.specs.Wire.{raw_at, route_at, routes_from, records, routes, bytes_of}
+use Rattle.records.specs.Wire.{records, routes, bytes_of}
 use Rattle.records.specs.declared.Form.{Form}
 use Rattle.records.specs.Forms.{strictly}
 use Rattle.records.proofs.Octets.{octets, all_bytes}
 use Rattle.table.specs.Checking.{check_reply}
 use Rattle.table.specs.Conditions.{Accepted}
-use Rattle.table.specs.TableRules.{record_rules, rules_from, table_rules}
+use Rattle.table.specs.TableRules.{table_rules}
 use Rattle.table.proofs.AtEight.{accepted}
 use Rattle.table.proofs.AtEight.{accepted-table}
 use Rattle.records.specs.Sized.{octets_of, record_in, bytes_in, clear, number, raw_in, route_in, routes_from_in, routes_in}

@@ -1,4 +1,5 @@
 // Which record of a map's table lies in a special-use range, by the edition of the list of ranges. One function serves every list in the wire's form.
+#![tactic(auto)]
 
 mod edition_5735;
 mod edition_6890;
@@ -17,7 +18,7 @@ use table::{Checked, check_table};
 use words::prefix::contains;
 
 // The first record that lies in a range, by its index; that there is none; or the refusal, with the record's index for numbers 5 to 8 (else 0).
-#[derive(Drop)]
+#[derive(Clone, Copy)]
 pub enum Special {
     At(usize),
     Nothing,

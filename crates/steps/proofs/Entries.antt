@@ -161,13 +161,13 @@ abbrev pub Distinct : List Route → Type 0
 Distinct [] = Unit {0}
 Distinct (r ∷ t) = (entry t r.addr r.len ≡ none) × Distinct t
 
-pub distinct_append : {s : List Route} (t : List Route) → Distinct s → Distinct t → All (λ r. entry t r.addr r.len ≡ none) s → Distinct (s ++ t)
+pub distinct_append : (t : List Route) {s : List Route} → Distinct s → Distinct t → All (λ r. entry t r.addr r.len ≡ none) s → Distinct (s ++ t)
 distinct_append t d e nil = e
 distinct_append t d e (cons {r = r} {t = s} k ks) =
     (entry-append s t r.addr r.len ∙ ap₂ or_else d.0 k, distinct_append t d.1 e ks)
 
 -- A prefix that no route has.
-pub entry_none : {t : List Route} (a l : ℕ) → All (λ s. (s.addr ≡ a) → (s.len ≡ l) → ⊥) t → entry t a l ≡ none
+pub entry_none : (a l : ℕ) {t : List Route} → All (λ s. (s.addr ≡ a) → (s.len ≡ l) → ⊥) t → entry t a l ≡ none
 entry_none a l nil = refl
 entry_none a l (cons {r = s} k ks) = rw (same_false s.addr s.len a l k) (entry_none a l ks)
 

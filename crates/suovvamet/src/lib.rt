@@ -37,7 +37,7 @@ fn form_of(flags: u32) -> Form
 }
 
 // A refusal in numbers, both 0 for an answer.
-#[derive(Drop)]
+#[derive(Clone, Copy)]
 struct Refusal {
     number: u32,
     index: u64,

@@ -3,7 +3,7 @@ use Prim.{tt}
 use mathlib.Core.Path.{◌≡◌, refl, sym, ap, ◌∙◌, subst}
 use mathlib.Core.Bool.{Bool, true, false, not, ◌||◌, and-eq-true_iff}
 use mathlib.Core.List.{List, [], ◌∷◌, ◌++◌}
-use mathlib.Core.Logic.{◌⊎◌, inl, inr, ⊎_elim, ◌↔◌}
+use mathlib.Core.Logic.{inl, inr, ⊎_elim, ◌↔◌}
 use Prim.Native.Nat.{ℕ, zero, suc, ◌+◌, ◌-◌, ◌*◌, ◌%◌, ◌^◌, ◌≤◌, ◌<◌}
 use native.Mathlib.Omega.{arith}
 use lib.Dec.{eqb, leb, ltb}
@@ -15,7 +15,7 @@ use Rattle.refusals.specs.Rules.{Rule, rule}
 use Rattle.refusals.specs.Order.{rank, Earlier}
 use Rattle.refusals.proofs.Shown.{Shows, yes, no, shown, fails, refuted}
 use Rattle.refusals.proofs.Judged.{Broken, InOrder}
-use Rattle.refusals.proofs.Ranked.{at, broken-append, broken-left, broken-right, in_order_append, sound-each, sound-append, singles, ranked_append, Ranked}
+use Rattle.refusals.proofs.Ranked.{broken-append, broken-left, broken-right, in_order_append, sound-each, sound-append, singles, ranked_append, Ranked}
 use Rattle.records.specs.Sized.{IsSize, octets_in, width_in, byte_in, clear, raw_in, route_in, records_in, RestZero}
 use Rattle.records.proofs.SizedReading.{size_parts}
 use Rattle.records.proofs.Numbers.{clear_zero, zero_clear}

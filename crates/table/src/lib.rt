@@ -1,4 +1,5 @@
 // Tables on the wire are checked here: the rules 3 to 8 of document 01, record by record.
+#![tactic(auto)]
 
 mod rules;
 
@@ -9,7 +10,7 @@ ghost use Rattle.table.specs.Checking.{checked_says, check_reply, check_reply_in
 use records::Form;
 
 // What a check answers: the number of records, or the refusal, with the record's index for numbers 5 to 8 (else 0).
-#[derive(Drop)]
+#[derive(Clone, Copy)]
 pub enum Checked {
     Valid(usize),
     Refused { number: u8, index: usize },

@@ -1,4 +1,5 @@
 // A table's text, read into records in table order, each with the number of its line.
+#![tactic(auto)]
 
 ghost use Rattle.tableread.specs.Sorted.{ReadsSorted};
 

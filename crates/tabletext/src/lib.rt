@@ -1,5 +1,6 @@
 // The text form of a table, read: lines of a prefix and a hop, in a set of a prefix alone, into records and the numbers of their lines. What a text says is
 // defined in specs/; host bits are kept as they are written, and lines are taken in any order.
+#![tactic(auto)]
 
 pub mod lines;
 pub mod pieces;
@@ -12,7 +13,7 @@ use pieces::{place, up_to};
 use records::write_record;
 
 // What is wrong with a line.
-#[derive(Drop)]
+#[derive(Clone, Copy)]
 pub enum Reason {
     // The first word is no prefix.
     NotPrefix,
@@ -33,7 +34,7 @@ pub enum Reason {
 }
 
 // What a line says.
-#[derive(Drop)]
+#[derive(Clone, Copy)]
 pub enum Said {
     Nothing,
     Record(u32, u8, u8),
@@ -41,7 +42,7 @@ pub enum Said {
 }
 
 // What is answered: how many records there are, or which line is the first wrong one, or that the rooms are too short.
-#[derive(Drop)]
+#[derive(Clone, Copy)]
 pub enum Read {
     Records(usize),
     WrongLine(usize, Reason),
@@ -49,7 +50,7 @@ pub enum Read {
 }
 
 // What becomes of a line: the count of records behind it, or what is wrong.
-#[derive(Drop)]
+#[derive(Clone, Copy)]
 enum Stored {
     Count(usize),
     Not(Reason),

@@ -14,6 +14,7 @@ all_map k (cons {r = r} p ps) = cons (k r p) (all_map k ps)
 
 -- A property of every route is one of every member, and the other way.
 pub all_member : {P : Route → Type 0} {r : Route} {t : List Route} → All P t → Member r t → P r
+all_member {P = P} {r = r} nil m = elim m [ ]
 all_member (cons p ps) head = p
 all_member (cons p ps) (later m) = all_member ps m
 

@@ -61,6 +61,7 @@ is_miss-longer (hit i g) (hit j f) = go (ltb j i)
 
 -- Two routes of a table with one prefix are one route.
 pub same_prefix : {t : List Route} {r s : Route} → Ascending t → Member r t → Member s t → r.addr ≡ s.addr → r.len ≡ s.len → r ≡ s
+same_prefix {r = r} {s = s} Rattle.theory.specs.Routes.empty m n e q = elim m [ ]
 same_prefix (first b o) head head e q = refl
 same_prefix (first b o) head (later n) e q = ⊎_elim (λ lt. absurd (omega arith)) (λ p. absurd (omega arith)) (all_member b n)
 same_prefix (first b o) (later m) head e q = ⊎_elim (λ lt. absurd (omega arith)) (λ p. absurd (omega arith)) (all_member b m)
@@ -83,7 +84,7 @@ module _ (w : ℕ) where
       (λ p. let q = lookup-member t x p in (q.0, later q.1, q.2, q.3, q.4)) (longer_either (tried w r x) (lookup w t x) e)
 
   -- No route of the table that matches is longer.
-  pub lookup-longest : {t : List Route} {r : Route} (x : ℕ) → Member r t → matches w r x ≡ true
+  pub lookup-longest : {r : Route} {t : List Route} (x : ℕ) → Member r t → matches w r x ≡ true
       → (k : ℕ) × (h : ℕ) × (lookup w t x ≡ hit k h) × (r.len ≤ k)
   lookup-longest {r} x (head {t = t}) e = rw e (longer-left r.len r.hop (lookup w t x))
   lookup-longest x (later {s = s} {t = t} m) e =

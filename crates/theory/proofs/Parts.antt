@@ -1,9 +1,9 @@
 -- A table taken apart by a test, and the longest match of the whole from those of the parts.
-use Prim.Native.Nat.{ℕ, suc, ◌+◌, ◌-◌, ◌≤◌, ◌<◌}
+use Prim.Native.Nat.{ℕ, suc, ◌+◌, ◌≤◌, ◌<◌}
 use mathlib.Core.Path.{◌≡◌, refl, sym, ap, ap₂, ◌∙◌}
 use mathlib.Core.Bool.{Bool, true, false, cond, not, ◌||◌}
 use mathlib.Core.List.{List, [], ◌∷◌, ◌++◌}
-use mathlib.Core.Logic.{◌↔◌, inl, inr}
+use mathlib.Core.Logic.{◌↔◌}
 use native.Mathlib.Decide.{dec_lt}
 use native.Mathlib.Omega.{arith}
 use lib.Dec.{eqb}
@@ -145,7 +145,7 @@ lookup_lens w x k (cons {r = r} {t = t} h hs) = go (of_len k r) refl (lookup_len
         ∙ ap (λ (m : Match). longer m i) (longer_comm k (tried w r x) e (deep (matches w r x) q) (lookup_shallow w k x (part-len hs)))
         ∙ sym (longer_assoc e (tried w r x) i)
 
-in_part : (p : Route → Bool) {t : List Route} {r : Route} → Member r t → p r ≡ true → Member r (part p t)
+in_part : (p : Route → Bool) {r : Route} {t : List Route} → Member r t → p r ≡ true → Member r (part p t)
 in_part p head e = rw e head
 in_part p {r} (later {s = s} {t = t} m) e = go (p s) (in_part p m e)
   where

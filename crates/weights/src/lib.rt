@@ -1,1 +1,3 @@
+#![tactic(auto)]
+
 // The definitions and laws of what a table's nodes weigh. There is no code.

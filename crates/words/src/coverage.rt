@@ -7,7 +7,7 @@ use crate::ladder::{
 };
 
 // What the members of a node cover: the positions and the child slots strictly below a member.
-#[derive(Drop)]
+#[derive(Clone, Copy)]
 pub struct MemberCoverage {
     pub covered: u32,
     pub children_under_member: u32,

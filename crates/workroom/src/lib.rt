@@ -1,4 +1,5 @@
 // The work room that a table needs in a rewrite or in the cover query, so that a caller can lend just that.
+#![tactic(auto)]
 
 ghost use Rattle.std.specs.Prelude.{◌≡◌};
 ghost use Rattle.workroom.specs.Needed.{words_says, words_reply};
@@ -8,7 +9,7 @@ use records::{Form, size_of};
 use table::{Checked, check_sized};
 
 // Of the question how many words: the number, or the refusal as in the crate table.
-#[derive(Drop)]
+#[derive(Clone, Copy)]
 pub enum WorkWords {
     Words(usize),
     Refused { number: u8, index: usize },

@@ -1,12 +1,13 @@
 // The writer of a node's stored candidate sets, which are laid into the work room from the last position to the first: a small state that is
 // lent for each push.
+#![tactic(auto)]
 
 ghost use Rattle.std.specs.Prelude.{[], ◌∷◌, ◌-◌, ◌≤◌, length};
 ghost use Rattle.nodes.specs.Room.{Pushed};
 ghost use Rattle.writer.specs.Write.{low, high, MayPush, DidPush};
 
 // The mask of the positions pushed so far, the latest of them its lowest bit, and where the words pushed so far begin.
-#[derive(Drop)]
+#[derive(Clone, Copy)]
 pub struct NodeWriter {
     pub mask: u32,
     pub top: usize,

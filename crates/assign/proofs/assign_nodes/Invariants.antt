@@ -1,0 +1,19 @@
+-- `assign::assign_nodes` meets its contract. The loop's invariant: the positions before b are assigned, and the reader stands before b.
+-- Assumes nothing.
+use Prim.Native.Nat.{◌-◌, ◌≤◌}
+use mathlib.Core.Path.{refl}
+use native.Mathlib.Omega.{arith}
+use lib.ListN.{replicate}
+use borrow.Author.Rules.{rules}
+use Rattle.theory.specs.Ranks.{lowest}
+use Rattle.nodes.proofs.RoomLaws.{Read, begins-word}
+use Rattle.assign.specs.Packed.{mask_of, words_of}
+use Rattle.assign.proofs.AssignLaws.{Assigning, assigning_start, assigning_first, assigning_room, assigning_next, assigning_rest, assigning_end}
+use Rattle.assign.proofs.assign_nodes.Given as goal
+
+abbrev pub invariant-loop-b : goal.invariant-loop-b
+invariant-loop-b l =
+    (l.b ≤ 31) × Assigning (lowest l.ranks) l.work l.top l.above l.hops l.entries l.reader.mask l.reader.top l.b
+
+abbrev pub decreases-loop-b : goal.decreases-loop-b
+decreases-loop-b l = 31 - l.b

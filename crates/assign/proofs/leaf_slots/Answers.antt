@@ -1,0 +1,22 @@
+-- `assign::leaf_slots` meets its contract. The loop's invariant: the positions of the last level before p are marked. Assumes nothing.
+use Prim.Native.Nat.{◌-◌, ◌≤◌}
+use native.Mathlib.Omega.{arith}
+use borrow.Author.Rules.{rules}
+use Rattle.assign.proofs.AssignLaws.{LeavesMarked, leaves_start, leaves_next, leaves_end}
+use Rattle.assign.proofs.leaf_slots.Goals as goal
+
+pub returns-then-leaves_same : goal.returns-then-leaves_same
+returns-then-leaves_same c = c.leaves_same.ensures c.if-leaves_same.true
+
+pub loop-p-init : goal.loop-p-init
+loop-p-init c = (omega arith, leaves_start _ _ _)
+
+pub loop-p-preserved : goal.loop-p-preserved
+loop-p-preserved c =
+    let l = c.loop-p in
+    let lt = c.loop-p-test.true in
+    let v = c.leaf_value-v in
+    (omega arith, leaves_next l.invariant.1 lt v.result v.ensures.0 c.with_entry-other.result c.with_entry-other.ensures)
+
+pub returns : goal.returns
+returns c = leaves_end c.loop-p.invariant.1 (omega arith) c.push_l4.result c.push_l4.ensures

@@ -1,0 +1,15 @@
+-- `assign::room::push_sets` meets its contract. The loop's invariant: the words of the positions under p and after are laid, and the writer's mask
+-- is theirs. Assumes nothing.
+use Prim.Native.Nat.{◌+◌, ◌*◌, ◌-◌, ◌≤◌}
+use mathlib.Core.Path.{refl}
+use native.Mathlib.Omega.{arith}
+use borrow.Author.Rules.{rules}
+use Rattle.nodes.proofs.RoomLaws.{pushed-length}
+use Rattle.assign.proofs.PackedLaws.{Laying, laying_start, laying_room, laying_may, laying_next, laying_under, laying_end}
+use Rattle.assign.proofs.room.push_sets.Given as goal
+
+abbrev pub invariant-loop-p : goal.invariant-loop-p
+invariant-loop-p l = (l.p ≤ 15) × Laying l.sets l.top l.initial.work (2 * l.p + 1) l.node l.work
+
+abbrev pub decreases-loop-p : goal.decreases-loop-p
+decreases-loop-p l = l.p

@@ -1,0 +1,13 @@
+-- `cover::query::record_over` meets its contract. The loop's invariant: there was no record on the way up to k. Assumes nothing.
+use Prim.Native.Nat.{ℕ, ◌^◌, ◌≤◌, ◌<◌}
+use mathlib.Core.Path.{◌≡◌, sym}
+use native.Mathlib.Omega.{arith}
+use Rattle.words.specs.Positions.{position}
+use Rattle.cover.proofs.CoverLaws.{Climbed, climb_start, climb_found, climb_next, climb_top}
+use Rattle.cover.proofs.query.record_over.Given as goal
+
+abbrev pub invariant-loop-k : goal.invariant-loop-k
+invariant-loop-k l = (l.k < 31) × ((l j : ℕ) → l ≤ 4 → j < 2 ^ l → l.b ≡ position l j → Climbed l.first l.end l j l.k)
+
+abbrev pub decreases-loop-k : goal.decreases-loop-k
+decreases-loop-k l = l.k

@@ -2,6 +2,7 @@
 //
 // A plain recursion over the bits of an address: a position in which no record lies is a hole, one with a record of its own has a route throughout, and
 // any other is looked at half by half. An address is held as a key, its first bit on top, so that one walk serves both sizes of a record.
+#![tactic(auto)]
 
 ghost use Rattle.std.specs.Prelude.{◌≡◌, ◌*◌, ◌≤◌, leb, length};
 ghost use Rattle.records.specs.Sized.{bytes_in, laid};

@@ -1,4 +1,5 @@
 // A live map: a table that stays in a lent room of 32-bit words, with put, take and lookup.
+#![tactic(auto)]
 
 pub mod answers;
 

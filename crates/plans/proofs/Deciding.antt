@@ -98,6 +98,29 @@ module _ (form : Form) (s : Step) (ok : kept form s ≡ true) where
       go true q p = let h : s.hop ≡ r.hop = cc in omega (arith, kept-hop q)
       go false q p = let z : ◌≡◌ {A = ℕ} 0 1 = cc in absurd (omega arith)
 
+-- ---- How much is left.
+
+-- Records and steps count a round each, in which a class's addresses are gone through.
+abbrev round : ℕ
+round = 2 ^ 33
+
+abbrev level : List ℕ → List Step → Check → ℕ
+level t ss c = cond c.fresh (records t + 1 + (length ss - c.index)) (records t - c.place)
+
+abbrev pub rank_by : List ℕ → List Step → Stage → Check → ℕ
+rank_by t ss Yes c = 0
+rank_by t ss No c = 0
+rank_by t ss Refused c = 0
+rank_by t ss Covering c = round * level t ss c + (2 ^ 32 - c.pass.x)
+rank_by t ss AtClass c = round * level t ss c + (2 ^ 32 + 1)
+rank_by t ss AtOwn c = round * (records t - c.place) + (2 ^ 32 + 2)
+rank_by t ss ToStep c = round * (records t + 1 + (length ss - c.index)) + (2 ^ 32 + 2)
+rank_by t ss Picking c = round * (records t + 1 + (length ss - c.index)) + (2 ^ 32 + 3)
+rank_by t ss Judging c = round * (records t + 2 + length ss + (length ss - c.index))
+
+abbrev pub rank_of : List ℕ → List Step → Check → ℕ
+rank_of t ss c = rank_by t ss c.stage c
+
 module _ (form : Form) (t u : List ℕ) (ss : List Step) (bt : Bytes t) (bu : Bytes u) where
   abbrev old : List Route
   old = routes t
@@ -118,28 +141,8 @@ module _ (form : Form) (t u : List ℕ) (ss : List Step) (bt : Bytes t) (bu : By
   abbrev pub Fine : ℕ → Type 0
   Fine j = (kept form (step_at ss j) ≡ true) × ((step_at ss j).addr < 2 ^ 32)
 
-  -- ---- How much is left.
-
-  -- Records and steps count a round each, in which a class's addresses are gone through.
-  abbrev round : ℕ
-  round = 2 ^ 33
-
-  abbrev level : Check → ℕ
-  level c = cond c.fresh (records t + 1 + (length ss - c.index)) (records t - c.place)
-
-  abbrev pub rank_by : Stage → Check → ℕ
-  rank_by Yes c = 0
-  rank_by No c = 0
-  rank_by Refused c = 0
-  rank_by Covering c = round * level c + (2 ^ 32 - c.pass.x)
-  rank_by AtClass c = round * level c + (2 ^ 32 + 1)
-  rank_by AtOwn c = round * (records t - c.place) + (2 ^ 32 + 2)
-  rank_by ToStep c = round * (records t + 1 + (length ss - c.index)) + (2 ^ 32 + 2)
-  rank_by Picking c = round * (records t + 1 + (length ss - c.index)) + (2 ^ 32 + 3)
-  rank_by Judging c = round * (records t + 2 + length ss + (length ss - c.index))
-
   abbrev pub rank : Check → ℕ
-  rank c = rank_by c.stage c
+  rank = rank_of t ss
 
   rank-cond : (b : Bool) (x y : Check) (r : ℕ) → rank x < r → rank y < r → rank (cond b x y) < r
   rank-cond true x y r p q = p

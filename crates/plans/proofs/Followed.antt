@@ -1,6 +1,6 @@
 -- The steps followed one after the other, and the first length with a hop. Assumes nothing.
-use Prim.Native.Nat.{ℕ, zero, suc, ◌+◌, ◌≤◌, ◌<◌}
-use mathlib.Core.Path.{◌≡◌, refl, sym, ap, ◌∙◌}
+use Prim.Native.Nat.{ℕ, zero, suc, ◌+◌, ◌-◌, ◌≤◌, ◌<◌}
+use mathlib.Core.Path.{◌≡◌, refl, sym, ap, ap₂, ◌∙◌}
 use mathlib.Core.Bool.{Bool, true, false, cond}
 use mathlib.Core.List.{List}
 use mathlib.Core.Logic.{◌⊎◌, inl, inr}
@@ -25,19 +25,24 @@ pub followed_next : (ss : List Step) (p : Pass) (from k : ℕ) → followed_of s
 unfolding followed_of
 followed_next ss p from k = ap (followed_of ss p from) (add-one k)
 
-pub followed_holds : (ss : List Step) (p : Pass) (from k : ℕ)
-    → agree 32 (step_at ss (from + k)).len (followed_of ss p from k).x (step_at ss (from + k)).addr ≡ true
-    → passed_of (followed_of ss p from k) (puts (step_at ss (from + k)).put) (step_at ss (from + k)).len (step_at ss (from + k)).hop ≡ followed_of ss p from (k + 1)
-followed_holds ss p from k e =
-    sym (followed_next ss p from k ∙ ap (λ (b : Bool). cond b (passed_of (followed_of ss p from k) (puts (step_at ss (from + k)).put) (step_at ss (from + k)).len (step_at ss (from + k)).hop)
-    (followed_of ss p from k)) e)
+-- The pass behind step `at` is the next one.
+followed_at : (ss : List Step) (p : Pass) (from at : ℕ) {q : Pass} → from ≤ at → q ≡ followed_of ss p from (at - from)
+    → next_of q (step_at ss at) ≡ followed_of ss p from (at + 1 - from)
+followed_at ss p from at {q = q} le e =
+    let f : from + (at - from) ≡ at = omega arith in
+    let g : at + 1 - from ≡ (at - from) + 1 = omega arith in
+    ap₂ next_of e (ap (step_at ss) (sym f)) ∙ sym (followed_next ss p from (at - from)) ∙ ap (followed_of ss p from) (sym g)
 
-pub followed_other : (ss : List Step) (p : Pass) (from k : ℕ)
-    → agree 32 (step_at ss (from + k)).len (followed_of ss p from k).x (step_at ss (from + k)).addr ≡ false
-    → followed_of ss p from k ≡ followed_of ss p from (k + 1)
-followed_other ss p from k e =
-    sym (followed_next ss p from k ∙ ap (λ (b : Bool). cond b (passed_of (followed_of ss p from k) (puts (step_at ss (from + k)).put) (step_at ss (from + k)).len (step_at ss (from + k)).hop)
-    (followed_of ss p from k)) e)
+pub followed_holds : (ss : List Step) (p : Pass) (from at : ℕ) {q r : Pass} {b : Bool} → from ≤ at → q ≡ followed_of ss p from (at - from)
+    → b ≡ agree 32 (step_at ss at).len q.x (step_at ss at).addr → b ≡ true
+    → r ≡ passed_of q (puts (step_at ss at).put) (step_at ss at).len (step_at ss at).hop → r ≡ followed_of ss p from (at + 1 - from)
+followed_holds ss p from at {q = q} le e h y z =
+    z ∙ ap (λ (b : Bool). cond b (passed_of q (puts (step_at ss at).put) (step_at ss at).len (step_at ss at).hop) q) (sym y ∙ h) ∙ followed_at ss p from at le e
+
+pub followed_other : (ss : List Step) (p : Pass) (from at : ℕ) {q r : Pass} {b : Bool} → from ≤ at → q ≡ followed_of ss p from (at - from)
+    → b ≡ agree 32 (step_at ss at).len q.x (step_at ss at).addr → b ≡ false → r ≡ q → r ≡ followed_of ss p from (at + 1 - from)
+followed_other ss p from at {q = q} le e h y z =
+    z ∙ ap (λ (b : Bool). cond b (passed_of q (puts (step_at ss at).put) (step_at ss at).len (step_at ss at).hop) q) (sym y ∙ h) ∙ followed_at ss p from at le e
 
 -- The first of k lengths from l on with a hop: 33 where none has one.
 pub next_is : (hops : List ℕ) (l k : ℕ) → ((next_from hops l k ≡ 33) × ((j : ℕ) → l ≤ j → j < l + k → get_or hops j 0 ≡ no_hop))

@@ -31,7 +31,8 @@ returns-then-reader-eq0 c =
     let s = c.step_at-first in
     let p = assigning_first (lowest c.args.ranks.now) c.args.work.now c.args.top c.args.above n.0 n.1 c.requires.above_le_no_hop s.ensures.stepped s.result.entries
     (λ i lt. s.ensures.by_index i (omega arith)) in
-    assigning_end (assigning_rest c.requires.above_le_no_hop 30 1 refl (omega arith) (rw c.if-reader-eq0.true at p)) refl
+    let e = assigning_end (assigning_rest c.requires.above_le_no_hop 30 1 refl (omega arith) (rw c.if-reader-eq0.true at p)) refl in
+    record { by_index_2 = e.0; by_index_3 = e.1.0; by_index_4 = e.1.1 }
 
 pub loop-b-init : goal.loop-b-init
 loop-b-init c =
@@ -55,4 +56,7 @@ loop-b-preserved c =
     )
 
 pub returns : goal.returns
-returns c = assigning_end c.loop-b.invariant.1 (omega arith)
+returns c =
+    let ends : c.loop-b.b ≡ 31 = omega arith in
+    let e = assigning_end c.loop-b.invariant.1 ends in
+    record { by_index_2 = e.0; by_index_3 = e.1.0; by_index_4 = e.1.1 }

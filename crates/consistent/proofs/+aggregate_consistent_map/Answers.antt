@@ -15,12 +15,6 @@ use Rattle.gather.proofs.BusySlots.{Busy, busy_slots, walked_next}
 use Rattle.consistent.proofs.MapLaws.{map_slot, map_no_child, Found, slot_le, map-slots, map-most, map_child}
 use Rattle.consistent.proofs.+aggregate_consistent_map.Goals as goal
 
-abbrev at : ℕ → In 2 kinds.ps
-at t = and 2 kinds.ps (is 2 kinds.ps μ-depth t) reads.Pre
-
-abbrev below : ℕ → In 2 kinds.ps
-below t = and 2 kinds.ps (falls 2 kinds.ps ◌<◌ μ-depth t) reads.Pre
-
 pub gather_run-g-requires : goal.gather_run-g-requires
 gather_run-g-requires t c = record { node = c.requires.node; first_len = (refl, refl); by_index = λ b lt. (get_or-replicate 63 b 0 0 lt, get_or-replicate 63 b 0 0 lt) }
 
@@ -56,7 +50,7 @@ emit_slot-n-requires t c =
 
 pub overflow_add-n : goal.overflow_add-n
 overflow_add-n t c =
-    let entered : let a = c.args in let run = c.gather_run-g.new.first in let hops = c.covering_hops-hops.result in let lp = c.loop-c in let heads = c.emit_slot-n in Begun a.size c.entries_of-entries.result hops a.depth (a.key * 2) (map_slot a.size a.table.now run.0 run.1.0 hops a.depth (a.key * 2)) lp.c (lp.n + heads.result) a.out.now (relaid c.past_sized-here.result heads.new.out lp.out) = let heads = c.emit_slot-n in let lt = c.loop-c-test.true in let key = c.slot_key-slot.ensures.value in begun c.loop-c.invariant.1.1 lt c.past_sized-here.ensures key heads.ensures c.out-1.given.1 in
+    let entered : let a = c.args in let run = c.gather_run-g.new in let hops = c.covering_hops-hops.result in let lp = c.loop-c in let heads = c.emit_slot-n in Begun a.size c.entries_of-entries.result hops a.depth (a.key * 2) (map_slot a.size a.table.now run.first run.end hops a.depth (a.key * 2)) lp.c (lp.n + heads.result) a.out.now (relaid c.past_sized-here.result heads.new.out lp.out) = let heads = c.emit_slot-n in let lt = c.loop-c-test.true in let key = c.slot_key-slot.ensures.value in begun c.loop-c.invariant.1.1 lt c.past_sized-here.ensures key heads.ensures c.out-1.given.1 in
     let few = begun_few entered in
     let most = map-most c.loop-c.invariant.0 in
     omega (arith, c.well_formed)
@@ -66,7 +60,7 @@ overflow_add-depth t c = let deep = c.loop-c.invariant.0.node.at.deep in omega a
 
 pub aggregate_consistent_map-n-requires : goal.aggregate_consistent_map-n-requires
 aggregate_consistent_map-n-requires t c =
-    let place : let a = c.args in let run = c.gather_run-g.new.first in let lp = c.loop-c in get_or run.0 (31 + lp.c) 0 < get_or run.1.0 (31 + lp.c) 0 → c.slot_key-slot.result * 2 ≡ place_at (slot_size a.depth) (a.key * 2) 5 lp.c = λ has. let lp = c.loop-c in let child = child_node lp.invariant.0.node lp.invariant.0.gathered lp.c c.loop-c-test.true has in c.slot_key-slot.ensures.result_value (omega (arith, child.at.deep)) in
+    let place : let a = c.args in let run = c.gather_run-g.new in let lp = c.loop-c in get_or run.first (31 + lp.c) 0 < get_or run.end (31 + lp.c) 0 → c.slot_key-slot.result * 2 ≡ place_at (slot_size a.depth) (a.key * 2) 5 lp.c = λ has. let lp = c.loop-c in let child = child_node lp.invariant.0.node lp.invariant.0.gathered lp.c c.loop-c-test.true has in c.slot_key-slot.ensures.result_value (omega (arith, child.at.deep)) in
     let lp = c.loop-c in
     let f = lp.invariant.0 in
     let lt = c.loop-c-test.true in
@@ -76,8 +70,8 @@ aggregate_consistent_map-n-requires t c =
 
 pub overflow_add-n-then-from-to : goal.overflow_add-n-then-from-to
 overflow_add-n-then-from-to t c =
-    let entered : let a = c.args in let run = c.gather_run-g.new.first in let hops = c.covering_hops-hops.result in let lp = c.loop-c in let heads = c.emit_slot-n in Begun a.size c.entries_of-entries.result hops a.depth (a.key * 2) (map_slot a.size a.table.now run.0 run.1.0 hops a.depth (a.key * 2)) lp.c (lp.n + heads.result) a.out.now (relaid c.past_sized-here.result heads.new.out lp.out) = let heads = c.emit_slot-n in let lt = c.loop-c-test.true in let key = c.slot_key-slot.ensures.value in begun c.loop-c.invariant.1.1 lt c.past_sized-here.ensures key heads.ensures c.out-1.given.1 in
-    let place : let a = c.args in let run = c.gather_run-g.new.first in let lp = c.loop-c in get_or run.0 (31 + lp.c) 0 < get_or run.1.0 (31 + lp.c) 0 → c.slot_key-slot.result * 2 ≡ place_at (slot_size a.depth) (a.key * 2) 5 lp.c = λ has. let lp = c.loop-c in let child = child_node lp.invariant.0.node lp.invariant.0.gathered lp.c c.loop-c-test.true has in c.slot_key-slot.ensures.result_value (omega (arith, child.at.deep)) in
+    let entered : let a = c.args in let run = c.gather_run-g.new in let hops = c.covering_hops-hops.result in let lp = c.loop-c in let heads = c.emit_slot-n in Begun a.size c.entries_of-entries.result hops a.depth (a.key * 2) (map_slot a.size a.table.now run.first run.end hops a.depth (a.key * 2)) lp.c (lp.n + heads.result) a.out.now (relaid c.past_sized-here.result heads.new.out lp.out) = let heads = c.emit_slot-n in let lt = c.loop-c-test.true in let key = c.slot_key-slot.ensures.value in begun c.loop-c.invariant.1.1 lt c.past_sized-here.ensures key heads.ensures c.out-1.given.1 in
+    let place : let a = c.args in let run = c.gather_run-g.new in let lp = c.loop-c in get_or run.first (31 + lp.c) 0 < get_or run.end (31 + lp.c) 0 → c.slot_key-slot.result * 2 ≡ place_at (slot_size a.depth) (a.key * 2) 5 lp.c = λ has. let lp = c.loop-c in let child = child_node lp.invariant.0.node lp.invariant.0.gathered lp.c c.loop-c-test.true has in c.slot_key-slot.ensures.result_value (omega (arith, child.at.deep)) in
     let lp = c.loop-c in
     let f = lp.invariant.0 in
     let key = place c.if-from-to.true in
@@ -93,8 +87,8 @@ loop-c-smaller-then-from-to t c =
 
 pub loop-c-preserved-then-from-to : goal.loop-c-preserved-then-from-to
 loop-c-preserved-then-from-to t c =
-    let entered : let a = c.args in let run = c.gather_run-g.new.first in let hops = c.covering_hops-hops.result in let lp = c.loop-c in let heads = c.emit_slot-n in Begun a.size c.entries_of-entries.result hops a.depth (a.key * 2) (map_slot a.size a.table.now run.0 run.1.0 hops a.depth (a.key * 2)) lp.c (lp.n + heads.result) a.out.now (relaid c.past_sized-here.result heads.new.out lp.out) = let heads = c.emit_slot-n in let lt = c.loop-c-test.true in let key = c.slot_key-slot.ensures.value in begun c.loop-c.invariant.1.1 lt c.past_sized-here.ensures key heads.ensures c.out-1.given.1 in
-    let place : let a = c.args in let run = c.gather_run-g.new.first in let lp = c.loop-c in get_or run.0 (31 + lp.c) 0 < get_or run.1.0 (31 + lp.c) 0 → c.slot_key-slot.result * 2 ≡ place_at (slot_size a.depth) (a.key * 2) 5 lp.c = λ has. let lp = c.loop-c in let child = child_node lp.invariant.0.node lp.invariant.0.gathered lp.c c.loop-c-test.true has in c.slot_key-slot.ensures.result_value (omega (arith, child.at.deep)) in
+    let entered : let a = c.args in let run = c.gather_run-g.new in let hops = c.covering_hops-hops.result in let lp = c.loop-c in let heads = c.emit_slot-n in Begun a.size c.entries_of-entries.result hops a.depth (a.key * 2) (map_slot a.size a.table.now run.first run.end hops a.depth (a.key * 2)) lp.c (lp.n + heads.result) a.out.now (relaid c.past_sized-here.result heads.new.out lp.out) = let heads = c.emit_slot-n in let lt = c.loop-c-test.true in let key = c.slot_key-slot.ensures.value in begun c.loop-c.invariant.1.1 lt c.past_sized-here.ensures key heads.ensures c.out-1.given.1 in
+    let place : let a = c.args in let run = c.gather_run-g.new in let lp = c.loop-c in get_or run.first (31 + lp.c) 0 < get_or run.end (31 + lp.c) 0 → c.slot_key-slot.result * 2 ≡ place_at (slot_size a.depth) (a.key * 2) 5 lp.c = λ has. let lp = c.loop-c in let child = child_node lp.invariant.0.node lp.invariant.0.gathered lp.c c.loop-c-test.true has in c.slot_key-slot.ensures.result_value (omega (arith, child.at.deep)) in
     let lp = c.loop-c in
     let f = lp.invariant.0 in
     let call = c.aggregate_consistent_map-n in
@@ -109,7 +103,7 @@ loop-c-smaller t c = omega (arith, c.loop-c-test.true, c.next_bit-c-in-loop-c.en
 
 pub loop-c-preserved : goal.loop-c-preserved
 loop-c-preserved t c =
-    let entered : let a = c.args in let run = c.gather_run-g.new.first in let hops = c.covering_hops-hops.result in let lp = c.loop-c in let heads = c.emit_slot-n in Begun a.size c.entries_of-entries.result hops a.depth (a.key * 2) (map_slot a.size a.table.now run.0 run.1.0 hops a.depth (a.key * 2)) lp.c (lp.n + heads.result) a.out.now (relaid c.past_sized-here.result heads.new.out lp.out) = let heads = c.emit_slot-n in let lt = c.loop-c-test.true in let key = c.slot_key-slot.ensures.value in begun c.loop-c.invariant.1.1 lt c.past_sized-here.ensures key heads.ensures c.out-1.given.1 in
+    let entered : let a = c.args in let run = c.gather_run-g.new in let hops = c.covering_hops-hops.result in let lp = c.loop-c in let heads = c.emit_slot-n in Begun a.size c.entries_of-entries.result hops a.depth (a.key * 2) (map_slot a.size a.table.now run.first run.end hops a.depth (a.key * 2)) lp.c (lp.n + heads.result) a.out.now (relaid c.past_sized-here.result heads.new.out lp.out) = let heads = c.emit_slot-n in let lt = c.loop-c-test.true in let key = c.slot_key-slot.ensures.value in begun c.loop-c.invariant.1.1 lt c.past_sized-here.ensures key heads.ensures c.out-1.given.1 in
     let lp = c.loop-c in
     let f = lp.invariant.0 in
     let lt = c.loop-c-test.true in

@@ -1,13 +1,12 @@
 -- `holes::list`, which calls itself on the halves of a position, meets its contract, by falling bits below the position. What the left half has written
 -- stands before the part of the output that is lent to the right half. Assumes nothing.
-use Prim.Native.Nat.{ℕ, ◌+◌, ◌-◌, ◌*◌, ◌≤◌, ◌<◌}
+use Prim.Native.Nat.{◌+◌, ◌*◌, ◌≤◌}
 use mathlib.Core.Path.{◌≡◌, sym, ap, ap₂, subst, ◌∙◌}
 use native.Mathlib.Omega.{arith}
 use mathlib.Core.List.{[], ◌∷◌}
 use lib.ListN.{length, length-take, length-drop}
 use borrow.Author.Rules.{rules}
-use borrow.Fn.PlainCycle.{Measures, is, falls, and}
-use Rattle.records.specs.Sized.{width_in, route}
+use Rattle.records.specs.Sized.{route}
 use Rattle.holes.specs.Holes.{address_in, holes_at}
 use Rattle.holes.specs.Kinds.{Halves, KindOf}
 use Rattle.holes.proofs.Output.{hole-laid, hole-room, none_laid, halves_size, left-size, left-room, both_few, halves_laid}
@@ -72,8 +71,9 @@ list-requires t c =
 
 pub overflow_add-result : goal.overflow_add-result
 overflow_add-result t c =
+    let halves : let a = c.args in let k = c.in-Parted in Halves a.size a.table.now a.lo a.hi a.len a.key k.right k.mid = let a = c.args in subst (KindOf a.size a.table.now a.lo a.hi a.len a.key) c.in-Parted.is c.kind_of.ensures in
     let few =
-    both_few (halves t c) c.args.out.now c.requires.key_in_bounds c.list-left.ensures.value c.list-left.ensures.out_after in
+    both_few halves c.args.out.now c.requires.key_in_bounds c.list-left.ensures.value c.list-left.ensures.out_after in
     let more = c.list.ensures.value in
     search rules
 
@@ -90,5 +90,6 @@ returns-in-Routed t c =
 
 pub returns-in-Parted : goal.returns-in-Parted
 returns-in-Parted t c =
-    let h = halves t c in
+    let halves : let a = c.args in let k = c.in-Parted in Halves a.size a.table.now a.lo a.hi a.len a.key k.right k.mid = let a = c.args in subst (KindOf a.size a.table.now a.lo a.hi a.len a.key) c.in-Parted.is c.kind_of.ensures in
+    let h = halves in
     let right = c.list.ensures in record { value = ap₂ ◌+◌ c.list-left.ensures.value right.value ∙ sym (halves_count h); out_after = halves_laid h c.args.out.now c.requires.key_in_bounds c.list-left.ensures.value c.list-left.ensures.out_after right.out_after }

@@ -2,7 +2,6 @@
 use mathlib.Core.Bool.{true}
 use mathlib.Core.Path.{◌≡◌, refl, ◌∙◌}
 use native.Mathlib.Omega.{arith}
-use borrow.Author.Rules.{rules}
 use Rattle.liveroom.specs.Rooms.{shown, live, Words}
 use Rattle.liveroom.proofs.Holding.{held-live, held_dead}
 use Rattle.liveroom.proofs.Sound.{Live, live_is}

@@ -1,7 +1,6 @@
 -- `make_empty` writes the mark and the number of records. Assumes nothing.
 use native.Mathlib.Omega.{arith}
 use lib.ListN.{length-set}
-use borrow.Author.Rules.{rules}
 use Rattle.live.proofs.Replies.{makes-short, makes_done}
 use Rattle.live.proofs.make_empty.Goals as goal
 

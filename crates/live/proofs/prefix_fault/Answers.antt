@@ -1,8 +1,7 @@
 -- `prefix_fault` tries rules 5 and 6. Assumes nothing.
 use mathlib.Core.Bool.{true, false}
 use mathlib.Core.Path.{◌≡◌, sym, ◌∙◌}
-use borrow.Author.Rules.{rules}
-use borrow.Author.Tests.{le-leb, lt-leb, not-true, not-false}
+use borrow.Author.Tests.{le-leb, lt-leb}
 use Rattle.words.specs.Prefix.{host_clear}
 use Rattle.refusals.specs.Rules.{broken}
 use Rattle.live.proofs.prefix_fault.Goals as goal

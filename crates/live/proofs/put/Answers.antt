@@ -2,7 +2,6 @@
 use mathlib.Core.Bool.{true}
 use mathlib.Core.Path.{◌≡◌}
 use native.Mathlib.Omega.{arith}
-use borrow.Author.Rules.{rules}
 use Rattle.records.specs.Sized.{route}
 use Rattle.nodecount.specs.Nodes.{nodes}
 use Rattle.liveroom.specs.Rooms.{shown, sound, live}

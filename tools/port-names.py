@@ -17,6 +17,10 @@ WORDS = set("length take drop append map reverse replicate get_or set pow mul ad
 OTHER = {
     name: name.replace("-", "_") + "_lem"
     for name in ("first-match", "is-in", "of-new", "on-first", "or-union", "record-over", "rewritten-text", "unused-from", "place_at", "same_from", "seen_by", "is-entry", "is-miss", "is-at", "most-of", "route-of", "run-at")
+} | {
+    # Fields and constructors have no dash.
+    name: name.replace("-", "_")
+    for name in ("short-output", "length-kept", "hop-kept", "short-room", "within-reach", "left-run", "right-run", "left-answers", "right-answers", "under-right")
 }
 
 

@@ -83,8 +83,8 @@ module _ (form : Form) (t : List ℕ) (mode default : ℕ) (ranks : List ℕ) (r
             past-table = last_decide known form t mode default ranks rooms (result_of (size_of form) t mode default ranks) is used ok ranked valid
 
             -- Number 10.
-            pub short-room : words < 160 * nodes (width_in (size_of form)) (routes_in (size_of form) t) → rewrite_reply form t mode default ranks room words ≡ refuses 10 0
-            short-room h = past-table ∙ broken-here _ 10 0 _ (lt-leb (160 * nodes (width_in (size_of form)) (routes_in (size_of form) t)) words h)
+            pub short_room : words < 160 * nodes (width_in (size_of form)) (routes_in (size_of form) t) → rewrite_reply form t mode default ranks room words ≡ refuses 10 0
+            short_room h = past-table ∙ broken-here _ 10 0 _ (lt-leb (160 * nodes (width_in (size_of form)) (routes_in (size_of form) t)) words h)
 
             -- Past it only the output's room does.
             pub only_output : 160 * nodes (width_in (size_of form)) (routes_in (size_of form) t) ≤ words → rewrite_reply form t mode default ranks room words ≡ last_reply (size_of form) t mode default ranks room

@@ -1,5 +1,6 @@
 // The calls over a table that need the node walks: a rewrite in each of the four modes, and the cover query, with every refusal in
 // document 01's order. What they answer is said in the crate calls; lookup and addresses held are the crate table's.
+#![tactic(auto)]
 
 mod walks;
 

@@ -1,6 +1,7 @@
 // The parts of the two walks of modes 4 and 5 inside one node: the room that its candidate sets are kept in, the sets of its positions from
 // those of its slots, what these are assigned by the words of the room, and which of them have an entry.
 // A hop is a u8, NO_HOP for none. A candidate set is a u64, 0 for a hole (crate hops).
+#![tactic(auto)]
 
 pub mod room;
 

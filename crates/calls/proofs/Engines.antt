@@ -100,16 +100,16 @@ by_untouched size rules t mode default ranks o r o' ok number index e =
 hop_of : (s : Bool) {t : List Route} → All (λ r. r.hop ≤ top_hop s) t → {h : ℕ} → HopIn t h → h ≤ top_hop s
 hop_of s hops (r, (m, e)) = let k = all_member hops m in subst (λ (n : ℕ). n ≤ top_hop s) e k
 
-hop-kept : (mode default : ℕ) → InUse mode → (mode ≡ 5 → default ≤ 63) → {t : List Route} → All (λ r. r.hop ≤ top_hop (takes_set mode)) t
+hop_kept : (mode default : ℕ) → InUse mode → (mode ≡ 5 → default ≤ 63) → {t : List Route} → All (λ r. r.hop ≤ top_hop (takes_set mode)) t
     → (h : ℕ) → HopFrom (mode_of mode default) t h → h ≤ top_hop (takes_set mode)
-hop-kept zero d m f hops h from = absurd (omega arith)
-hop-kept (suc zero) d m f hops h from = omega arith
-hop-kept (suc (suc zero)) d m f hops h from = absurd (m.2 refl)
-hop-kept (suc (suc (suc zero))) d m f hops h from = hop_of (takes_set 3) hops from
-hop-kept (suc (suc (suc (suc zero)))) d m f hops h from = hop_of (takes_set 4) hops from
-hop-kept (suc (suc (suc (suc (suc zero))))) d m f hops h (inl e) = let k = f refl in omega arith
-hop-kept (suc (suc (suc (suc (suc zero))))) d m f hops h (inr from) = hop_of (takes_set 5) hops from
-hop-kept (suc (suc (suc (suc (suc (suc n)))))) d m f hops h from = absurd (omega arith)
+hop_kept zero d m f hops h from = absurd (omega arith)
+hop_kept (suc zero) d m f hops h from = omega arith
+hop_kept (suc (suc zero)) d m f hops h from = absurd (m.2 refl)
+hop_kept (suc (suc (suc zero))) d m f hops h from = hop_of (takes_set 3) hops from
+hop_kept (suc (suc (suc (suc zero)))) d m f hops h from = hop_of (takes_set 4) hops from
+hop_kept (suc (suc (suc (suc (suc zero))))) d m f hops h (inl e) = let k = f refl in omega arith
+hop_kept (suc (suc (suc (suc (suc zero))))) d m f hops h (inr from) = hop_of (takes_set 5) hops from
+hop_kept (suc (suc (suc (suc (suc (suc n)))))) d m f hops h from = absurd (omega arith)
 
 -- ---- A table t, rewritten by an engine.
 module _ (form : Form) (rules : List Rule) (t : List ℕ) (mode default : ℕ) (ranks o : List ℕ) (guarded : Guarded form rules t mode default ranks (length o)) (r : Rewritten) (o' : List ℕ)
@@ -192,7 +192,7 @@ module _ (form : Form) (rules : List Rule) (t : List ℕ) (mode default : ℕ) (
       unfolding result_of
       by_hops =
           all_map
-          (λ q. hop-kept mode default by_answerable.known_mode by_answerable.small_default by_lawful.hops q.hop)
+          (λ q. hop_kept mode default by_answerable.known_mode by_answerable.small_default by_lawful.hops q.hop)
           (result-hops (lowest ranks) (lowest_chooses ranks) (width_in (size_of form)) (mode_of mode default) (routes_in (size_of form) t))
 
       -- The written records are bytes.

@@ -29,7 +29,7 @@ use Rattle.calls.specs.declared.Rewritten.{Rewritten}
 use Rattle.calls.specs.declared.Rewritten.TheVariants.{Records, Refused}
 use Rattle.calls.specs.declared.Covers.{Covers}
 use Rattle.calls.specs.declared.Covers.TheVariants.{Refused as NotAnswered}
-use Rattle.calls.specs.Conditions.{RewriteCondition, no_mode, retired, large_default, bad_ranks, of_table, short_work, short-output, CoverCondition, of_set, long_query, short-room, Answerable, Guarded}
+use Rattle.calls.specs.Conditions.{RewriteCondition, no_mode, retired, large_default, bad_ranks, of_table, short_work, short_output, CoverCondition, of_set, long_query, short_room, Answerable, Guarded}
 use Rattle.calls.specs.Covering.{cover_rules, covered_by, covers_says, Queried}
 use Rattle.calls.specs.Rewriting.{InUse, result_of, takes_set, rewrite_rules, reply_by, rewrite_reply, count_of, change_of, Rewrites}
 use Rattle.calls.proofs.Engines.{by_gives, by_refused, by_accepted, by_untouched}
@@ -63,7 +63,7 @@ module _ (form : Form) (t : List ℕ) (mode default : ℕ) (ranks : List ℕ) (r
       small_default = λ e. holds (dec_le default 63) (λ f. none 2 0 (large_default e (omega arith)));
       lawful_ranks = λ h. lawful (λ f. none 15 0 (bad_ranks h f));
       accepted = (in_accepted_exactly (size_of form) (form_size form) form.strict (takes_set mode) t).1 (λ n i c. none n i (of_table c));
-      enough_output = holds (dec_le (size_of form * length (result_of (size_of form) t mode default ranks)) room) (λ f. none 11 0 (short-output (omega arith)));
+      enough_output = holds (dec_le (size_of form * length (result_of (size_of form) t mode default ranks)) room) (λ f. none 11 0 (short_output (omega arith)));
     },
     holds (dec_le (160 * nodes (width_in (size_of form)) (routes_in (size_of form) t)) words) (λ f. none 10 0 (short_work (omega arith))),
   )
@@ -76,7 +76,7 @@ module _ (form : Form) (t : List ℕ) (mode default : ℕ) (ranks : List ℕ) (r
   answerable→none (a, work) n i (bad_ranks h f) = f (a.lawful_ranks h)
   answerable→none (a, work) n i (of_table c) = (in_accepted_exactly (size_of form) (form_size form) form.strict (takes_set mode) t).0 a.accepted n i c
   answerable→none (a, work) n i (short_work h) = omega arith
-  answerable→none (a, work) n i (short-output h) = omega (arith, a.enough_output)
+  answerable→none (a, work) n i (short_output h) = omega (arith, a.enough_output)
 
   -- None holds exactly when the rewrite is answerable and the room is enough.
   pub answerable_exactly : None (RewriteCondition form t mode default ranks room words)
@@ -131,7 +131,7 @@ module _ (form : Form) (t : List ℕ) (mode default : ℕ) (ranks o : List ℕ) 
         go n i (bad_ranks h f) = inr (inl refl)
         go n i (of_table c) = let k = in_table_numbers (size_of form) (form_size form) form.strict (takes_set mode) t n i c in inl (omega (arith, k.0), omega (arith, k.1), λ z. omega (arith, k.1))
         go n i (short_work h) = inl (omega arith, omega arith, λ z. omega arith)
-        go n i (short-output h) = inl (omega arith, omega arith, λ z. omega arith)
+        go n i (short_output h) = inl (omega arith, omega arith, λ z. omega arith)
 
 -- ---- The cover query.
 module _ (form : Form) (t : List ℕ) (address len words : ℕ) (r : Covers) (w' : List ℕ) (ok : Queried form t address len words r w') where
@@ -154,7 +154,7 @@ module _ (form : Form) (t : List ℕ) (address len words : ℕ) (r : Covers) (w'
       go : (n i : ℕ) → CoverCondition form t len words n i → (3 ≤ n) × (n ≤ 10)
       go n i (of_set c) = let k = in_table_numbers (size_of form) (form_size form) form.strict true t n i c in (omega (arith, k.0), omega (arith, k.1))
       go n i (long_query h) = (omega arith, omega arith)
-      go n i (short-room h) = (omega arith, omega arith)
+      go n i (short_room h) = (omega arith, omega arith)
 
 -- ---- The least room.
 
@@ -196,7 +196,7 @@ module _ (form : Form) (mode default : ℕ) (ranks o : List ℕ) (words : ℕ) (
       tenth n i (bad_ranks h f) e = absurd (omega arith)
       tenth n i (of_table c) e = absurd (empty-table form (takes_set mode) n i c)
       tenth n i (short_work h) e = rw (empty-nodes form) at h
-      tenth n i (short-output h) e = absurd (omega arith)
+      tenth n i (short_output h) e = absurd (omega arith)
 
       earlier : (m j : ℕ) → Earlier m j 10 0 → RewriteCondition form [] mode default ranks (length o) words m j → ⊥
       earlier m j l (no_mode f) = f (known.0, known.1)
@@ -205,4 +205,4 @@ module _ (form : Form) (mode default : ℕ) (ranks o : List ℕ) (words : ℕ) (
       earlier m j l (bad_ranks h f) = f (ranked h)
       earlier m j l (of_table c) = empty-table form (takes_set mode) m j c
       earlier m j l (short_work h) = earlier_not 10 0 10 0 l l
-      earlier m j l (short-output h) = earlier_not 11 0 10 0 l (inl (omega arith))
+      earlier m j l (short_output h) = earlier_not 11 0 10 0 l (inl (omega arith))

@@ -23,7 +23,7 @@ use Rattle.table.specs.Conditions.{FormCondition}
 use Rattle.table.specs.TableRules.{form_rules}
 use Rattle.table.proofs.SizedTested.{in_table_tests, in_table_ranked}
 use Rattle.nodecount.specs.Nodes.{nodes}
-use Rattle.calls.specs.Conditions.{RewriteCondition, no_mode, retired, large_default, bad_ranks, of_table, short_work, short-output, CoverCondition, of_set, long_query, short-room}
+use Rattle.calls.specs.Conditions.{RewriteCondition, no_mode, retired, large_default, bad_ranks, of_table, short_work, short_output, CoverCondition, of_set, long_query, short_room}
 use Rattle.calls.specs.Covering.{cover_rules}
 use Rattle.calls.specs.Rewriting.{result_of, takes_set, rewrite_rules}
 
@@ -167,7 +167,7 @@ module _ (form : Form) (t : List ℕ) (mode default : ℕ) (ranks : List ℕ) (r
       broken_with known form t mode default ranks behind Holds (λ e. no_mode (mode_refuted mode e)) retired large_default bad_ranks (λ n i c. of_table c)
       (sound-each Holds behind (
         λ e. short_work (leb-false (160 * nodes (width_in (size_of form)) (routes_in (size_of form) t)) words e),
-        (λ e. short-output (leb-false (size_of form * length (result_of (size_of form) t mode default ranks)) room e), tt),
+        (λ e. short_output (leb-false (size_of form * length (result_of (size_of form) t mode default ranks)) room e), tt),
       ))
 
   rewrite_breaks : (n i : ℕ) → Holds n i → Broken (rewrite_rules form t mode default ranks room words) n i
@@ -178,7 +178,7 @@ module _ (form : Form) (t : List ℕ) (mode default : ℕ) (ranks : List ℕ) (r
   rewrite_breaks n i (bad_ranks h f) = breaks_ranks known form t mode default ranks behind h f
   rewrite_breaks n i (of_table c) = breaks_table known form t mode default ranks behind n i c
   rewrite_breaks n i (short_work h) = breaks_last known form t mode default ranks behind n i (inl (lt-leb (160 * nodes (width_in (size_of form)) (routes_in (size_of form) t)) words h, refl, refl))
-  rewrite_breaks n i (short-output h) =
+  rewrite_breaks n i (short_output h) =
       breaks_last known form t mode default ranks behind n i (inr (inl (lt-leb (size_of form * length (result_of (size_of form) t mode default ranks)) room h, refl, refl)))
 
   -- They test the conditions of a rewrite.
@@ -200,13 +200,13 @@ module _ (form : Form) (t : List ℕ) (len words : ℕ) where
   cover-broken =
       sound-append (CoverCondition form t len words) (form_rules form true t) last (λ n i b. of_set ((in_table_tests (size_of form) (form_size form) form.strict true t n i).0 b))
       (sound-each (CoverCondition form t len words) last
-      (λ e. long_query (leb-false len (width_in (size_of form)) e), (λ e. short-room (leb-false (160 * nodes (width_in (size_of form)) (routes_in (size_of form) t)) words e), tt)))
+      (λ e. long_query (leb-false len (width_in (size_of form)) e), (λ e. short_room (leb-false (160 * nodes (width_in (size_of form)) (routes_in (size_of form) t)) words e), tt)))
 
   cover_breaks : (n i : ℕ) → CoverCondition form t len words n i → Broken (cover_rules form t len words) n i
   unfolding cover_rules
   cover_breaks n i (of_set c) = broken-left (form_rules form true t) last n i ((in_table_tests (size_of form) (form_size form) form.strict true t n i).1 c)
   cover_breaks n i (long_query h) = broken-right (form_rules form true t) last n i (inl (lt-leb len (width_in (size_of form)) h, refl, refl))
-  cover_breaks n i (short-room h) = broken-right (form_rules form true t) last n i (inr (inl (lt-leb (160 * nodes (width_in (size_of form)) (routes_in (size_of form) t)) words h, refl, refl)))
+  cover_breaks n i (short_room h) = broken-right (form_rules form true t) last n i (inr (inl (lt-leb (160 * nodes (width_in (size_of form)) (routes_in (size_of form) t)) words h, refl, refl)))
 
   -- They test the conditions of the cover query.
   pub cover_tests : (n i : ℕ) → Broken (cover_rules form t len words) n i ↔ CoverCondition form t len words n i

@@ -21,13 +21,13 @@ pub data RewriteCondition (form : Form) (t : List ℕ) (mode default : ℕ) (ran
   bad_ranks : 4 ≤ mode → (Ranking 64 ranks → ⊥) → RewriteCondition form t mode default ranks room words 15 0
   of_table : {n i : ℕ} → FormCondition form (takes_set mode) t n i → RewriteCondition form t mode default ranks room words n i
   short_work : words < 160 * nodes (width_in (size_of form)) (routes_in (size_of form) t) → RewriteCondition form t mode default ranks room words 10 0
-  short-output : room < size_of form * length (result_of (size_of form) t mode default ranks) → RewriteCondition form t mode default ranks room words 11 0
+  short_output : room < size_of form * length (result_of (size_of form) t mode default ranks) → RewriteCondition form t mode default ranks room words 11 0
 
 -- Of the cover query. 3 to 8: the set's. 9: the query's length is above the width. 10: the work room is shorter than 160 words a node.
 pub data CoverCondition (form : Form) (t : List ℕ) (len words : ℕ) : ℕ → ℕ → Type 0 where
   of_set : {n i : ℕ} → FormCondition form true t n i → CoverCondition form t len words n i
   long_query : width_in (size_of form) < len → CoverCondition form t len words 9 0
-  short-room : words < 160 * nodes (width_in (size_of form)) (routes_in (size_of form) t) → CoverCondition form t len words 10 0
+  short_room : words < 160 * nodes (width_in (size_of form)) (routes_in (size_of form) t) → CoverCondition form t len words 10 0
 
 -- What any engine's answer with records means: the mode is in use, the default of fill a hop, the ranks of modes 4 and 5 lawful, the table accepted,
 -- and the output long enough.

@@ -29,7 +29,7 @@ use Rattle.chip.proofs.Images.{placed-image}
 module _ {strict : Bool} {t : List ℕ} (ok : AcceptedIn 8 strict false t) where
   -- No length is above 32,
   pub routes-short : All (λ r. r.len ≤ 32) (routes t)
-  routes-short = rw (routes_numbered t) (all_numbered (route_at t) 0 (records t) (λ i le lt. (ok.each i lt).length-kept))
+  routes-short = rw (routes_numbered t) (all_numbered (route_at t) 0 (records t) (λ i le lt. (ok.each i lt).length_kept))
 
   -- so there is one for each record,
   pub order_length : length (falling 32 (routes t)) ≡ records t

@@ -91,7 +91,7 @@ module _ (form : Form) (t m : List ℕ) (r : Loaded) (m' : List ℕ) (ok : Loads
       go (yes p) = p
       go (no p) =
           let long = all_member (unused_long (length (load_order t))) (subst (Member (slot k)) behind (member_numbered slot used 1024 k (omega arith) h)) in
-          let kept = (((load_given form t m r m' ok used).0 answered).0.each i lt).length-kept in
+          let kept = (((load_given form t m r m' ok used).0 answered).0.each i lt).length_kept in
           absurd (omega (arith, long, kept, ap (λ (q : Route). q.len) e))
 
   -- Each record of the table stands in exactly one slot,

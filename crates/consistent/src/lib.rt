@@ -1,4 +1,5 @@
 // Mode 3, node by node: the entries of a map whose hop differs from that of the nearest entry above.
+#![tactic(auto)]
 
 ghost use Rattle.std.specs.Prelude.{◌≡◌, false, not, ◌&&◌, ◌||◌, ℕ, ◌-◌, ◌*◌, ◌≤◌, ◌<◌, eqb, ltb, get_or};
 ghost use Rattle.words.specs.Bits.{bit};

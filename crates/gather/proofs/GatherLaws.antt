@@ -171,7 +171,7 @@ module _ {size : ℕ} {t : List ℕ} {lo hi depth key : ℕ} {first end : List �
         level = suc n.level;
         fives = omega (arith, n.fives);
         at = record { deep = omega (arith, deeper, width_most size n.sized); aligned = rw bits_below base; small = slot-within depth key c n.at lt };
-        within-reach = deeper;
+        within_reach = deeper;
         table = rw (slot-records g c lt) (table-part wide _ n.table);
         within = rw bits_below inner;
         short = shorts;
@@ -218,7 +218,7 @@ root-node size t is ok hops =
       level = 0;
       fives = refl;
       at = record { deep = omega arith; aligned = aligned-zero wide; small = omega arith };
-      within-reach = omega arith;
+      within_reach = omega arith;
       table = rw (root-run size t) table;
       within = rw (root-run size t) (all_map (valid-within wide) table.valid);
       short = rw (root-run size t) (short-widen (width_in size) (spare size) ok.valid);

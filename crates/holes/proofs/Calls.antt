@@ -37,7 +37,7 @@ use Rattle.lookup.proofs.Calls.{miss-held, lookup_none_exactly}
 use Rattle.calls.specs.Rewriting.{output_of}
 use Rattle.holes.specs.declared.Listed.{Listed}
 use Rattle.holes.specs.declared.Listed.TheVariants.{Records, Refused}
-use Rattle.holes.specs.Conditions.{UnroutedCondition, of_table, short-output}
+use Rattle.holes.specs.Conditions.{UnroutedCondition, of_table, short_output}
 use Rattle.holes.specs.Holes.{IsHole}
 use Rattle.holes.specs.Listing.{holes_of, unrouted_rules, listed_says, Lists}
 use Rattle.holes.proofs.Holes.{holes_hold, holes-table, holes-bare, holes-listed}
@@ -72,12 +72,12 @@ module _ (form : Form) (t : List ℕ) (room : ℕ) where
   unfolding unrouted_rules
   unrouted-broken =
       sound-append Holds (form_rules form false t) last (λ n i b. of_table ((in_table_tests (size_of form) (form_size form) form.strict false t n i).0 b))
-      (sound-each Holds last (λ e. short-output (leb-false need room e), tt))
+      (sound-each Holds last (λ e. short_output (leb-false need room e), tt))
 
   unrouted_breaks : (n i : ℕ) → Holds n i → Broken (unrouted_rules form t room) n i
   unfolding unrouted_rules
   unrouted_breaks n i (of_table c) = broken-left (form_rules form false t) last n i ((in_table_tests (size_of form) (form_size form) form.strict false t n i).1 c)
-  unrouted_breaks n i (short-output h) = broken-right (form_rules form false t) last n i (inl (lt-leb need room h, refl, refl))
+  unrouted_breaks n i (short_output h) = broken-right (form_rules form false t) last n i (inl (lt-leb need room h, refl, refl))
 
   pub unrouted_tests : (n i : ℕ) → Broken (unrouted_rules form t room) n i ↔ UnroutedCondition form t room n i
   unrouted_tests n i = (unrouted-broken n i, unrouted_breaks n i)
@@ -92,14 +92,14 @@ module _ (form : Form) (t : List ℕ) (room : ℕ) where
   none_exactly = (
     λ none. (
       (in_accepted_exactly (size_of form) (form_size form) form.strict false t).1 (λ n i c. none n i (of_table c)),
-      holds (dec_le need room) (λ f. none 11 0 (short-output (omega arith))),
+      holds (dec_le need room) (λ f. none 11 0 (short_output (omega arith))),
     ),
     λ (ok, fits) n i c. go ok fits n i c,
   )
     where
       go : AcceptedBy form false t → need ≤ room → (n i : ℕ) → Holds n i → ⊥
       go ok fits n i (of_table c) = (in_accepted_exactly (size_of form) (form_size form) form.strict false t).0 ok n i c
-      go ok fits n i (short-output h) = omega arith
+      go ok fits n i (short_output h) = omega arith
 
 -- ---- No second answer and no second output satisfies the statement, and for every input some do.
 pub unrouted_settled : (form : Form) (t o : List ℕ) (r r₁ : Listed) (o' o₁ : List ℕ) → Lists form t o r o' → Lists form t o r₁ o₁ → (r ≡ r₁) × (o' ≡ o₁)
@@ -150,7 +150,7 @@ module _ (form : Form) (t o : List ℕ) (r : Listed) (o' : List ℕ) (ok : Lists
     where
       go : (n i : ℕ) → UnroutedCondition form t (length o) n i → ((3 ≤ n) × (n ≤ 8)) ⊎ (n ≡ 11)
       go n i (of_table c) = inl (in_table_numbers size (form_size form) form.strict false t n i c)
-      go n i (short-output h) = inr refl
+      go n i (short_output h) = inr refl
 
   -- ---- Answers.
 

@@ -18,7 +18,7 @@ use Rattle.table.proofs.SizedAccepted.{in_accepted_exactly}
 use Rattle.calls.proofs.Refusals.{empty-table}
 use Rattle.holes.specs.declared.Listed.{Listed}
 use Rattle.holes.specs.declared.Listed.TheVariants.{Records, Refused}
-use Rattle.holes.specs.Conditions.{UnroutedCondition, of_table, short-output}
+use Rattle.holes.specs.Conditions.{UnroutedCondition, of_table, short_output}
 use Rattle.holes.specs.Holes.{holes}
 use Rattle.holes.specs.Listing.{holes_of, Lists}
 use Rattle.holes.proofs.Calls.{unrouted-listed, unrouted_refused, unrouted-written}
@@ -56,8 +56,8 @@ module _ (form : Form) (o : List ℕ) (r : Listed) (o' : List ℕ) (ok : Lists f
   -- without it is refused.
   pub empty-short : length o < size_of form → r ≡ Refused 11 0
   empty-short short =
-      (unrouted_refused form [] o r o' ok 11 0).1 (short-output (omega (arith, empty_one (size_of form) (form_size form))), earlier)
+      (unrouted_refused form [] o r o' ok 11 0).1 (short_output (omega (arith, empty_one (size_of form) (form_size form))), earlier)
     where
       earlier : (m j : ℕ) → Earlier m j 11 0 → UnroutedCondition form [] (length o) m j → ⊥
       earlier m j l (of_table c) = empty-table form false m j c
-      earlier m j l (short-output h) = earlier_not 11 0 11 0 l l
+      earlier m j l (short_output h) = earlier_not 11 0 11 0 l l

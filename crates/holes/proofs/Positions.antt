@@ -16,7 +16,7 @@ use Rattle.records.proofs.SizedReading.{width_most}
 use Rattle.records.proofs.SizedLaid.{key_addr}
 use Rattle.runs.specs.Runs.{run, RunAt, PastOwn, SplitAt}
 use Rattle.runs.proofs.Records.{run_none, run-first}
-use Rattle.runs.proofs.Halves.{record_within, past-low, past-longer, own-hop, own_none, left_is, right_is, left-run, right-run}
+use Rattle.runs.proofs.Halves.{record_within, past-low, past-longer, own-hop, own_none, left_is, right_is, left_run, right_run}
 use Rattle.holes.specs.Holes.{address_in, holes_in, holes_at}
 use Rattle.holes.specs.Kinds.{Position, Halves}
 use Rattle.holes.proofs.Walk.{holes-empty, holes-own, holes_halves}
@@ -87,13 +87,13 @@ module _ {size : ℕ} {t : List ℕ} {lo hi len key : ℕ} (p : Position size t 
             let there : address_in size right ≡ addr + 2 ^ m = ap (address_in size) begins ∙ key_addr w (addr + 2 ^ m) in
             record {
               longer = has_halves;
-              left_half = record { sized = p.sized; short = omega (arith, has_halves); exact = p.exact; at = rw half (left-run run_at_lem own split) };
+              left_half = record { sized = p.sized; short = omega (arith, has_halves); exact = p.exact; at = rw half (left_run run_at_lem own split) };
               right_half =
                   record {
                     sized = p.sized;
                     short = omega (arith, has_halves);
                     exact = begins ∙ ap (key_of w) (sym there);
-                    at = rw (half, there) (right-run run_at_lem own split);
+                    at = rw (half, there) (right_run run_at_lem own split);
                   };
               theirs =
                   rw (whole, half, there, left_is run_at_lem own split, right_is run_at_lem own split)

@@ -8,4 +8,4 @@ use Rattle.holes.specs.Listing.{holes_of}
 -- 3 to 8: the table's, as a map. 11: the output has fewer bytes than the holes' records.
 pub data UnroutedCondition (form : Form) (t : List ℕ) (room : ℕ) : ℕ → ℕ → Type 0 where
   of_table : {n i : ℕ} → FormCondition form false t n i → UnroutedCondition form t room n i
-  short-output : room < size_of form * length (holes_of (size_of form) t) → UnroutedCondition form t room 11 0
+  short_output : room < size_of form * length (holes_of (size_of form) t) → UnroutedCondition form t room 11 0

@@ -42,7 +42,7 @@ module _ (room : List ℕ) (words : Words room) (l : Live room) where
   unfolding shown
   in_range i lt =
       let p = shown_all room 0 (count_in room) map_of.each i (omega arith) (omega arith) in
-      (p.valid.short, p.hop-kept)
+      (p.valid.short, p.hop_kept)
 
   -- ---- The replies of a put.
 

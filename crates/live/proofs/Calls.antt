@@ -29,7 +29,7 @@ use Rattle.live.specs.declared.answers.Kept.{Kept}
 use Rattle.live.specs.declared.answers.Kept.TheVariants.{Done, Absent, Refused}
 use Rattle.live.specs.Tables.{masked, putting, prefix_rules, put_rules}
 use Rattle.live.specs.Calls.{kept_says, left_by, live_rules, Makes, Puts, Takes, look_reply}
-use Rattle.live.specs.Conditions.{Holding, MakeCondition, short-room, LookCondition, no_map}
+use Rattle.live.specs.Conditions.{Holding, MakeCondition, short_room, LookCondition, no_map}
 use Rattle.live.specs.Conditions.{TakeCondition, of_room, too_long, host_bits, PutCondition, of_prefix, bad_hop, too_many, too_wide}
 use Rattle.live.proofs.Maps.{live_holds, holds_live}
 
@@ -80,10 +80,10 @@ module _ (room : List ℕ) where
   make_rules = rule 10 0 (leb 160 (length room)) ∷ []
 
   pub make_tests : (n i : ℕ) → Broken make_rules n i ↔ MakeCondition room n i
-  make_tests n i = (sound-each (MakeCondition room) make_rules (λ e. short-room (leb-false 160 (length room) e), tt) n i, back n i)
+  make_tests n i = (sound-each (MakeCondition room) make_rules (λ e. short_room (leb-false 160 (length room) e), tt) n i, back n i)
     where
       back : (n i : ℕ) → MakeCondition room n i → Broken make_rules n i
-      back n i (short-room h) = inl (lt-leb 160 (length room) h, refl, refl)
+      back n i (short_room h) = inl (lt-leb 160 (length room) h, refl, refl)
 
   module _ (words : Words room) where
     -- Rule 18: the room passes the test exactly when it holds a live map.

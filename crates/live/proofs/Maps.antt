@@ -25,7 +25,7 @@ use Rattle.live.proofs.Present.{own-words}
 -- ---- Which rooms hold a map, said by the map.
 
 narrow : {t : List Route} → Mapped t → All Narrow t
-narrow m = all_map (λ r p. (let h : r.hop < 65536 = omega (arith, p.hop-kept) in h)) m.each
+narrow m = all_map (λ r p. (let h : r.hop < 65536 = omega (arith, p.hop_kept) in h)) m.each
 
 -- A room passes the test exactly when it holds the map of some routes, and those are the ones that it shows.
 pub live_holds : (room : List ℕ) → Words room → live room ≡ true → HoldsMap room (shown room)
@@ -94,7 +94,7 @@ words-pairs : {t : List Route} (u : List ℕ) → All Proper t → Words u → W
 unfolding pairs
 words-pairs u nil w = w
 words-pairs u (cons {r = r} {t = t} p ps) w =
-    let h : r.len * 65536 + r.hop < 2 ^ 32 = omega (arith, p.valid.short, p.hop-kept) in
+    let h : r.len * 65536 + r.hop < 2 ^ 32 = omega (arith, p.valid.short, p.hop_kept) in
     words-cons r.addr ((r.len * 65536 + r.hop) ∷ (pairs t ++ u)) p.valid.small
     (words-cons (r.len * 65536 + r.hop) (pairs t ++ u) h (words-pairs u ps w))
 

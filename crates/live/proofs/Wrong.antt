@@ -15,7 +15,7 @@ use Rattle.live.specs.declared.answers.Kept.TheVariants.{Done}
 use Rattle.live.specs.Tables.{putting}
 use Rattle.live.specs.Calls.{Makes, Puts}
 use Rattle.live.specs.Sequences.{Said, changed, found, Runs}
-use Rattle.live.specs.Conditions.{MakeCondition, short-room}
+use Rattle.live.specs.Conditions.{MakeCondition, short_room}
 use Rattle.live.proofs.Calls.{make_done}
 use Rattle.live.proofs.Cases.{emptied, replaced, worked}
 use Rattle.live.proofs.Maps.{holds_shown}
@@ -28,7 +28,7 @@ pub made : {room after : List ℕ} {k : Kept} → Makes room k after → 160 ≤
 made {room} {after} {k} ok le = (make_done room k after ok).1 (λ n i c. short n i c)
   where
     short : (n i : ℕ) → MakeCondition room n i → ⊥
-    short n i (short-room lt) = omega arith
+    short n i (short_room lt) = omega arith
 
 -- and in it 0.0.0.0/0 is put.
 pub first-put : {room after last : List ℕ} {k : Kept} → Words room → Makes room Done after → Puts after by_default 0 0 0 k last → k ≡ Done
@@ -58,8 +58,8 @@ module _ {room after : List ℕ} (words : Words room) (two : fit room ≡ 2) (ma
       omega arith
 
   -- One that forgets on replace, be it the new hop or the route, would answer the third call of `replaced` otherwise.
-  pub hop-kept : {a b : Said} {m : Match} {more : List Said} → Runs after replaced.calls (a ∷ b ∷ found (gives m) ∷ more) → m ≡ hit 8 2
-  hop-kept {a} {b} {m} {more} runs =
+  pub hop_kept : {a b : Said} {m : Match} {more : List Said} → Runs after replaced.calls (a ∷ b ∷ found (gives m) ∷ more) → m ≡ hit 8 2
+  hop_kept {a} {b} {m} {more} runs =
       let e = worked.1.0 room after _ words two make runs in
       let f = said-head (said_tail (said_tail e)) in
       cc

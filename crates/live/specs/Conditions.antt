@@ -22,7 +22,7 @@ Holding room = (t : List Route) × HoldsMap room t
 
 -- Of making an empty map. 10: the room has fewer than 160 words.
 pub data MakeCondition (room : List ℕ) : ℕ → ℕ → Type 0 where
-  short-room : length room < 160 → MakeCondition room 10 0
+  short_room : length room < 160 → MakeCondition room 10 0
 
 -- Of a lookup. 18: the room holds no live map.
 pub data LookCondition (room : List ℕ) : ℕ → ℕ → Type 0 where

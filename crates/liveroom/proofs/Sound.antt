@@ -38,7 +38,7 @@ true_before r s b = passes (before-shown r s) b
 -- A route of a map: valid, with a hop in range.
 pub record Proper (r : Route) : Type 0 where
   pub valid : Valid 32 r
-  pub hop-kept : r.hop ≤ 63
+  pub hop_kept : r.hop ≤ 63
 
 -- Routes that a map may hold.
 pub record Mapped (t : List Route) : Type 0 where
@@ -57,14 +57,14 @@ sound_proper r s e =
     let q = split r.addr (32 - r.len) in
     record {
       valid = record { short = short; clean = (r.addr / 2 ^ (32 - r.len), omega arith); small = s };
-      hop-kept = leb-true r.hop 63 b.1;
+      hop_kept = leb-true r.hop 63 b.1;
     }
 
 pub proper_sound : (r : Route) → Proper r → sound r ≡ true
 proper_sound r p =
     let v = p.valid in
     let z : r.addr % 2 ^ (32 - r.len) ≡ 0 = ap (λ (a : ℕ). a % 2 ^ (32 - r.len)) v.clean.1 ∙ mul-mod_left v.clean.0 (2 ^ (32 - r.len)) in
-    true_and (le-leb r.len 32 v.short) (true_and (eq-eqb _ 0 z) (le-leb r.hop 63 p.hop-kept))
+    true_and (le-leb r.len 32 v.short) (true_and (eq-eqb _ 0 z) (le-leb r.hop 63 p.hop_kept))
 
 -- ---- Routes in order.
 
@@ -94,14 +94,14 @@ mapped_table m = record { valid = all_map (λ r p. p.valid) m.each; order = m.or
 
 -- Mapped routes, if they are not too many, are such as an accepted map's table has.
 pub mapped_is : {t : List Route} → Mapped t → length t ≤ 1024 → Lawful false t
-mapped_is m few = record { table = mapped_table m; hops = all_map (λ r p. p.hop-kept) m.each; few = few }
+mapped_is m few = record { table = mapped_table m; hops = all_map (λ r p. p.hop_kept) m.each; few = few }
 
 pub is_mapped : {t : List Route} → Lawful false t → Mapped t
 is_mapped k = record { each = both k.table.valid k.hops; order = k.table.order }
   where
     both : {t : List Route} → All (Valid 32) t → All (λ r. r.hop ≤ 63) t → All Proper t
     both nil nil = nil
-    both (cons v vs) (cons h hs) = cons (record { valid = v; hop-kept = h }) (both vs hs)
+    both (cons v vs) (cons h hs) = cons (record { valid = v; hop_kept = h }) (both vs hs)
 
 mapped_after : (p : Route) {t : List Route} → All Proper t → All (Before p) t → Ascending t → after p t ≡ true
 mapped_after p nil nil empty = refl

@@ -1,4 +1,5 @@
 // Mode 1: the maximal prefixes that a set's members cover.
+#![tactic(auto)]
 
 ghost use Rattle.std.specs.Prelude.{◌≡◌, ◌||◌, List, ℕ, ◌+◌, ◌-◌, ◌*◌, ◌≤◌, ◌<◌, length};
 ghost use Rattle.theory.specs.Routes.{held};

@@ -43,7 +43,7 @@ pub record Node (size : ℕ) (t : List ℕ) (lo hi depth key : ℕ) : Type 0 whe
   pub level : ℕ
   pub fives : depth ≡ level * 5
   pub at : At depth key
-  pub within-reach : depth + 5 ≤ reach size
+  pub within_reach : depth + 5 ≤ reach size
   pub table : Table wide (run size t lo hi)
   pub within : All (Within wide (wide - depth) key) (run size t lo hi)
   pub short : All (λ r. r.len ≤ width_in size) (run size t lo hi)

@@ -30,7 +30,7 @@ use Rattle.calls.proofs.Engines.{by_gives, by_refused, by_accepted, by_untouched
 use Rattle.calls.proofs.Refusals.{holds, lawful}
 use Rattle.calls.proofs.Settled.{rewritten_of, rewrite_by_settled}
 use Rattle.calls.proofs.Tested.{ranked_with, broken_with, breaks_mode, breaks_retired, breaks_default, breaks_ranks, breaks_table, breaks_last}
-use Rattle.plain.specs.Conditions.{IsMode, PlainCondition, no_mode, retired, large_default, bad_ranks, of_table, short-output}
+use Rattle.plain.specs.Conditions.{IsMode, PlainCondition, no_mode, retired, large_default, bad_ranks, of_table, short_output}
 use Rattle.plain.specs.Rewriting.{is_known, plain_rules}
 use Rattle.plain.proofs.Whole.{mode_had, mode_not_had, known_had, mode_known}
 
@@ -59,7 +59,7 @@ module _ (form : Form) (t : List ℕ) (mode default : ℕ) (ranks : List ℕ) (r
   unfolding plain_rules
   plain_broken =
       broken_with (is_known mode) form t mode default ranks last Holds (λ e. let f = mode_not_had mode e in no_mode f.0 f.1) retired large_default bad_ranks (λ n i c. of_table c)
-      (sound-each Holds last (λ e. short-output (leb-false (size_of form * length (result_of (size_of form) t mode default ranks)) room e), tt))
+      (sound-each Holds last (λ e. short_output (leb-false (size_of form * length (result_of (size_of form) t mode default ranks)) room e), tt))
 
   plain_breaks : (n i : ℕ) → Holds n i → Broken (plain_rules form t mode default ranks room) n i
   unfolding plain_rules
@@ -68,7 +68,7 @@ module _ (form : Form) (t : List ℕ) (mode default : ℕ) (ranks : List ℕ) (r
   plain_breaks n i (large_default e h) = breaks_default (is_known mode) form t mode default ranks last e h
   plain_breaks n i (bad_ranks h f) = breaks_ranks (is_known mode) form t mode default ranks last h f
   plain_breaks n i (of_table c) = breaks_table (is_known mode) form t mode default ranks last n i c
-  plain_breaks n i (short-output h) =
+  plain_breaks n i (short_output h) =
       breaks_last (is_known mode) form t mode default ranks last n i (inl (lt-leb (size_of form * length (result_of (size_of form) t mode default ranks)) room h, refl, refl))
 
   pub plain_tests : (n i : ℕ) → Broken (plain_rules form t mode default ranks room) n i ↔ PlainCondition form t mode default ranks room n i
@@ -91,7 +91,7 @@ module _ (form : Form) (t : List ℕ) (mode default : ℕ) (ranks : List ℕ) (r
           small_default = λ e. holds (dec_le default 63) (λ f. none 2 0 (large_default e (omega arith)));
           lawful_ranks = λ h. lawful (λ f. none 15 0 (bad_ranks h f));
           accepted = (in_accepted_exactly (size_of form) (form_size form) form.strict (takes_set mode) t).1 (λ n i c. none n i (of_table c));
-          enough_output = holds (dec_le (size_of form * length (result_of (size_of form) t mode default ranks)) room) (λ f. none 11 0 (short-output (omega arith)));
+          enough_output = holds (dec_le (size_of form * length (result_of (size_of form) t mode default ranks)) room) (λ f. none 11 0 (short_output (omega arith)));
         },
       )
 
@@ -101,7 +101,7 @@ module _ (form : Form) (t : List ℕ) (mode default : ℕ) (ranks : List ℕ) (r
   answerable→none (had, a) n i (large_default e h) = let d = a.small_default e in omega arith
   answerable→none (had, a) n i (bad_ranks h f) = f (a.lawful_ranks h)
   answerable→none (had, a) n i (of_table c) = (in_accepted_exactly (size_of form) (form_size form) form.strict (takes_set mode) t).0 a.accepted n i c
-  answerable→none (had, a) n i (short-output h) = omega (arith, a.enough_output)
+  answerable→none (had, a) n i (short_output h) = omega (arith, a.enough_output)
 
   pub plain_answerable : None (PlainCondition form t mode default ranks room) ↔ (IsMode mode × Answerable form t mode default ranks room)
   plain_answerable = (none→answerable, answerable→none)
@@ -149,7 +149,7 @@ module _ (form : Form) (t : List ℕ) (mode default : ℕ) (ranks o : List ℕ) 
         go n i (retired e) = inr (inr (inr refl))
         go n i (large_default p q) = inl (omega arith)
         go n i (of_table c) = let k = in_table_numbers (size_of form) (form_size form) form.strict (takes_set mode) t n i c in inl (omega (arith, k.0), omega (arith, k.1))
-        go n i (short-output h) = inr (inl refl)
+        go n i (short_output h) = inr (inl refl)
         go n i (bad_ranks h f) = inr (inr (inl refl))
 
     -- Never 10.

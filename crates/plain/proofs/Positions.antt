@@ -20,7 +20,7 @@ use Rattle.records.specs.Sized.{width_in, route_in}
 use Rattle.records.proofs.SizedLaid.{key_addr}
 use Rattle.records.proofs.SizedReading.{width_most}
 use Rattle.runs.specs.Runs.{run, RunAt, PastOwn, SplitAt}
-use Rattle.runs.proofs.Halves.{record_within, past-low, past-high, past-longer, own-hop, own_none, left_is, right_is, left-run, right-run}
+use Rattle.runs.proofs.Halves.{record_within, past-low, past-high, past-longer, own-hop, own_none, left_is, right_is, left_run, right_run}
 use Rattle.runs.proofs.Records.{run_none, run_suffix}
 use Rattle.plain.specs.Positions.{Hopped, address_in, Position, answer_at, OneAnswer, Halved}
 
@@ -50,10 +50,10 @@ module _ {size : ℕ} {t : List ℕ} {lo hi : ℕ} (hopped : Hopped size t) {fir
   halved {n} {a} {mid} at past split =
       record {
         begins = refl;
-        left-run = left-run at past split;
-        right-run = right-run at past split;
-        left-answers = λ x i. half a x (inl refl) i (left_is at past split);
-        right-answers = λ x i. half (a + 2 ^ n) x (inr refl) i (right_is at past split);
+        left_run = left_run at past split;
+        right_run = right_run at past split;
+        left_answers = λ x i. half a x (inl refl) i (left_is at past split);
+        right_answers = λ x i. half (a + 2 ^ n) x (inr refl) i (right_is at past split);
       }
     where
       half : (b x : ℕ) → Half n a b → In n b x → {part : List Route} → part ≡ inside (width_in size) n b (run size t lo hi)
@@ -85,10 +85,10 @@ module _ {size : ℕ} {t : List ℕ} {lo hi : ℕ} (hopped : Hopped size t) {fir
       halves = halved at past split
 
       left : (x : ℕ) → In n a x → answer_at size t lo hi cover x ≡ hop_of hop
-      left x l = halves.left-answers x l ∙ ap (λ (u : List Route). under (hop_of hop) (lookup (width_in size) u x)) (run_none size t first hi (omega arith))
+      left x l = halves.left_answers x l ∙ ap (λ (u : List Route). under (hop_of hop) (lookup (width_in size) u x)) (run_none size t first hi (omega arith))
 
       right : (x : ℕ) → In n (a + 2 ^ n) x → answer_at size t lo hi cover x ≡ hop_of hop
-      right x r = halves.right-answers x r ∙ ap (λ (u : List Route). under (hop_of hop) (lookup (width_in size) u x)) (run_none size t hi hi (le_refl hi))
+      right x r = halves.right_answers x r ∙ ap (λ (u : List Route). under (hop_of hop) (lookup (width_in size) u x)) (run_none size t hi hi (le_refl hi))
 
 -- ---- By keys and lengths.
 module _ {size : ℕ} {t : List ℕ} {lo hi len key : ℕ} (at : Position size t lo hi len key) {first : ℕ} (past : PastOwn size t lo hi len first) where
@@ -151,7 +151,7 @@ end_fits {size} {t} {lo} {hi} {len} {key} at =
 module _ {size : ℕ} {t : List ℕ} {lo hi cover hop first mid len key : ℕ} (right : ℕ) (at : Position size t lo hi len key) (lt : len < width_in size)
     (halves : Halved size t lo hi cover (width_in size - (len + 1)) (address_in size key) hop first mid (address_in size right)) where
   pub left-position : Position size t first mid (len + 1) key
-  left-position = record { is_size = at.is_size; short = omega arith; exact = at.exact; is_run = halves.left-run }
+  left-position = record { is_size = at.is_size; short = omega arith; exact = at.exact; is_run = halves.left_run }
 
   pub right-position : right ≡ key_of (width_in size) (address_in size right) → Position size t mid hi (len + 1) right
-  right-position exact = record { is_size = at.is_size; short = omega arith; exact = exact; is_run = halves.right-run }
+  right-position exact = record { is_size = at.is_size; short = omega arith; exact = exact; is_run = halves.right_run }

@@ -42,9 +42,9 @@ module _ {size : ℕ} {t : List ℕ} {lo hi cover n a hop first mid right : ℕ}
   unfolding set_at sets
   set_halves =
       ap (λ (m : ℕ). sets (answer_at size t lo hi cover) m a) e
-      ∙ ap₂ combine (sets-agree (answer_at size t lo hi cover) (answer_at size t first mid hop) n a halves.left-answers)
+      ∙ ap₂ combine (sets-agree (answer_at size t lo hi cover) (answer_at size t first mid hop) n a halves.left_answers)
       (ap (λ (b : ℕ). sets (answer_at size t lo hi cover) n b) (sym halves.begins)
-      ∙ sets-agree (answer_at size t lo hi cover) (answer_at size t mid hi hop) n right halves.right-answers)
+      ∙ sets-agree (answer_at size t lo hi cover) (answer_at size t mid hi hop) n right halves.right_answers)
 
   -- Its own entry, then theirs, under the hop that it is assigned.
   pub entries_halves : (ranks : List ℕ) (above given : ℕ) → hop_of given ≡ assigned (lowest ranks) (set_at size t lo hi cover N a) (hop_of above)
@@ -56,10 +56,10 @@ module _ {size : ℕ} {t : List ℕ} {lo hi cover n a hop first mid right : ℕ}
       let g : Answer = assigned (lowest ranks) (set_at size t lo hi cover N a) (hop_of above) in
       let left : ortc (lowest ranks) (width_in size) (answer_at size t lo hi cover) n a g ≡ entries_at ranks size t first mid hop n a given =
       ap (ortc (lowest ranks) (width_in size) (answer_at size t lo hi cover) n a) (sym assigns)
-      ∙ ortc-agree (answer_at size t lo hi cover) (answer_at size t first mid hop) (lowest ranks) (width_in size) n a (hop_of given) halves.left-answers in
+      ∙ ortc-agree (answer_at size t lo hi cover) (answer_at size t first mid hop) (lowest ranks) (width_in size) n a (hop_of given) halves.left_answers in
       let other : ortc (lowest ranks) (width_in size) (answer_at size t lo hi cover) n (a + 2 ^ n) g ≡ entries_at ranks size t mid hi hop n right given =
       ap₂ (λ (b : ℕ) (v : Answer). ortc (lowest ranks) (width_in size) (answer_at size t lo hi cover) n b v) (sym halves.begins) (sym assigns)
-      ∙ ortc-agree (answer_at size t lo hi cover) (answer_at size t mid hi hop) (lowest ranks) (width_in size) n right (hop_of given) halves.right-answers in
+      ∙ ortc-agree (answer_at size t lo hi cover) (answer_at size t mid hi hop) (lowest ranks) (width_in size) n right (hop_of given) halves.right_answers in
       parted ∙ ap (λ (rs : List Route). own ++ rs) (ap₂ ◌++◌ left other)
       ∙ sym (append_assoc own (entries_at ranks size t first mid hop n a given) (entries_at ranks size t mid hi hop n right given))
     where

@@ -18,4 +18,4 @@ pub data PlainCondition (form : Form) (t : List ℕ) (mode default : ℕ) (ranks
   large_default : mode ≡ 5 → 63 < default → PlainCondition form t mode default ranks room 2 0
   bad_ranks : 4 ≤ mode → (Ranking 64 ranks → ⊥) → PlainCondition form t mode default ranks room 15 0
   of_table : {n i : ℕ} → FormCondition form (takes_set mode) t n i → PlainCondition form t mode default ranks room n i
-  short-output : room < size_of form * length (result_of (size_of form) t mode default ranks) → PlainCondition form t mode default ranks room 11 0
+  short_output : room < size_of form * length (result_of (size_of form) t mode default ranks) → PlainCondition form t mode default ranks room 11 0

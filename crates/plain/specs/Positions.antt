@@ -50,10 +50,10 @@ pub record OneAnswer (size : ℕ) (t : List ℕ) (lo hi cover n a hop : ℕ) : T
 -- mid..hi. An address of either is answered by the half's run, or else by `hop`.
 pub record Halved (size : ℕ) (t : List ℕ) (lo hi cover n a hop first mid right : ℕ) : Type 0 where
   pub begins : right ≡ a + 2 ^ n
-  pub left-run : RunAt size (width_in size) t first mid n a
-  pub right-run : RunAt size (width_in size) t mid hi n right
-  pub left-answers : (x : ℕ) → In n a x → answer_at size t lo hi cover x ≡ answer_at size t first mid hop x
-  pub right-answers : (x : ℕ) → In n right x → answer_at size t lo hi cover x ≡ answer_at size t mid hi hop x
+  pub left_run : RunAt size (width_in size) t first mid n a
+  pub right_run : RunAt size (width_in size) t mid hi n right
+  pub left_answers : (x : ℕ) → In n a x → answer_at size t lo hi cover x ≡ answer_at size t first mid hop x
+  pub right_answers : (x : ℕ) → In n right x → answer_at size t lo hi cover x ≡ answer_at size t mid hi hop x
 
 -- What each way of taking apart says of the position of length len at the key; that of the right half is the key of an address.
 abbrev pub PartOf : ℕ → List ℕ → ℕ → ℕ → ℕ → ℕ → ℕ → Part → Type 0

@@ -1,4 +1,5 @@
 // Changing an installed table by single steps: the planner. What it proposes is believed only once the checker says yes to it.
+#![tactic(auto)]
 
 mod due;
 mod proposal;

@@ -55,7 +55,7 @@ module _ (t u : List ℕ) (ss : List Step) where
   stricter (of_tables (of_installed c)) = of_tables (of_installed (table_stricter c))
   stricter (of_tables (of_new_lem c)) = of_tables (of_new_lem (table_stricter c))
   stricter (of_step lt f) =
-      of_step lt (λ k. f (record { length-kept = k.length-kept; host_kept = λ e. let z : ◌≡◌ {A = ℕ} 0 1 = cc in absurd (omega arith); hop-kept = k.hop-kept }))
+      of_step lt (λ k. f (record { length_kept = k.length_kept; host_kept = λ e. let z : ◌≡◌ {A = ℕ} 0 1 = cc in absurd (omega arith); hop_kept = k.hop_kept }))
 
   looser : {n i : ℕ} → (n ≡ 6 → ⊥) → (n ≡ 26 → ⊥) → (n ≡ 13 → ⊥) → PlanCondition strictly t u ss n i → PlanCondition by_default t u ss n i
   looser six more step (of_tables (of_installed c)) = of_tables (of_installed (table_looser six c))

@@ -53,18 +53,18 @@ step_shown form s = shown (kept form s) into from
         let p = (and-eq-true_iff (leb s.len 32) (host_kept_of form.strict s.addr s.len && hop_kept_of (puts s.put) s.hop)).0 e in
         let q = (and-eq-true_iff (host_kept_of form.strict s.addr s.len) (hop_kept_of (puts s.put) s.hop)).0 p.1 in
         record {
-          length-kept = leb-true s.len 32 p.0;
+          length_kept = leb-true s.len 32 p.0;
           host_kept = host_into form.strict s.addr s.len q.0;
-          hop-kept = hop_into s.put s.hop q.1;
+          hop_kept = hop_into s.put s.hop q.1;
         }
 
     from : StepKept form s → kept form s ≡ true
     from k =
         (and-eq-true_iff (leb s.len 32) (host_kept_of form.strict s.addr s.len && hop_kept_of (puts s.put) s.hop)).1 (
-          le-leb s.len 32 k.length-kept,
+          le-leb s.len 32 k.length_kept,
           (and-eq-true_iff (host_kept_of form.strict s.addr s.len) (hop_kept_of (puts s.put) s.hop)).1 (
             host_from form.strict s.addr s.len k.host_kept,
-            hop_from s.put s.hop k.hop-kept,
+            hop_from s.put s.hop k.hop_kept,
           ),
         )
 

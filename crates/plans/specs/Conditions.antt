@@ -13,9 +13,9 @@ pub data TablesCondition (form : Form) (t u : List ℕ) : ℕ → ℕ → Type 0
 
 -- What a step keeps: a length up to 32, no host bits where the choice is strict, and, if it is a put, a hop up to 63.
 pub record StepKept (form : Form) (s : Step) : Type 0 where
-  pub length-kept : s.len ≤ 32
+  pub length_kept : s.len ≤ 32
   pub host_kept : form.strict ≡ true → s.addr % 2 ^ (32 - s.len) ≡ 0
-  pub hop-kept : (s.put ≡ 0 → ⊥) → s.hop ≤ 63
+  pub hop_kept : (s.put ≡ 0 → ⊥) → s.hop ≤ 63
 
 -- Of the checker. 13: a step does not keep this.
 pub data PlanCondition (form : Form) (t u : List ℕ) (ss : List Step) : ℕ → ℕ → Type 0 where

@@ -1,4 +1,5 @@
 // Changing an installed table by single steps: the checker of a plan, which alone is believed.
+#![tactic(auto)]
 
 pub mod answers;
 
@@ -55,7 +56,7 @@ pub fn check_plan(installed: &[u8], new: &[u8], form: Form, steps: &[Step]) -> J
     let n = steps.len();
     let mut c = begin(installed, new, form, n);
     while c.index < n {
-        let s = steps[c.index];
+        let s = &steps[c.index];
         let p = follow(steps, c.from, c.to, c.pass);
         c = see(installed, new, n, c, p, s.put, s.addr, s.len, s.hop);
     }

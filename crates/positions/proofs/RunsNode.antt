@@ -84,12 +84,12 @@ abbrev pub inside_at : ℕ → ℕ → ℕ → List Route → ℕ → ℕ → Li
 inside_at w m a t l j = inside w (size_at m l) (place_at m a l j) t
 
 -- The hop of the route that stands at it.
-abbrev pub field_own : ℕ → ℕ → ℕ → List Route → ℕ → ℕ → Answer
-field_own w m a t l j = own w (size_at m l) (place_at m a l j) t
+abbrev pub own_at : ℕ → ℕ → ℕ → List Route → ℕ → ℕ → Answer
+own_at w m a t l j = own w (size_at m l) (place_at m a l j) t
 
 -- What covers a position is its own hop, or else what covers it from above.
 pub cover-own : (w m a : ℕ) (t : List Route) (g : Answer) (l j : ℕ)
-    → cover w m a t g l j ≡ or_else (field_own w m a t l j) (cover_over w m a t g l j)
+    → cover w m a t g l j ≡ or_else (own_at w m a t l j) (cover_over w m a t g l j)
 unfolding cover
 cover-own w m a t g zero j = refl
 cover-own w m a t g (suc l) j = refl
@@ -100,8 +100,8 @@ unfolding member_over
 routed-over w m a t zero j = refl
 routed-over w m a t (suc l) j =
     ap routed (cover-own w m a t none l (j / 2))
-    ∙ routed_else (field_own w m a t l (j / 2)) (cover_over w m a t none l (j / 2))
-    ∙ ap (λ (b : Bool). routed (field_own w m a t l (j / 2)) || b) (routed-over w m a t l (j / 2))
+    ∙ routed_else (own_at w m a t l (j / 2)) (cover_over w m a t none l (j / 2))
+    ∙ ap (λ (b : Bool). routed (own_at w m a t l (j / 2)) || b) (routed-over w m a t l (j / 2))
 
 module _ (w m a : ℕ) {t : List Route} (run : Run w (m + 5) a t) where
   -- The routes of a position are a run of it.
@@ -123,7 +123,7 @@ module _ (w m a : ℕ) {t : List Route} (run : Run w (m + 5) a t) where
   -- One step: an address of a position of the next level is answered by that one's run, or else by the own route of the one above.
   pub level_step : (g : Answer) (l j x : ℕ) → l < 5 → In (size_at m (suc l)) (place_at m a (suc l) j) x
       → under g (lookup w (inside_at w m a t l (j / 2)) x)
-      ≡ under (or_else (field_own w m a t l (j / 2)) g) (lookup w (inside_at w m a t (suc l) j) x)
+      ≡ under (or_else (own_at w m a t l (j / 2)) g) (lookup w (inside_at w m a t (suc l) j) x)
   level_step g l j x lt i =
       inside-answer w (size_at m (suc l)) (place_at m a l (j / 2)) (size_halves m l lt) (level-run l (j / 2)).fits (level-run l (j / 2)).aligned
       run.table g (place_at m a (suc l) j) x (place_half m a l j lt) i
@@ -163,7 +163,7 @@ module _ (w m a : ℕ) {t : List Route} (run : Run w (m + 5) a t) where
   -- A position's run covers it by the position's own route, or else half by half.
   pub halves_covered : (l j : ℕ) → l < 5
       → throughout (held w (inside_at w m a t l j)) (size_at m l) (place_at m a l j)
-      ≡ (routed (field_own w m a t l j)
+      ≡ (routed (own_at w m a t l j)
       || (throughout (held w (inside_at w m a t (suc l) (2 * j))) (size_at m (suc l)) (place_at m a (suc l) (2 * j))
       && throughout (held w (inside_at w m a t (suc l) (2 * j + 1))) (size_at m (suc l)) (place_at m a (suc l) (2 * j + 1))))
   halves_covered l j lt =

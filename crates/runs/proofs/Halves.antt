@@ -169,8 +169,8 @@ module _ {size w : ℕ} {t : List ℕ} {lo hi n a : ℕ} (at : RunAt size w t lo
             go (no p) (yes q) = omega (arith, split.below k (omega arith) q, ((is_in_lem w n (a + 2 ^ n) (route_in size t k)).0 e).1.0)
             go (no p) (no q) = out (omega arith)
 
-    pub left-run : RunAt size w t first mid n a
-    left-run =
+    pub left_run : RunAt size w t first mid n a
+    left_run =
         record {
           low = split.low;
           high = omega (arith, split.high, at.high);
@@ -178,8 +178,8 @@ module _ {size w : ℕ} {t : List ℕ} {lo hi n a : ℕ} (at : RunAt size w t lo
           lies = rw left_is (inside-run w n a (omega (arith, at.lies.fits)) (aligned-left n a at.lies.aligned) at.lies.table);
         }
 
-    pub right-run : RunAt size w t mid hi n (a + 2 ^ n)
-    right-run =
+    pub right_run : RunAt size w t mid hi n (a + 2 ^ n)
+    right_run =
         record {
           low = split.high;
           high = at.high;

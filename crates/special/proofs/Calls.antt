@@ -114,7 +114,7 @@ module _ (form : Form) (t : List ℕ) (edition : ℕ) where
           (first_special 32 (ranges_of edition) (routes t)) r ok b p e in
           let first : (is : Edition edition) (a : Accepted form false t)
           → (first_special 32 (ranges_of edition) (routes t) ≡ p) ↔ IsFirst (ranges_of edition) t p =
-          λ is a. first-exactly (ranges_of edition) t (list_table edition is).valid (λ j h. route-valid t bytes j (a.each j h).length-kept) p in (
+          λ is a. first-exactly (ranges_of edition) t (list_table edition is).valid (λ j h. route-valid t bytes j (a.each j h).length_kept) p in (
             λ q. let f = exactly.0 q in let k = none_exactly.0 f.0 in (k.0, k.1, (first k.0 k.1).0 f.1),
             λ k. exactly.1 (none_exactly.1 (k.0, k.1), (first k.0 k.1).1 k.2),
           )

@@ -76,7 +76,7 @@ module _ (edition : ℕ) where
   module _ (is : Edition edition) (list : List ℕ) (same : list ≡ bytes_of (ranges_of edition)) where
     -- No length of its list is above 32.
     pub list_ranges : Ranges list
-    list_ranges = rw same (λ i h. ((list_accepted is).each i h).length-kept)
+    list_ranges = rw same (λ i h. ((list_accepted is).each i h).length_kept)
 
     -- The reply for a table by its list is that for the edition.
     pub reply-listed : (form : Form) (t : List ℕ) → ranges_reply form t (routes list) ≡ special_reply form t edition

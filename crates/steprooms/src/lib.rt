@@ -1,4 +1,5 @@
 // The calls of plans with their steps in a room of 65,535 that is handed over by value, or as bytes: who calls these holds no reference to a step.
+#![tactic(auto)]
 
 ghost use Rattle.std.specs.Prelude.{◌≡◌, ◌≤◌, ◌<◌, length, take};
 ghost use Rattle.records.specs.Wire.{records};

@@ -19,7 +19,7 @@ use Rattle.liveroom.specs.Rooms.{shown, fit, Words}
 use Rattle.live.specs.declared.answers.Kept.{Kept}
 use Rattle.live.specs.Tables.{masked, prefix_rules, put_rules}
 use Rattle.live.specs.Calls.{kept_says, live_rules, look_reply}
-use Rattle.live.specs.Conditions.{MakeCondition, short-room, LookCondition, no_map, TakeCondition, of_room, too_long, host_bits, PutCondition, of_prefix, bad_hop, too_many, too_wide}
+use Rattle.live.specs.Conditions.{MakeCondition, short_room, LookCondition, no_map, TakeCondition, of_room, too_long, host_bits, PutCondition, of_prefix, bad_hop, too_many, too_wide}
 use Rattle.live.proofs.Calls.{make_settled, put_settled, take_settled, look_settled, make_tests, look_tests, take_tests, put_tests}
 use Rattle.suovvamet.specs.Numbers.{form_by, number_of, found_of, hop_of, length_of}
 use Rattle.suovvamet.specs.LiveCalls.{present_of, MakeInC, PutInC, TakeInC, LiveLookupInC}
@@ -63,7 +63,7 @@ live-lookup_in_c_settled {room} {x} a b =
 -- ---- Every condition has a number above 0, and names index 0.
 
 make_numbered : {room : List ℕ} {n i : ℕ} → MakeCondition room n i → (1 ≤ n) × (i ≡ 0)
-make_numbered (short-room h) = (omega arith, refl)
+make_numbered (short_room h) = (omega arith, refl)
 
 look_numbered : {room : List ℕ} {n i : ℕ} → LookCondition room n i → (1 ≤ n) × (i ≡ 0)
 look_numbered (no_map h) = (omega arith, refl)

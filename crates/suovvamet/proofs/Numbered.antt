@@ -15,7 +15,7 @@ use Rattle.table.specs.SizedConditions.{TableConditionIn}
 use Rattle.table.specs.Conditions.{TableCondition, FormCondition}
 use Rattle.table.proofs.SizedTested.{in_table_numbers}
 use Rattle.table.proofs.SizedAccepted.{in_accepted_exactly, in_not_refused, in_accepted, in_refused_exactly}
-use Rattle.calls.specs.Conditions.{RewriteCondition, no_mode, retired, large_default, bad_ranks, of_table, short_work, short-output, CoverCondition, of_set, long_query, short-room}
+use Rattle.calls.specs.Conditions.{RewriteCondition, no_mode, retired, large_default, bad_ranks, of_table, short_work, short_output, CoverCondition, of_set, long_query, short_room}
 use Rattle.refusals.specs.Order.{First, None}
 use Rattle.refusals.proofs.Judged.{gives-exactly}
 use Rattle.records.specs.Sized.{IsSize}
@@ -35,9 +35,9 @@ use Rattle.calls.specs.declared.Rewritten.TheVariants.{Records, Refused}
 use Rattle.calls.specs.declared.Covers.TheVariants.{Refused as NotAnswered}
 use Rattle.calls.proofs.Refusals.{rewrite_refused, rewrite_accepted, covers_refused, covers_answered}
 use Rattle.calls.proofs.Settled.{rewritten_same, covers_same}
-use Rattle.plain.specs.Conditions.{PlainCondition, no_mode as no-plain-mode, retired as plain-retired, large_default as plain-large-default, bad_ranks as plain-bad-ranks, of_table as of-plain-table, short-output as short-plain-output}
+use Rattle.plain.specs.Conditions.{PlainCondition, no_mode as no-plain-mode, retired as plain-retired, large_default as plain-large-default, bad_ranks as plain-bad-ranks, of_table as of-plain-table, short_output as short-plain-output}
 use Rattle.plain.proofs.Calls.{plain_accepted, plain_refused}
-use Rattle.holes.specs.Conditions.{UnroutedCondition, of_table as of_map, short-output as short-list}
+use Rattle.holes.specs.Conditions.{UnroutedCondition, of_table as of_map, short_output as short-list}
 use Rattle.holes.specs.Listing.{holes_of, listed_says}
 use Rattle.holes.specs.declared.Listed.TheVariants.{Records as Listing, Refused as NotListed}
 use Rattle.holes.proofs.Calls.{listed_same, none_exactly, unrouted-listed, unrouted_refused}
@@ -76,7 +76,7 @@ rewrite_number (large_default e h) = omega arith
 rewrite_number (bad_ranks h f) = omega arith
 rewrite_number {form} (of_table c) = table-number (size_of form) (form_size form) c
 rewrite_number (short_work h) = omega arith
-rewrite_number (short-output h) = omega arith
+rewrite_number (short_output h) = omega arith
 
 plain_number : {form : Form} {t : List ℕ} {mode default : ℕ} {ranks : List ℕ} {room n i : ℕ} → PlainCondition form t mode default ranks room n i → 1 ≤ n
 plain_number (no-plain-mode f g) = omega arith
@@ -89,7 +89,7 @@ plain_number (short-plain-output h) = omega arith
 cover-number : {form : Form} {t : List ℕ} {len words n i : ℕ} → CoverCondition form t len words n i → 1 ≤ n
 cover-number {form} (of_set c) = table-number (size_of form) (form_size form) c
 cover-number (long_query h) = omega arith
-cover-number (short-room h) = omega arith
+cover-number (short_room h) = omega arith
 
 unrouted-number : {form : Form} {t : List ℕ} {room n i : ℕ} → UnroutedCondition form t room n i → 1 ≤ n
 unrouted-number {form} (of_map c) = table-number (size_of form) (form_size form) c
@@ -114,12 +114,12 @@ rewrite_ten (large_default d h) e = absurd (omega arith)
 rewrite_ten (bad_ranks h f) e = absurd (omega arith)
 rewrite_ten {form} (of_table c) e = let k = table_below (size_of form) (form_size form) c in absurd (omega arith)
 rewrite_ten (short_work h) e = h
-rewrite_ten (short-output h) e = absurd (omega arith)
+rewrite_ten (short_output h) e = absurd (omega arith)
 
 cover_ten : {form : Form} {t : List ℕ} {len words n i : ℕ} → CoverCondition form t len words n i → n ≡ 10 → words < words_in (size_of form) t
 cover_ten {form} (of_set c) e = let k = table_below (size_of form) (form_size form) c in absurd (omega arith)
 cover_ten (long_query h) e = absurd (omega arith)
-cover_ten (short-room h) e = h
+cover_ten (short_room h) e = h
 
 -- ---- Any reply: N says when it gives a value, F when it refuses, and no refusal has the number 0.
 module _ {A : Type 0} (q : Reply A) {N : Type 0} (given : ((a : A) × (q ≡ gives a)) ↔ N)
@@ -293,7 +293,7 @@ module _ (t : List ℕ) (flags is_set : ℕ) {number needed index : ℕ} (ok : W
     pub words_in_c_cover : (len words : ℕ) → words < needed ↔ CoverCondition (form_by flags) t len words 10 0
     words_in_c_cover len words =
         let is = needed_is ok.answer refl in
-        (λ h. short-room (omega arith), λ c. let h = cover_ten c refl in omega arith)
+        (λ h. short_room (omega arith), λ c. let h = cover_ten c refl in omega arith)
 
 -- ---- A list of what has no route.
 module _ (t : List ℕ) (flags : ℕ) (o : List ℕ) {number count index : ℕ} {o' : List ℕ} (ok : UnroutedInC t flags o number count index o') where

@@ -1,5 +1,6 @@
 // The library for C: the calls, each with its answer in numbers. The result is the refusal's number, 0 for an answer; what else is
 // answered is set through the parameters that are lent for it, all of them in every case. include/suovvamet.h says the same in words.
+#![tactic(auto)]
 
 mod live_calls;
 

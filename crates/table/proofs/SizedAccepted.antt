@@ -28,14 +28,14 @@ module _ (size : ℕ) (is : IsSize size) (strict s : Bool) (t : List ℕ) where
   record_kept : (i : ℕ) → ((n : ℕ) → RecordConditionIn size strict s t i n → ⊥) → KeptIn size strict s t i
   record_kept i none =
       record {
-        length-kept = decided (in_length_shown size is t i) (λ f. none 5 (too_long f));
+        length_kept = decided (in_length_shown size is t i) (λ f. none 5 (too_long f));
         host_kept = decided (in_host_shown size is strict t i) (λ f. none 6 (host_bits f));
         tail_kept = decided (in_tail_shown size is s t i) (λ f. none 7 (bad_tail f));
         order_kept = decided (in_order_shown size is t i) (λ f. none 8 (not_after f));
       }
 
   kept_record : (i : ℕ) → KeptIn size strict s t i → (n : ℕ) → RecordConditionIn size strict s t i n → ⊥
-  kept_record i k n (too_long f) = f k.length-kept
+  kept_record i k n (too_long f) = f k.length_kept
   kept_record i k n (host_bits f) = f k.host_kept
   kept_record i k n (bad_tail f) = f k.tail_kept
   kept_record i k n (not_after f) = f k.order_kept
@@ -80,7 +80,7 @@ in_accepted_map size strict s t a =
           λ i h.
           let k = a.each i h in
           record {
-            length-kept = k.length-kept;
+            length_kept = k.length_kept;
             host_kept = k.host_kept;
             tail_kept = (omega (arith, k.tail_kept.0, most s), k.tail_kept.1);
             order_kept = k.order_kept;

@@ -58,7 +58,7 @@ module _ (size : ℕ) where
             λ i h.
             let k = a.each i h in
             record {
-              length-kept = k.length-kept;
+              length_kept = k.length_kept;
               host_kept = host i h;
               tail_kept = k.tail_kept;
               order_kept = k.order_kept;
@@ -103,7 +103,7 @@ module _ (size : ℕ) (is : IsSize size) (strict s : Bool) (t : List ℕ) (bytes
   unfolding routes_from_in bytes_in
   written_at i zero j h l = absurd (omega arith)
   written_at i (suc k) zero h l =
-      in_route_head size is (route_in size t i) (bytes_in size (routes_from_in size t (suc i) k)) (in_valid size t is bytes i (ok.each i (omega arith)).length-kept)
+      in_route_head size is (route_in size t i) (bytes_in size (routes_from_in size t (suc i) k)) (in_valid size t is bytes i (ok.each i (omega arith)).length_kept)
       ∙ ap (route_in size t) (omega arith)
   written_at i (suc k) (suc j) h l =
       in_route_shift size is (route_in size t i) (bytes_in size (routes_from_in size t (suc i) k)) j

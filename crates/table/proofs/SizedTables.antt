@@ -55,7 +55,7 @@ module _ (size : ℕ) (is : IsSize size) where
         record {
           table =
               record {
-                valid = all_routes t 0 (records_in size t) (λ j l h. in_valid size t is bytes j (a.each j (omega arith)).length-kept);
+                valid = all_routes t 0 (records_in size t) (λ j l h. in_valid size t is bytes j (a.each j (omega arith)).length_kept);
                 order =
                     ascending_routes t 0 (records_in size t)
                     (λ j l h. (a.each (suc j) (omega arith)).order_kept);
@@ -132,7 +132,7 @@ module _ (size : ℕ) (is : IsSize size) where
             let r = raw_in size (bytes_in size rs) i in
             let clean = (in_raw_written rs v v i (omega arith)).clean in
             record {
-              length-kept = (in_route_written rs v v i (omega arith)).short;
+              length_kept = (in_route_written rs v v i (omega arith)).short;
               host_kept = λ e. ap (λ (a : ℕ). a % 2 ^ (width_in size - r.len)) clean.1 ∙ mul-mod_left clean.0 (2 ^ (width_in size - r.len));
               tail_kept = tail_written s rs l.hops i (omega arith);
               order_kept = order_written rs v l.table.order i (omega arith);

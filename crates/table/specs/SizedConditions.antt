@@ -32,7 +32,7 @@ OrderKeptIn size t (suc i) = Before (route_in size t i) (route_in size t (suc i)
 
 -- It keeps the four.
 pub record KeptIn (size : ℕ) (strict is_set : Bool) (t : List ℕ) (i : ℕ) : Type 0 where
-  pub length-kept : LengthKeptIn size t i
+  pub length_kept : LengthKeptIn size t i
   pub host_kept : HostKeptIn size strict t i
   pub tail_kept : TailKeptIn size is_set t i
   pub order_kept : OrderKeptIn size t i

@@ -13,7 +13,7 @@ use Rattle.records.proofs.SizedReading.{form_size}
 use Rattle.nodes.proofs.RoomNodes.{nodes-below}
 use Rattle.calls.specs.Rewriting.{takes_set}
 use Rattle.calls.proofs.Ending.{default_hop, checked_count, checked_lawful, refused_by, finished_by, finished_in, same_last}
-use Rattle.aggregate.proofs.CallLaws.{mode_used, at_form, ready, not_a_mode, retired_mode, not_a_hop, not_a_ranking, not_a_table, short-room, only_output}
+use Rattle.aggregate.proofs.CallLaws.{mode_used, at_form, ready, not_a_mode, retired_mode, not_a_hop, not_a_ranking, not_a_table, short_room, only_output}
 use Rattle.aggregate.proofs.rewrite_in.Statement.{statement}
 use Rattle.aggregate.proofs.rewrite_in.Tie as tie
 
@@ -70,7 +70,7 @@ returns-5 c =
     let count = rw size at c.before.count-nodes.ensures in
     let short = c.if5.true in
     refused_by _ _ _ _ _ _ _
-    (short-room args.form _ _ _ _ _ _ (not-false _ (sym c.before.before.before.before.before.before.before.before.before.before.before.before.before.no_mode.ensures ∙ c.before.before.before.before.before.before.before.before.before.before.before.before.if1.false)) c.before.before.before.before.before.before.before.before.before.before.before.if2.false
+    (short_room args.form _ _ _ _ _ _ (not-false _ (sym c.before.before.before.before.before.before.before.before.before.before.before.before.before.no_mode.ensures ∙ c.before.before.before.before.before.before.before.before.before.before.before.before.if1.false)) c.before.before.before.before.before.before.before.before.before.before.before.if2.false
     (not-false _ (sym c.before.before.before.before.before.before.before.before.before.before.no-hop.ensures ∙ c.before.before.before.before.before.before.before.before.before.if3.false)) (not-false _ (sym c.before.before.before.before.before.before.before.before.no-ranks.ensures ∙ c.before.before.before.before.before.before.before.if4.false)) valid
     (omega (arith, count, short)))
 

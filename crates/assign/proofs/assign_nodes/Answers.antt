@@ -1,7 +1,7 @@
 -- `assign::assign_nodes` meets its contract. The loop's invariant: the positions before b are assigned, and the reader stands before b.
 -- Assumes nothing.
 use Prim.Native.Nat.{◌-◌, ◌≤◌}
-use mathlib.Core.Path.{refl}
+use mathlib.Core.Path.{◌≡◌, refl}
 use native.Mathlib.Omega.{arith}
 use lib.ListN.{replicate}
 use borrow.Author.Rules.{rules}

@@ -16,7 +16,7 @@ loop-p-preserved c =
     let l = c.loop-p in
     let lt = c.loop-p-test.true in
     let v = c.leaf_value-v in
-    (omega arith, leaves_next l.invariant.1 lt v.result v.ensures.0 c.with_entry-other.result c.with_entry-other.ensures)
+    (omega arith, leaves_next l.invariant.1 lt v.result v.ensures.result_value c.with_entry-other.result c.with_entry-other.ensures)
 
 pub returns : goal.returns
 returns c = leaves_end c.loop-p.invariant.1 (omega arith) c.push_l4.result c.push_l4.ensures

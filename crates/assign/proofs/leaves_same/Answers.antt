@@ -22,7 +22,7 @@ loop-p-preserved c =
       omega arith,
       λ e.
           let both = (and-eq-true_iff (eqb v.result (get_or a.hops.now l.p 0)) l.same).0 (sym c.still_same-same.ensures ∙ e) in
-          same_next a.covering.now a.hops.now a.fill l.p (l.invariant.1 both.1) v.result v.ensures.0
+          same_next a.covering.now a.hops.now a.fill l.p (l.invariant.1 both.1) v.result v.ensures.result_value
           (eqb-true v.result (get_or a.hops.now l.p 0) both.0),
     )
 

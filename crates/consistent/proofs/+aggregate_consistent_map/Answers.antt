@@ -1,18 +1,16 @@
 -- `consistent::aggregate_consistent_map` meets its contract: one cycle of calls, by falling bits below the node. The loop's invariant: the
 -- node is found, the word has the slots to visit, and the node's slots before c are written. Assumes nothing.
-use Prim.Native.Nat.{ℕ, ◌+◌, ◌-◌, ◌*◌, ◌<◌}
+use Prim.Native.Nat.{◌+◌, ◌-◌, ◌*◌, ◌<◌}
 use mathlib.Core.Path.{◌≡◌, refl}
 use lib.ListN.{get_or, get_or-replicate}
 use native.Mathlib.Omega.{arith}
-use borrow.Author.Rules.{rules}
-use borrow.Fn.PlainCycle.{Measures, is, falls, and}
 use Rattle.positions.specs.Runs.{place_at}
-use Rattle.nodes.specs.Node.{reach, run, slot_size}
+use Rattle.nodes.specs.Node.{run, slot_size}
 use Rattle.nodes.proofs.OutputLaws.{wrote_count}
-use Rattle.nodes.proofs.OutputWalk.{relaid, Walked, Begun, walked_none, begun, begun_few, walked_alone, walked_child, walked_all}
+use Rattle.nodes.proofs.OutputWalk.{relaid, Begun, walked_none, begun, begun_few, walked_alone, walked_child, walked_all}
 use Rattle.gather.proofs.GatherLaws.{absent, ends_in, child_node}
-use Rattle.gather.proofs.BusySlots.{Busy, busy_slots, walked_next}
-use Rattle.consistent.proofs.MapLaws.{map_slot, map_no_child, Found, slot_le, map-slots, map-most, map_child}
+use Rattle.gather.proofs.BusySlots.{busy_slots, walked_next}
+use Rattle.consistent.proofs.MapLaws.{map_slot, map_no_child, slot_le, map-slots, map-most, map_child}
 use Rattle.consistent.proofs.+aggregate_consistent_map.Goals as goal
 
 pub gather_run-g-requires : goal.gather_run-g-requires
@@ -50,7 +48,7 @@ emit_slot-n-requires t c =
 
 pub overflow_add-n : goal.overflow_add-n
 overflow_add-n t c =
-    let entered : let a = c.args in let run = c.gather_run-g.new in let hops = c.covering_hops-hops.result in let lp = c.loop-c in let heads = c.emit_slot-n in Begun a.size c.entries_of-entries.result hops a.depth (a.key * 2) (map_slot a.size a.table.now run.first run.end hops a.depth (a.key * 2)) lp.c (lp.n + heads.result) a.out.now (relaid c.past_sized-here.result heads.new.out lp.out) = let heads = c.emit_slot-n in let lt = c.loop-c-test.true in let key = c.slot_key-slot.ensures.value in begun c.loop-c.invariant.1.1 lt c.past_sized-here.ensures key heads.ensures c.out-1.given.1 in
+    let entered : let a = c.args in let run = c.gather_run-g.new in let hops = c.covering_hops-hops.result in let lp = c.loop-c in let heads = c.emit_slot-n in Begun a.size c.entries_of-entries.result hops a.depth (a.key * 2) (map_slot a.size a.table.now run.first run.end hops a.depth (a.key * 2)) lp.c (lp.n + heads.result) a.out.now (relaid c.past_sized-here.result heads.new.out lp.out) = let heads = c.emit_slot-n in let lt = c.loop-c-test.true in let key = c.slot_key-slot.ensures.value in begun c.loop-c.invariant.1.1 lt (c.past_sized-here.ensures.upper_bound, c.past_sized-here.ensures.value) key heads.ensures c.out-1.given.1 in
     let few = begun_few entered in
     let most = map-most c.loop-c.invariant.0 in
     omega (arith, c.well_formed)
@@ -70,7 +68,7 @@ aggregate_consistent_map-n-requires t c =
 
 pub overflow_add-n-then-from-to : goal.overflow_add-n-then-from-to
 overflow_add-n-then-from-to t c =
-    let entered : let a = c.args in let run = c.gather_run-g.new in let hops = c.covering_hops-hops.result in let lp = c.loop-c in let heads = c.emit_slot-n in Begun a.size c.entries_of-entries.result hops a.depth (a.key * 2) (map_slot a.size a.table.now run.first run.end hops a.depth (a.key * 2)) lp.c (lp.n + heads.result) a.out.now (relaid c.past_sized-here.result heads.new.out lp.out) = let heads = c.emit_slot-n in let lt = c.loop-c-test.true in let key = c.slot_key-slot.ensures.value in begun c.loop-c.invariant.1.1 lt c.past_sized-here.ensures key heads.ensures c.out-1.given.1 in
+    let entered : let a = c.args in let run = c.gather_run-g.new in let hops = c.covering_hops-hops.result in let lp = c.loop-c in let heads = c.emit_slot-n in Begun a.size c.entries_of-entries.result hops a.depth (a.key * 2) (map_slot a.size a.table.now run.first run.end hops a.depth (a.key * 2)) lp.c (lp.n + heads.result) a.out.now (relaid c.past_sized-here.result heads.new.out lp.out) = let heads = c.emit_slot-n in let lt = c.loop-c-test.true in let key = c.slot_key-slot.ensures.value in begun c.loop-c.invariant.1.1 lt (c.past_sized-here.ensures.upper_bound, c.past_sized-here.ensures.value) key heads.ensures c.out-1.given.1 in
     let place : let a = c.args in let run = c.gather_run-g.new in let lp = c.loop-c in get_or run.first (31 + lp.c) 0 < get_or run.end (31 + lp.c) 0 → c.slot_key-slot.result * 2 ≡ place_at (slot_size a.depth) (a.key * 2) 5 lp.c = λ has. let lp = c.loop-c in let child = child_node lp.invariant.0.node lp.invariant.0.gathered lp.c c.loop-c-test.true has in c.slot_key-slot.ensures.result_value (omega (arith, child.at.deep)) in
     let lp = c.loop-c in
     let f = lp.invariant.0 in
@@ -87,14 +85,14 @@ loop-c-smaller-then-from-to t c =
 
 pub loop-c-preserved-then-from-to : goal.loop-c-preserved-then-from-to
 loop-c-preserved-then-from-to t c =
-    let entered : let a = c.args in let run = c.gather_run-g.new in let hops = c.covering_hops-hops.result in let lp = c.loop-c in let heads = c.emit_slot-n in Begun a.size c.entries_of-entries.result hops a.depth (a.key * 2) (map_slot a.size a.table.now run.first run.end hops a.depth (a.key * 2)) lp.c (lp.n + heads.result) a.out.now (relaid c.past_sized-here.result heads.new.out lp.out) = let heads = c.emit_slot-n in let lt = c.loop-c-test.true in let key = c.slot_key-slot.ensures.value in begun c.loop-c.invariant.1.1 lt c.past_sized-here.ensures key heads.ensures c.out-1.given.1 in
+    let entered : let a = c.args in let run = c.gather_run-g.new in let hops = c.covering_hops-hops.result in let lp = c.loop-c in let heads = c.emit_slot-n in Begun a.size c.entries_of-entries.result hops a.depth (a.key * 2) (map_slot a.size a.table.now run.first run.end hops a.depth (a.key * 2)) lp.c (lp.n + heads.result) a.out.now (relaid c.past_sized-here.result heads.new.out lp.out) = let heads = c.emit_slot-n in let lt = c.loop-c-test.true in let key = c.slot_key-slot.ensures.value in begun c.loop-c.invariant.1.1 lt (c.past_sized-here.ensures.upper_bound, c.past_sized-here.ensures.value) key heads.ensures c.out-1.given.1 in
     let place : let a = c.args in let run = c.gather_run-g.new in let lp = c.loop-c in get_or run.first (31 + lp.c) 0 < get_or run.end (31 + lp.c) 0 → c.slot_key-slot.result * 2 ≡ place_at (slot_size a.depth) (a.key * 2) 5 lp.c = λ has. let lp = c.loop-c in let child = child_node lp.invariant.0.node lp.invariant.0.gathered lp.c c.loop-c-test.true has in c.slot_key-slot.ensures.result_value (omega (arith, child.at.deep)) in
     let lp = c.loop-c in
     let f = lp.invariant.0 in
     let call = c.aggregate_consistent_map-n in
     let key = place c.if-from-to.true in
     let own = rw (map_child f lp.c _ key) at call.ensures in
-    let slot = walked_child entered c.past_sized-here-then-from-to.ensures own
+    let slot = walked_child entered (c.past_sized-here-then-from-to.ensures.upper_bound, c.past_sized-here-then-from-to.ensures.value) own
     c.out-then-from-to-1.given.1 in
     (f, (lp.invariant.1.0, walked_next lp.invariant.1.0 c.next_bit-c-in-loop-c.ensures slot))
 
@@ -103,7 +101,7 @@ loop-c-smaller t c = omega (arith, c.loop-c-test.true, c.next_bit-c-in-loop-c.en
 
 pub loop-c-preserved : goal.loop-c-preserved
 loop-c-preserved t c =
-    let entered : let a = c.args in let run = c.gather_run-g.new in let hops = c.covering_hops-hops.result in let lp = c.loop-c in let heads = c.emit_slot-n in Begun a.size c.entries_of-entries.result hops a.depth (a.key * 2) (map_slot a.size a.table.now run.first run.end hops a.depth (a.key * 2)) lp.c (lp.n + heads.result) a.out.now (relaid c.past_sized-here.result heads.new.out lp.out) = let heads = c.emit_slot-n in let lt = c.loop-c-test.true in let key = c.slot_key-slot.ensures.value in begun c.loop-c.invariant.1.1 lt c.past_sized-here.ensures key heads.ensures c.out-1.given.1 in
+    let entered : let a = c.args in let run = c.gather_run-g.new in let hops = c.covering_hops-hops.result in let lp = c.loop-c in let heads = c.emit_slot-n in Begun a.size c.entries_of-entries.result hops a.depth (a.key * 2) (map_slot a.size a.table.now run.first run.end hops a.depth (a.key * 2)) lp.c (lp.n + heads.result) a.out.now (relaid c.past_sized-here.result heads.new.out lp.out) = let heads = c.emit_slot-n in let lt = c.loop-c-test.true in let key = c.slot_key-slot.ensures.value in begun c.loop-c.invariant.1.1 lt (c.past_sized-here.ensures.upper_bound, c.past_sized-here.ensures.value) key heads.ensures c.out-1.given.1 in
     let lp = c.loop-c in
     let f = lp.invariant.0 in
     let lt = c.loop-c-test.true in

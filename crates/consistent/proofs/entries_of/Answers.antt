@@ -1,11 +1,11 @@
 -- `consistent::entries_of` meets its contract. The loop's invariant: the bits of the positions before b are found. Assumes nothing.
-use Prim.Native.Nat.{◌+◌, ◌-◌, ◌≤◌}
+use Prim.Native.Nat.{◌+◌, ◌-◌}
 use mathlib.Core.Path.{refl}
 use native.Mathlib.Omega.{arith}
 use lib.Dec.{ltb}
 use borrow.Author.Tests.{lt-ltb, le-ltb}
-use Rattle.gather.proofs.MarkedBits.{Marked, passes_up, marked_none, marked-take, marked_all}
-use Rattle.consistent.proofs.MapLaws.{entry_bit, marked-past}
+use Rattle.gather.proofs.MarkedBits.{passes_up, marked_none, marked-take, marked_all}
+use Rattle.consistent.proofs.MapLaws.{marked-past}
 use Rattle.consistent.proofs.entries_of.Goals as goal
 
 pub loop-b-init : goal.loop-b-init

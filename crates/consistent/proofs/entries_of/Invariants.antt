@@ -1,11 +1,8 @@
 -- `consistent::entries_of` meets its contract. The loop's invariant: the bits of the positions before b are found. Assumes nothing.
-use Prim.Native.Nat.{◌+◌, ◌-◌, ◌≤◌}
-use mathlib.Core.Path.{refl}
-use native.Mathlib.Omega.{arith}
+use Prim.Native.Nat.{◌-◌, ◌≤◌}
 use lib.Dec.{ltb}
-use borrow.Author.Tests.{lt-ltb, le-ltb}
-use Rattle.gather.proofs.MarkedBits.{Marked, passes_up, marked_none, marked-take, marked_all}
-use Rattle.consistent.proofs.MapLaws.{entry_bit, marked-past}
+use Rattle.gather.proofs.MarkedBits.{Marked}
+use Rattle.consistent.proofs.MapLaws.{entry_bit}
 use Rattle.consistent.proofs.entries_of.Given as goal
 
 abbrev pub invariant-loop-b : goal.invariant-loop-b

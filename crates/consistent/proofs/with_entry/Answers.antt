@@ -1,7 +1,6 @@
 -- `consistent::with_entry` meets its contract. Assumes nothing.
 use mathlib.Core.Bool.{and-true, and-false}
 use native.Mathlib.Omega.{arith}
-use borrow.Author.Rules.{rules}
 use lib.Dec.{eqb}
 use Rattle.consistent.proofs.MapLaws.{is_entry_lem, same_no_entry, bare_no_entry}
 use Rattle.consistent.proofs.with_entry.Goals as goal

@@ -41,7 +41,7 @@ set_record-requires c =
     let v : Proper (route a.addr a.len a.hop) = sound_proper (route a.addr a.len a.hop) c.ranges.addr.fits c.requires.1.1 in
     let old : is_at a.room.now (count_in a.room.now) c.place-at.result a.addr a.len ≡ true = sym c.is_at.ensures ∙ c.if-is_at.true in
     let lt = small a.room.now words l a.addr a.len c.place-at.result c.place-at.ensures old in
-    (omega (arith, l.holds), (v.valid.short, v.hop-kept))
+    (omega (arith, l.holds), (v.valid.short, v.hop_kept))
 
 pub returns-then-is_at : goal.returns-then-is_at
 returns-then-is_at c =
@@ -97,7 +97,7 @@ insert-requires c =
         more_holds a.room.now words l a.addr a.len c.place-at.result c.place-at.ensures new a.hop v c.if-n-eq1024.false _ c.held_with.ensures c.if-room-held_with.false,
         (c.place-at.ensures.low, omega (arith, l.few)),
       );
-      len_bound = (v.valid.short, v.hop-kept);
+      len_bound = (v.valid.short, v.hop_kept);
     }
 
 pub returns : goal.returns

@@ -255,7 +255,7 @@ aggregate_set_requires t c κs =
     let e = sym c.before.before.before.before.has-bit.ensures ∙ c.before.before.before.if1.true in
     let bits = c.before.before.before.before.before.before.before.before.before.before.before.before.before.before.before.before.before.before.before.before.before.before.before.before.before.before.before.before.requires.0 in
     let child = slot-node s _ lt e in
-    (omega (arith, bits, child.within-reach), rw (place t c.before.before.before.before c.before.before.before.if1.true) (child, child_stored s w.ahead lt e w.found.stored))
+    (omega (arith, bits, child.within_reach), rw (place t c.before.before.before.before c.before.before.before.if1.true) (child, child_stored s w.ahead lt e w.found.stored))
 
 add_n_2 : (t : ℕ) → lts.Need-overflow-add-n-2 (claims t) (entered t) walk.Post invariant_loop decreases_loop
 add_n_2 t c =

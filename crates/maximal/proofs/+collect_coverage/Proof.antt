@@ -129,7 +129,7 @@ collect_coverage_requires t c κs =
     let e = l.invariant.1 pos in
     let bits = c.before.before.before.before.before.before.before.before.before.before.before.before.requires.0 in
     let child = slot-node w.opened (l.k - 1) (omega arith) e in
-    (omega (arith, child.within-reach), rw (c.before.slot-key.ensures.1 (omega (arith, child.at.deep))) (child, (collect_room w pos e, collect_within w)))
+    (omega (arith, child.within_reach), rw (c.before.slot-key.ensures.1 (omega (arith, child.at.deep))) (child, (collect_room w pos e, collect_within w)))
 
 cast_with_slot : (t : ℕ) → lts.Need-overflow-cast-with-slot (claims t) (entered t) walk.Post invariant_loop decreases_loop
 cast_with_slot t c = search rules

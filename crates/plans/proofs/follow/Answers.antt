@@ -13,12 +13,11 @@ loop-at-init c =
 
 pub loop-at-preserved : goal.loop-at-preserved
 loop-at-preserved c =
-    let v = c.loop-at.invariant in
-    (
+    let v = c.loop-at.invariant in (
       omega arith,
       omega arith,
       elim c.if-holds.branch [
-        then-holds w ↦ followed_holds c.args.steps.now c.args.pass c.args.from c.loop-at.at v.0 v.2 c.holds.ensures w.if-holds.true (w.p-is ∙ w.passed-p.ensures)
+        | then-holds w ↦ followed_holds c.args.steps.now c.args.pass c.args.from c.loop-at.at v.0 v.2 c.holds.ensures w.if-holds.true (w.p-is ∙ w.passed-p.ensures)
         | else-holds w ↦ followed_other c.args.steps.now c.args.pass c.args.from c.loop-at.at v.0 v.2 c.holds.ensures w.if-holds.false w.p-is
       ],
     )

@@ -1,5 +1,4 @@
 -- `plans::verdict` meets its contract. Assumes nothing.
-use borrow.Author.Rules.{rules}
 use Rattle.plans.proofs.verdict.Goals as goal
 
 pub returns-in-Yes : goal.returns-in-Yes

@@ -13,12 +13,8 @@ use Rattle.cover.proofs.CoverLaws.{none_covered, Sought, place_lt, record_covers
 use borrow.Fn.PlainCycle.{Measures, is, falls, and}
 use Rattle.cover.proofs.query.+covers_in_aggregate.Goals as goal
 
--- What is asked and what is learnt at each call.
-
-
-covers_in_aggregate_gather_run_requires : tie.Need-gather-run-requires (covers_in_aggregate_claims t) (covers_in_aggregate_at t) covers-in-aggregate.Post
-covers_in_aggregate_gather_run_requires c κs =
-    (c.before.before.before.requires.1.0, ((refl, refl), λ b lt. (get_or-replicate 63 b 0 0 lt, get_or-replicate 63 b 0 0 lt)))
+pub gather_run-requires : goal.gather_run-requires
+gather_run-requires t c = record { node = c.requires.node; first_len = (refl, refl); by_index = λ b lt. (get_or-replicate 63 b 0 0 lt, get_or-replicate 63 b 0 0 lt) }
 
 pub level_of-requires : goal.level_of-requires
 level_of-requires t c =

@@ -7,7 +7,7 @@ use Rattle.cover.proofs.CoverLaws.{Climbed, climb_start, climb_found, climb_next
 use Rattle.cover.proofs.query.record_over.Given as goal
 
 abbrev pub invariant-loop-k : goal.invariant-loop-k
-invariant-loop-k l = (l.k < 31) × ((l j : ℕ) → l ≤ 4 → j < 2 ^ l → l.b ≡ position l j → Climbed l.first l.end l j l.k)
+invariant-loop-k l = (l.k < 31) × ((m j : ℕ) → m ≤ 4 → j < 2 ^ m → l.b ≡ position m j → Climbed l.first l.end m j l.k)
 
 abbrev pub decreases-loop-k : goal.decreases-loop-k
 decreases-loop-k l = l.k

@@ -1,6 +1,5 @@
 -- `hopruns::combining::combine_runs` meets its contract: the size tells which of the two ways is to be taken. Assumes nothing.
 use mathlib.Core.Path.{◌≡◌, sym, ap, ◌∙◌}
-use mathlib.Core.List.{[]}
 use native.Mathlib.Omega.{arith}
 use lib.ListN.{length}
 use lib.Seq.{slice}

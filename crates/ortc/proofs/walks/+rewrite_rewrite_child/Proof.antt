@@ -231,7 +231,7 @@ rewrite_rewrite_child_requires t c κs =
     let o = l.invariant.0 in
     let lt = c.before.before.before.before.before.before.before.before.before.loop-test.true in
     let start = c.before.before.before.before.before.before.before.before.before.before.before.before.before.before.before.before.before.before.before.before.before.before.before.before.before.before.before.before.before in (
-      omega (arith, start.requires.0, o.node.within-reach),
+      omega (arith, start.requires.0, o.node.within_reach),
       (
         λ has. rw (place t c.before.before.before.before.before.before.before.before has) (child_node o.node o.gathered l.c lt has),
         (

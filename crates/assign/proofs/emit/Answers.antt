@@ -1,5 +1,4 @@
 -- `assign::emit` meets its contract. Assumes nothing.
-use borrow.Author.Rules.{rules}
 use borrow.Author.Tests.{eq-eqb, ne_eqb, lt-ltb, le-ltb}
 use Rattle.nodes.proofs.OutputLaws.{wrote_none}
 use Rattle.positions.specs.Runs.{no_hop}

@@ -1,9 +1,8 @@
 -- `assign::fold_sets` meets its contract. The loop's invariant: the positions from b on are folded. Assumes nothing.
-use Prim.Native.Nat.{suc, ◌-◌, ◌≤◌}
+use Prim.Native.Nat.{suc, ◌-◌}
 use mathlib.Core.Path.{◌≡◌}
 use native.Mathlib.Omega.{arith}
-use borrow.Author.Rules.{rules}
-use Rattle.assign.proofs.AssignLaws.{Folded, folded_none, folded_next, folded_node}
+use Rattle.assign.proofs.AssignLaws.{folded_none, folded_next, folded_node}
 use Rattle.assign.proofs.fold_sets.Goals as goal
 
 pub loop-b-init : goal.loop-b-init

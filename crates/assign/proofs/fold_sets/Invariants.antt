@@ -1,9 +1,6 @@
 -- `assign::fold_sets` meets its contract. The loop's invariant: the positions from b on are folded. Assumes nothing.
-use Prim.Native.Nat.{suc, ◌-◌, ◌≤◌}
-use mathlib.Core.Path.{◌≡◌}
-use native.Mathlib.Omega.{arith}
-use borrow.Author.Rules.{rules}
-use Rattle.assign.proofs.AssignLaws.{Folded, folded_none, folded_next, folded_node}
+use Prim.Native.Nat.{◌-◌, ◌≤◌}
+use Rattle.assign.proofs.AssignLaws.{Folded}
 use Rattle.assign.proofs.fold_sets.Given as goal
 
 abbrev pub invariant-loop-b : goal.invariant-loop-b

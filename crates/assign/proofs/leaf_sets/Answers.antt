@@ -1,8 +1,8 @@
 -- `assign::leaf_sets` meets its contract. The loop's invariant: the slots under the first p positions have their leaves. Assumes nothing.
-use Prim.Native.Nat.{◌-◌, ◌≤◌}
+use Prim.Native.Nat.{◌-◌}
 use mathlib.Core.Path.{refl}
 use native.Mathlib.Omega.{arith}
-use Rattle.assign.proofs.LeafLaws.{Leaves, leaves_next}
+use Rattle.assign.proofs.LeafLaws.{leaves_next}
 use Rattle.assign.proofs.leaf_sets.Goals as goal
 
 pub loop-p-init : goal.loop-p-init

@@ -1,8 +1,7 @@
 -- `assign::leaf_slots` meets its contract. The loop's invariant: the positions of the last level before p are marked. Assumes nothing.
-use Prim.Native.Nat.{◌-◌, ◌≤◌}
+use Prim.Native.Nat.{◌-◌}
 use native.Mathlib.Omega.{arith}
-use borrow.Author.Rules.{rules}
-use Rattle.assign.proofs.AssignLaws.{LeavesMarked, leaves_start, leaves_next, leaves_end}
+use Rattle.assign.proofs.AssignLaws.{leaves_start, leaves_next, leaves_end}
 use Rattle.assign.proofs.leaf_slots.Goals as goal
 
 pub returns-then-leaves_same : goal.returns-then-leaves_same

@@ -1,8 +1,6 @@
 -- `assign::leaf_slots` meets its contract. The loop's invariant: the positions of the last level before p are marked. Assumes nothing.
 use Prim.Native.Nat.{◌-◌, ◌≤◌}
-use native.Mathlib.Omega.{arith}
-use borrow.Author.Rules.{rules}
-use Rattle.assign.proofs.AssignLaws.{LeavesMarked, leaves_start, leaves_next, leaves_end}
+use Rattle.assign.proofs.AssignLaws.{LeavesMarked}
 use Rattle.assign.proofs.leaf_slots.Given as goal
 
 abbrev pub invariant-loop-p : goal.invariant-loop-p

@@ -1,14 +1,13 @@
 -- `assign::leaves_same` meets its contract. The loop's invariant: while the answer is yes, it is so at the positions of the last level
 -- before p. Assumes nothing.
-use Prim.Native.Nat.{◌-◌, ◌≤◌}
+use Prim.Native.Nat.{◌-◌}
 use mathlib.Core.Path.{◌≡◌, sym, ◌∙◌}
-use mathlib.Core.Bool.{true, and-eq-true_iff}
+use mathlib.Core.Bool.{and-eq-true_iff}
 use native.Mathlib.Omega.{arith}
 use lib.Dec.{eqb}
 use lib.ListN.{get_or}
-use borrow.Author.Rules.{rules}
 use borrow.Author.Tests.{eqb-true}
-use Rattle.assign.proofs.AssignLaws.{LeavesSame, same_next, same_unmarked}
+use Rattle.assign.proofs.AssignLaws.{same_next, same_unmarked}
 use Rattle.assign.proofs.leaves_same.Goals as goal
 
 pub loop-p-init : goal.loop-p-init

@@ -1,5 +1,4 @@
 -- `assign::with_entry` meets its contract. Assumes nothing.
-use borrow.Author.Rules.{rules}
 use mathlib.Core.Path.{◌∙◌}
 use mathlib.Core.Bool.{and-false, and-true}
 use native.Mathlib.Omega.{arith}

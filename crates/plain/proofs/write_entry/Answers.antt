@@ -1,7 +1,7 @@
 -- `write_entry` writes the entry that a position with the set gets. Assumes nothing.
 use Prim.Native.Nat.{◌-◌}
 use mathlib.Core.Path.{sym, ap, ◌∙◌}
-use mathlib.Core.List.{◌∷◌}
+use mathlib.Core.List.{[], ◌∷◌}
 use Rattle.theory.proofs.Preserve.{back}
 use Rattle.records.specs.Sized.{width_in, route}
 use Rattle.plain.specs.Positions.{address_in}

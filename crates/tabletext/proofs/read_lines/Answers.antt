@@ -1,5 +1,5 @@
 -- `tabletext::read_lines` meets its contract: before each line, what is left to be read makes all that is to be read. Assumes nothing.
-use mathlib.Core.List.{List}
+use mathlib.Core.List.{[], List}
 use Prim.Native.Nat.{ℕ, ◌<◌, ◌+◌, ◌-◌, ◌≤◌}
 use lib.ListN.{length-drop, length, drop}
 use Rattle.tabletext.specs.Pieces.{place, up_to}

@@ -1,6 +1,5 @@
 -- `assign::room::joined` meets its contract. Assumes nothing.
 use mathlib.Core.Path.{refl}
-use borrow.Author.Rules.{rules}
 use Rattle.assign.proofs.room.joined.Goals as goal
 
 pub returns : goal.returns

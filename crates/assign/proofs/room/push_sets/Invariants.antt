@@ -1,11 +1,7 @@
 -- `assign::room::push_sets` meets its contract. The loop's invariant: the words of the positions under p and after are laid, and the writer's mask
 -- is theirs. Assumes nothing.
 use Prim.Native.Nat.{◌+◌, ◌*◌, ◌-◌, ◌≤◌}
-use mathlib.Core.Path.{refl}
-use native.Mathlib.Omega.{arith}
-use borrow.Author.Rules.{rules}
-use Rattle.nodes.proofs.RoomLaws.{pushed-length}
-use Rattle.assign.proofs.PackedLaws.{Laying, laying_start, laying_room, laying_may, laying_next, laying_under, laying_end}
+use Rattle.assign.proofs.PackedLaws.{Laying}
 use Rattle.assign.proofs.room.push_sets.Given as goal
 
 abbrev pub invariant-loop-p : goal.invariant-loop-p

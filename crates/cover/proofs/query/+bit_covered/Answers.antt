@@ -1,13 +1,10 @@
 -- `cover::query::bit_covered`, which calls itself on the slots that it asks, meets its contract, by falling bits below the node. The loop's
 -- invariant: of the slots before the next the word has those that were asked and are covered. Assumes nothing.
-use Prim.Native.Nat.{ℕ, ◌-◌, ◌*◌, ◌<◌}
+use Prim.Native.Nat.{◌-◌}
 use mathlib.Core.Path.{refl, sym, ◌∙◌}
 use native.Mathlib.Omega.{arith}
 use lib.ListN.{get_or-replicate}
-use borrow.Author.Rules.{rules}
-use borrow.Fn.PlainCycle.{Measures, is, falls, and}
-use Rattle.nodes.specs.Node.{reach}
-use Rattle.cover.proofs.CoverLaws.{member_covers, Answered, ask_start, ask_node, ask_child, ask_end}
+use Rattle.cover.proofs.CoverLaws.{member_covers, ask_start, ask_node, ask_child, ask_end}
 use Rattle.cover.proofs.query.+bit_covered.Goals as goal
 
 pub gather_run-g-requires : goal.gather_run-g-requires

@@ -1,5 +1,5 @@
 -- `cover::query::covers_in_aggregate`, which calls itself on a slot, meets its contract. Assumes nothing.
-use Prim.Native.Nat.{ℕ, ◌-◌, ◌*◌, ◌<◌}
+use Prim.Native.Nat.{◌-◌, ◌*◌}
 use mathlib.Core.Path.{refl, sym, ap, ◌∙◌}
 use mathlib.Core.Bool.{true, false}
 use mathlib.Core.List.{List}
@@ -7,10 +7,9 @@ use native.Mathlib.Omega.{arith}
 use lib.ListN.{get_or-replicate}
 use Rattle.theory.specs.Results.{throughout}
 use Rattle.theory.specs.Routes.{Route, held}
-use Rattle.nodes.specs.Node.{reach, wide}
+use Rattle.nodes.specs.Node.{wide}
 use Rattle.gather.proofs.GatherRuns.{run_none}
 use Rattle.cover.proofs.CoverLaws.{none_covered, Sought, place_lt, record_covers, position-answer, place-slot, slot-node, slot-lies, slot-answer}
-use borrow.Fn.PlainCycle.{Measures, is, falls, and}
 use Rattle.cover.proofs.query.+covers_in_aggregate.Goals as goal
 
 pub gather_run-requires : goal.gather_run-requires
@@ -31,7 +30,7 @@ record_over-requires t c = c.if-b-lt31.true
 
 pub returns-then-record_over : goal.returns-then-record_over
 returns-then-record_over t c =
-    let sought : Sought c.args.size c.args.table.now c.args.lo c.args.hi c.args.depth (c.args.key * 2) (c.args.query * 2) c.args.len c.gather_run.new.first c.gather_run.new.end c.gather_run.result.present c.level_of.result c.heap_index-b.result = let pre = c.requires in record { node = pre.node; gathered = c.gather_run.ensures.gathered; lens = pre.depth_le_len; aligned = pre.aligned; lies = pre.fact; leveled = c.level_of.ensures; placed = c.heap_index-b.ensures.by_index _ pre.node.at pre.fact; } in
+    let sought : Sought c.args.size c.args.table.now c.args.lo c.args.hi c.args.depth (c.args.key * 2) (c.args.query * 2) c.args.len c.gather_run.new.first c.gather_run.new.end c.gather_run.result.present c.level_of.result c.heap_index-b.result = let pre = c.requires in record { node = pre.node; gathered = c.gather_run.ensures.gathered; lens = pre.depth_le_len; aligned = pre.aligned; lies = pre.fact; leveled = c.level_of.ensures; placed = c.heap_index-b.ensures.by_index _ pre.node.at pre.fact } in
     let s = sought in
     position-answer s true c.if-b-lt31.true (λ l j le lt e. record_covers s.node s.gathered l j le lt (sym c.if-record_over.true ∙ c.record_over.ensures l j le lt e))
 
@@ -40,37 +39,37 @@ bit_covered-requires t c = record { node = c.requires.node; b_bound = c.if-b-lt3
 
 pub returns-then-b-lt31 : goal.returns-then-b-lt31
 returns-then-b-lt31 t c =
-    let sought : Sought c.args.size c.args.table.now c.args.lo c.args.hi c.args.depth (c.args.key * 2) (c.args.query * 2) c.args.len c.gather_run.new.first c.gather_run.new.end c.gather_run.result.present c.level_of.result c.heap_index-b.result = let pre = c.requires in record { node = pre.node; gathered = c.gather_run.ensures.gathered; lens = pre.depth_le_len; aligned = pre.aligned; lies = pre.fact; leveled = c.level_of.ensures; placed = c.heap_index-b.ensures.by_index _ pre.node.at pre.fact; } in
+    let sought : Sought c.args.size c.args.table.now c.args.lo c.args.hi c.args.depth (c.args.key * 2) (c.args.query * 2) c.args.len c.gather_run.new.first c.gather_run.new.end c.gather_run.result.present c.level_of.result c.heap_index-b.result = let pre = c.requires in record { node = pre.node; gathered = c.gather_run.ensures.gathered; lens = pre.depth_le_len; aligned = pre.aligned; lies = pre.fact; leveled = c.level_of.ensures; placed = c.heap_index-b.ensures.by_index _ pre.node.at pre.fact } in
     position-answer sought _ c.if-b-lt31.true c.bit_covered.ensures
 
 pub record_over-requires-2 : goal.record_over-requires-2
 record_over-requires-2 t c =
-    let sought : Sought c.args.size c.args.table.now c.args.lo c.args.hi c.args.depth (c.args.key * 2) (c.args.query * 2) c.args.len c.gather_run.new.first c.gather_run.new.end c.gather_run.result.present c.level_of.result c.heap_index-b.result = let pre = c.requires in record { node = pre.node; gathered = c.gather_run.ensures.gathered; lens = pre.depth_le_len; aligned = pre.aligned; lies = pre.fact; leveled = c.level_of.ensures; placed = c.heap_index-b.ensures.by_index _ pre.node.at pre.fact; } in
+    let sought : Sought c.args.size c.args.table.now c.args.lo c.args.hi c.args.depth (c.args.key * 2) (c.args.query * 2) c.args.len c.gather_run.new.first c.gather_run.new.end c.gather_run.result.present c.level_of.result c.heap_index-b.result = let pre = c.requires in record { node = pre.node; gathered = c.gather_run.ensures.gathered; lens = pre.depth_le_len; aligned = pre.aligned; lies = pre.fact; leveled = c.level_of.ensures; placed = c.heap_index-b.ensures.by_index _ pre.node.at pre.fact } in
     omega (arith, place_lt sought)
 
 pub returns-then-record_over-2 : goal.returns-then-record_over-2
 returns-then-record_over-2 t c =
-    let sought : Sought c.args.size c.args.table.now c.args.lo c.args.hi c.args.depth (c.args.key * 2) (c.args.query * 2) c.args.len c.gather_run.new.first c.gather_run.new.end c.gather_run.result.present c.level_of.result c.heap_index-b.result = let pre = c.requires in record { node = pre.node; gathered = c.gather_run.ensures.gathered; lens = pre.depth_le_len; aligned = pre.aligned; lies = pre.fact; leveled = c.level_of.ensures; placed = c.heap_index-b.ensures.by_index _ pre.node.at pre.fact; } in
+    let sought : Sought c.args.size c.args.table.now c.args.lo c.args.hi c.args.depth (c.args.key * 2) (c.args.query * 2) c.args.len c.gather_run.new.first c.gather_run.new.end c.gather_run.result.present c.level_of.result c.heap_index-b.result = let pre = c.requires in record { node = pre.node; gathered = c.gather_run.ensures.gathered; lens = pre.depth_le_len; aligned = pre.aligned; lies = pre.fact; leveled = c.level_of.ensures; placed = c.heap_index-b.ensures.by_index _ pre.node.at pre.fact } in
     slot-answer sought true c.if-b-lt31.false (λ l j le lt e. sym c.if-record_over-2.true ∙ c.record_over-2.ensures l j le lt e)
 
 pub offset_bounds-first-b : goal.offset_bounds-first-b
 offset_bounds-first-b t c =
-    let sought : Sought c.args.size c.args.table.now c.args.lo c.args.hi c.args.depth (c.args.key * 2) (c.args.query * 2) c.args.len c.gather_run.new.first c.gather_run.new.end c.gather_run.result.present c.level_of.result c.heap_index-b.result = let pre = c.requires in record { node = pre.node; gathered = c.gather_run.ensures.gathered; lens = pre.depth_le_len; aligned = pre.aligned; lies = pre.fact; leveled = c.level_of.ensures; placed = c.heap_index-b.ensures.by_index _ pre.node.at pre.fact; } in
+    let sought : Sought c.args.size c.args.table.now c.args.lo c.args.hi c.args.depth (c.args.key * 2) (c.args.query * 2) c.args.len c.gather_run.new.first c.gather_run.new.end c.gather_run.result.present c.level_of.result c.heap_index-b.result = let pre = c.requires in record { node = pre.node; gathered = c.gather_run.ensures.gathered; lens = pre.depth_le_len; aligned = pre.aligned; lies = pre.fact; leveled = c.level_of.ensures; placed = c.heap_index-b.ensures.by_index _ pre.node.at pre.fact } in
     omega (arith, place_lt sought)
 
 pub bounds-first-b : goal.bounds-first-b
 bounds-first-b t c =
-    let sought : Sought c.args.size c.args.table.now c.args.lo c.args.hi c.args.depth (c.args.key * 2) (c.args.query * 2) c.args.len c.gather_run.new.first c.gather_run.new.end c.gather_run.result.present c.level_of.result c.heap_index-b.result = let pre = c.requires in record { node = pre.node; gathered = c.gather_run.ensures.gathered; lens = pre.depth_le_len; aligned = pre.aligned; lies = pre.fact; leveled = c.level_of.ensures; placed = c.heap_index-b.ensures.by_index _ pre.node.at pre.fact; } in
+    let sought : Sought c.args.size c.args.table.now c.args.lo c.args.hi c.args.depth (c.args.key * 2) (c.args.query * 2) c.args.len c.gather_run.new.first c.gather_run.new.end c.gather_run.result.present c.level_of.result c.heap_index-b.result = let pre = c.requires in record { node = pre.node; gathered = c.gather_run.ensures.gathered; lens = pre.depth_le_len; aligned = pre.aligned; lies = pre.fact; leveled = c.level_of.ensures; placed = c.heap_index-b.ensures.by_index _ pre.node.at pre.fact } in
     omega (arith, place_lt sought)
 
 pub offset_bounds-end-b : goal.offset_bounds-end-b
 offset_bounds-end-b t c =
-    let sought : Sought c.args.size c.args.table.now c.args.lo c.args.hi c.args.depth (c.args.key * 2) (c.args.query * 2) c.args.len c.gather_run.new.first c.gather_run.new.end c.gather_run.result.present c.level_of.result c.heap_index-b.result = let pre = c.requires in record { node = pre.node; gathered = c.gather_run.ensures.gathered; lens = pre.depth_le_len; aligned = pre.aligned; lies = pre.fact; leveled = c.level_of.ensures; placed = c.heap_index-b.ensures.by_index _ pre.node.at pre.fact; } in
+    let sought : Sought c.args.size c.args.table.now c.args.lo c.args.hi c.args.depth (c.args.key * 2) (c.args.query * 2) c.args.len c.gather_run.new.first c.gather_run.new.end c.gather_run.result.present c.level_of.result c.heap_index-b.result = let pre = c.requires in record { node = pre.node; gathered = c.gather_run.ensures.gathered; lens = pre.depth_le_len; aligned = pre.aligned; lies = pre.fact; leveled = c.level_of.ensures; placed = c.heap_index-b.ensures.by_index _ pre.node.at pre.fact } in
     omega (arith, place_lt sought)
 
 pub bounds-end-b : goal.bounds-end-b
 bounds-end-b t c =
-    let sought : Sought c.args.size c.args.table.now c.args.lo c.args.hi c.args.depth (c.args.key * 2) (c.args.query * 2) c.args.len c.gather_run.new.first c.gather_run.new.end c.gather_run.result.present c.level_of.result c.heap_index-b.result = let pre = c.requires in record { node = pre.node; gathered = c.gather_run.ensures.gathered; lens = pre.depth_le_len; aligned = pre.aligned; lies = pre.fact; leveled = c.level_of.ensures; placed = c.heap_index-b.ensures.by_index _ pre.node.at pre.fact; } in
+    let sought : Sought c.args.size c.args.table.now c.args.lo c.args.hi c.args.depth (c.args.key * 2) (c.args.query * 2) c.args.len c.gather_run.new.first c.gather_run.new.end c.gather_run.result.present c.level_of.result c.heap_index-b.result = let pre = c.requires in record { node = pre.node; gathered = c.gather_run.ensures.gathered; lens = pre.depth_le_len; aligned = pre.aligned; lies = pre.fact; leveled = c.level_of.ensures; placed = c.heap_index-b.ensures.by_index _ pre.node.at pre.fact } in
     omega (arith, place_lt sought)
 
 pub overflow_add-depth : goal.overflow_add-depth
@@ -78,13 +77,13 @@ overflow_add-depth t c = omega (arith, c.requires.node.at.deep)
 
 pub slot_key-requires : goal.slot_key-requires
 slot_key-requires t c =
-    let sought : Sought c.args.size c.args.table.now c.args.lo c.args.hi c.args.depth (c.args.key * 2) (c.args.query * 2) c.args.len c.gather_run.new.first c.gather_run.new.end c.gather_run.result.present c.level_of.result c.heap_index-b.result = let pre = c.requires in record { node = pre.node; gathered = c.gather_run.ensures.gathered; lens = pre.depth_le_len; aligned = pre.aligned; lies = pre.fact; leveled = c.level_of.ensures; placed = c.heap_index-b.ensures.by_index _ pre.node.at pre.fact; } in
+    let sought : Sought c.args.size c.args.table.now c.args.lo c.args.hi c.args.depth (c.args.key * 2) (c.args.query * 2) c.args.len c.gather_run.new.first c.gather_run.new.end c.gather_run.result.present c.level_of.result c.heap_index-b.result = let pre = c.requires in record { node = pre.node; gathered = c.gather_run.ensures.gathered; lens = pre.depth_le_len; aligned = pre.aligned; lies = pre.fact; leveled = c.level_of.ensures; placed = c.heap_index-b.ensures.by_index _ pre.node.at pre.fact } in
     let s = sought in
     (omega (arith, (place-slot s c.if-b-lt31.false).2), s.node.at)
 
 pub covers_in_aggregate-requires : goal.covers_in_aggregate-requires
 covers_in_aggregate-requires t c =
-    let sought : Sought c.args.size c.args.table.now c.args.lo c.args.hi c.args.depth (c.args.key * 2) (c.args.query * 2) c.args.len c.gather_run.new.first c.gather_run.new.end c.gather_run.result.present c.level_of.result c.heap_index-b.result = let pre = c.requires in record { node = pre.node; gathered = c.gather_run.ensures.gathered; lens = pre.depth_le_len; aligned = pre.aligned; lies = pre.fact; leveled = c.level_of.ensures; placed = c.heap_index-b.ensures.by_index _ pre.node.at pre.fact; } in
+    let sought : Sought c.args.size c.args.table.now c.args.lo c.args.hi c.args.depth (c.args.key * 2) (c.args.query * 2) c.args.len c.gather_run.new.first c.gather_run.new.end c.gather_run.result.present c.level_of.result c.heap_index-b.result = let pre = c.requires in record { node = pre.node; gathered = c.gather_run.ensures.gathered; lens = pre.depth_le_len; aligned = pre.aligned; lies = pre.fact; leveled = c.level_of.ensures; placed = c.heap_index-b.ensures.by_index _ pre.node.at pre.fact } in
     let s = sought in
     let slot = c.if-b-lt31.false in
     let child = slot-node s slot c.if-from-to.true in
@@ -94,13 +93,13 @@ covers_in_aggregate-requires t c =
 
 pub returns-then-from-to : goal.returns-then-from-to
 returns-then-from-to t c =
-    let sought : Sought c.args.size c.args.table.now c.args.lo c.args.hi c.args.depth (c.args.key * 2) (c.args.query * 2) c.args.len c.gather_run.new.first c.gather_run.new.end c.gather_run.result.present c.level_of.result c.heap_index-b.result = let pre = c.requires in record { node = pre.node; gathered = c.gather_run.ensures.gathered; lens = pre.depth_le_len; aligned = pre.aligned; lies = pre.fact; leveled = c.level_of.ensures; placed = c.heap_index-b.ensures.by_index _ pre.node.at pre.fact; } in
+    let sought : Sought c.args.size c.args.table.now c.args.lo c.args.hi c.args.depth (c.args.key * 2) (c.args.query * 2) c.args.len c.gather_run.new.first c.gather_run.new.end c.gather_run.result.present c.level_of.result c.heap_index-b.result = let pre = c.requires in record { node = pre.node; gathered = c.gather_run.ensures.gathered; lens = pre.depth_le_len; aligned = pre.aligned; lies = pre.fact; leveled = c.level_of.ensures; placed = c.heap_index-b.ensures.by_index _ pre.node.at pre.fact } in
     c.covers_in_aggregate.ensures
     ∙ slot-answer sought false c.if-b-lt31.false (λ l j le lt e. sym c.if-record_over-2.false ∙ c.record_over-2.ensures l j le lt e)
 
 pub returns : goal.returns
 returns t c =
-    let sought : Sought c.args.size c.args.table.now c.args.lo c.args.hi c.args.depth (c.args.key * 2) (c.args.query * 2) c.args.len c.gather_run.new.first c.gather_run.new.end c.gather_run.result.present c.level_of.result c.heap_index-b.result = let pre = c.requires in record { node = pre.node; gathered = c.gather_run.ensures.gathered; lens = pre.depth_le_len; aligned = pre.aligned; lies = pre.fact; leveled = c.level_of.ensures; placed = c.heap_index-b.ensures.by_index _ pre.node.at pre.fact; } in
+    let sought : Sought c.args.size c.args.table.now c.args.lo c.args.hi c.args.depth (c.args.key * 2) (c.args.query * 2) c.args.len c.gather_run.new.first c.gather_run.new.end c.gather_run.result.present c.level_of.result c.heap_index-b.result = let pre = c.requires in record { node = pre.node; gathered = c.gather_run.ensures.gathered; lens = pre.depth_le_len; aligned = pre.aligned; lies = pre.fact; leveled = c.level_of.ensures; placed = c.heap_index-b.ensures.by_index _ pre.node.at pre.fact } in
     let a = c.args in
     sym (none_covered wide (wide - a.len) (a.query * 2))
     ∙ ap (λ (u : List Route). throughout (held wide u) (wide - a.len) (a.query * 2)) (sym (run_none a.size a.table.now _ _ c.if-from-to.false))

@@ -1,5 +1,4 @@
 -- `cover::query::child_cover_mask_for_bit` meets its contract. Assumes nothing.
-use borrow.Author.Rules.{rules}
 use Rattle.words.proofs.CoverageLaws.{slots-below}
 use Rattle.cover.proofs.query.child_cover_mask_for_bit.Goals as goal
 

@@ -1,9 +1,7 @@
 -- `cover::query::record_over` meets its contract. The loop's invariant: there was no record on the way up to k. Assumes nothing.
-use Prim.Native.Nat.{ℕ, ◌^◌, ◌≤◌, ◌<◌}
 use mathlib.Core.Path.{◌≡◌, sym}
 use native.Mathlib.Omega.{arith}
-use Rattle.words.specs.Positions.{position}
-use Rattle.cover.proofs.CoverLaws.{Climbed, climb_start, climb_found, climb_next, climb_top}
+use Rattle.cover.proofs.CoverLaws.{climb_start, climb_found, climb_next, climb_top}
 use Rattle.cover.proofs.query.record_over.Goals as goal
 
 pub loop-k-init : goal.loop-k-init

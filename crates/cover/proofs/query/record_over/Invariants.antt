@@ -1,9 +1,8 @@
 -- `cover::query::record_over` meets its contract. The loop's invariant: there was no record on the way up to k. Assumes nothing.
 use Prim.Native.Nat.{ℕ, ◌^◌, ◌≤◌, ◌<◌}
-use mathlib.Core.Path.{◌≡◌, sym}
-use native.Mathlib.Omega.{arith}
+use mathlib.Core.Path.{◌≡◌}
 use Rattle.words.specs.Positions.{position}
-use Rattle.cover.proofs.CoverLaws.{Climbed, climb_start, climb_found, climb_next, climb_top}
+use Rattle.cover.proofs.CoverLaws.{Climbed}
 use Rattle.cover.proofs.query.record_over.Given as goal
 
 abbrev pub invariant-loop-k : goal.invariant-loop-k

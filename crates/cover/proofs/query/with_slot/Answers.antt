@@ -2,7 +2,6 @@
 use mathlib.Core.Path.{◌≡◌, sym, ap, ◌∙◌}
 use mathlib.Core.Bool.{Bool, true, false, ◌||◌, and-true, and-false}
 use lib.Dec.{eqb}
-use borrow.Author.Rules.{rules}
 use Rattle.words.specs.Bits.{bit}
 use Rattle.cover.proofs.query.with_slot.Goals as goal
 

@@ -1,4 +1,5 @@
 -- `hopruns::combining::combine_runs` meets its contract: the size tells which of the two ways is to be taken. Assumes nothing.
+use mathlib.Core.List.{[]}
 use mathlib.Core.Path.{◌≡◌, sym, ap, ◌∙◌}
 use native.Mathlib.Omega.{arith}
 use lib.ListN.{length}

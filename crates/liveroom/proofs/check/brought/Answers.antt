@@ -1,7 +1,7 @@
 -- `check::brought` is the table's count for two routes, by the keys of their addresses. Assumes nothing.
 use Prim.Native.Nat.{◌/◌}
 use mathlib.Core.Path.{refl}
-use mathlib.Core.List.{◌∷◌}
+use mathlib.Core.List.{[], ◌∷◌}
 use native.Mathlib.Omega.{arith}
 use Rattle.nodecount.proofs.NodePass.{fresh-small}
 use Rattle.nodecount.specs.Nodes.{bare}

@@ -1,6 +1,5 @@
 -- `assign::room::NodeReader::pop` meets its contract. Assumes nothing.
 use mathlib.Core.Path.{refl}
-use borrow.Author.Rules.{rules}
 use Rattle.assign.proofs.room.NodeReader.pop.Goals as goal
 
 pub returns : goal.returns

@@ -1,7 +1,10 @@
-// Input that is read in full: std's `read` may give fewer bytes than there is room for.
+// Input that is read in full, files that arguments name, and output whose first error is kept.
 #![tactic(auto)]
 
-ghost use Rattle.std.specs.Prelude.{◌≡◌, ◌<◌, take, length, IfOk};
+pub mod named;
+pub mod outlet;
+
+ghost use Rattle.std.specs.Prelude.{◌<◌, take, length, IfOk};
 ghost use Rattle.std.specs.Io.{ReadsAtMost};
 ghost use Rattle.std.specs.Io.KnownBytes.{Consumes, IsAtEnd};
 

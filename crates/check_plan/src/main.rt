@@ -25,12 +25,7 @@ fn table_of<R: Env + Files + Eprint>(
 }
 
 // Reads the steps, and prints the answer.
-fn check(
-    rt: &impl Print,
-    input: &mut impl Read,
-    installed: &[u8],
-    new: &[u8],
-) -> io::Result<()> {
+fn check(rt: &impl Print, input: &mut impl Read, installed: &[u8], new: &[u8]) -> io::Result<()> {
     let mut text = [0u8; 65537];
     let mut out = [0u8; 37];
     let size = read_full(input, &mut text)?;

@@ -128,11 +128,7 @@ fn answer(table: &[u8], mode: u32, default: u32, work: &mut [u32; 824480], out: 
 }
 
 // Reads the input and prints the answer.
-fn run(
-    rt: &(impl Env + Print),
-    input: &mut impl Read,
-    work: &mut [u32; 824480],
-) -> io::Result<()> {
+fn run(rt: &(impl Env + Print), input: &mut impl Read, work: &mut [u32; 824480]) -> io::Result<()> {
     let mut table = [0u8; 8200];
     let mut out = [0u8; 49236];
     let first = read_full(input, &mut table)?;

@@ -27,3 +27,51 @@ pub fn read_full<R: Read>(reader: &mut R, buf: &mut [u8]) -> io::Result<usize>
     }
     Ok(done)
 }
+
+#[cfg(test)]
+mod tests {
+    use super::*;
+    use crate::outlet::Outlet;
+    use std::io::{Cursor, ErrorKind};
+
+    // Gives a byte at each read, so many times, and then fails.
+    #[derive(Drop)]
+    struct Bytewise {
+        left: u8,
+    }
+
+    impl Read for Bytewise {
+        fn read(&mut self, buf: &mut [u8]) -> io::Result<usize> {
+            if self.left == 0 {
+                return Err(io::Error::from(ErrorKind::BrokenPipe));
+            }
+            if buf.is_empty() {
+                return Ok(0);
+            }
+            self.left -= 1;
+            buf[0] = 7;
+            Ok(1)
+        }
+    }
+
+    #[test]
+    fn gathers_short_reads(rt: HostRuntime) {
+        let mut three = [0u8; 3];
+        assert!(rt; read_full(&mut Bytewise { left: 3 }, &mut three).is_ok());
+        assert_eq!(rt; three, [7, 7, 7]);
+        let mut four = [0u8; 4];
+        assert!(rt; read_full(&mut Bytewise { left: 3 }, &mut four).is_err());
+    }
+
+    #[test]
+    fn keeps_the_first_error(rt: HostRuntime) {
+        let mut fits = Outlet::new(Cursor::new([0u8; 4]));
+        fits.send(b"abcd");
+        assert!(rt; fits.finish().is_ok());
+        let mut full = Outlet::new(Cursor::new([0u8; 4]));
+        full.send(b"abc");
+        full.send(b"de");
+        full.send(b"");
+        assert!(rt; full.finish().is_err());
+    }
+}

@@ -1,4 +1,8 @@
 // Mode 4: reads a table from standard input and prints its records and the change. It is run on document 01's case 11.
-fn main() {
-    program::run(false, 4);
+#![tactic(auto)]
+
+use std::io;
+
+fn main(rt: HostRuntime) -> io::Result<()> {
+    program::run(&rt, &mut rt.stdin(), false, 4)
 }

@@ -1,4 +1,8 @@
 // Mode 5 for records of 16 bytes: reads a table from standard input and prints its records and the change. It is run on the same map as mode 4.
-fn main() {
-    program::run(true, 5);
+#![tactic(auto)]
+
+use std::io;
+
+fn main(rt: HostRuntime) -> io::Result<()> {
+    program::run(&rt, &mut rt.stdin(), true, 5)
 }

@@ -1,4 +1,8 @@
 // Mode 1 for records of 16 bytes: reads a table from standard input and prints its records and the change. It is run on a set of three prefixes, which are one.
-fn main() {
-    program::run(true, 1);
+#![tactic(auto)]
+
+use std::io;
+
+fn main(rt: HostRuntime) -> io::Result<()> {
+    program::run(&rt, &mut rt.stdin(), true, 1)
 }

@@ -10,13 +10,16 @@
 //
 // The output of a rewrite has 8,200 bytes, that of a list 180,224. Prints the last answer: `records N change C`, `unrouted N` or `refused N at I`;
 // `not run` where the number of times is 0.
+#![tactic(auto)]
+
 ghost use Rattle.std.specs.Prelude.{◌≤◌};
 
 use aggregate::rewrite;
 use calls::Rewritten;
 use holes::{Listed, unrouted};
-use libc::{STDIN_FILENO, STDOUT_FILENO};
 use records::Form;
+use std::io;
+use streams::read_full;
 
 // The number of three bytes.
 fn join3(a: u8, b: u8, c: u8) -> u32 {
@@ -24,40 +27,34 @@ fn join3(a: u8, b: u8, c: u8) -> u32 {
 }
 
 // Writes bytes to standard output.
-fn print(text: &[u8]) {
-    io::write_all(STDOUT_FILENO, text);
+fn print(rt: &impl Print, text: &[u8]) -> io::Result<()> {
+    rt.write_all(text)
 }
 
 // Writes how many more `count` is than `before`, with a sign only if it is fewer.
-fn print_change(count: usize, before: usize) {
+fn print_change(rt: &impl Print, count: usize, before: usize) -> io::Result<()> {
     if count < before {
-        print(b"-");
-        io::print_decimal(STDOUT_FILENO, (before - count) as u64);
+        print!(rt; "-{}", before - count)
     } else {
-        io::print_decimal(STDOUT_FILENO, (count - before) as u64);
+        print!(rt; "{}", count - before)
     }
 }
 
 // Writes a refusal.
-fn print_refused(number: u8, index: usize) {
-    print(b"refused ");
-    io::print_decimal(STDOUT_FILENO, number as u64);
-    print(b" at ");
-    io::print_decimal(STDOUT_FILENO, index as u64);
+fn print_refused(rt: &impl Print, number: u8, index: usize) -> io::Result<()> {
+    print!(rt; "refused {number} at {index}")
 }
 
 // Writes an answer for a table of so many records as a line. Its change is had from the two counts, whose difference it is by contract.
-fn print_answer(answer: Rewritten, before: usize) {
+fn print_answer(rt: &impl Print, answer: Rewritten, before: usize) -> io::Result<()> {
     match answer {
         Rewritten::Records { count, change } => {
-            print(b"records ");
-            io::print_decimal(STDOUT_FILENO, count as u64);
-            print(b" change ");
-            print_change(count, before);
+            print!(rt; "records {count} change ")?;
+            print_change(rt, count, before)?;
         }
-        Rewritten::Refused { number, index } => print_refused(number, index),
+        Rewritten::Refused { number, index } => print_refused(rt, number, index)?,
     }
-    print(b"\n");
+    print(rt, b"\n")
 }
 
 // Rewrites the table so many times and once more, and says the last answer.
@@ -193,16 +190,13 @@ fn repeat_list(more: u32, table: &[u8], output: &mut [u8]) -> Listed {
 }
 
 // The same in an output of its own, and the last answer as a line.
-fn run_list(more: u32, table: &[u8]) {
+fn run_list(rt: &impl Print, more: u32, table: &[u8]) -> io::Result<()> {
     let mut output = [0u8; 180224];
     match repeat_list(more, table, &mut output) {
-        Listed::Records(count) => {
-            print(b"unrouted ");
-            io::print_decimal(STDOUT_FILENO, count as u64);
-        }
-        Listed::Refused { number, index } => print_refused(number, index),
+        Listed::Records(count) => print!(rt; "unrouted {count}")?,
+        Listed::Refused { number, index } => print_refused(rt, number, index)?,
     }
-    print(b"\n");
+    print(rt, b"\n")
 }
 
 // The work room. Made by a call, it is to the caller an array of that length and no list of that many zeros. Compiled without optimisation,
@@ -212,17 +206,22 @@ fn room() -> [u32; 824480] {
 }
 
 // Runs what the header asks for on a table, in rooms of its own.
-fn run(times: u32, mode: u8, default: u8, asked: u32, table: &[u8]) {
+fn run(
+    rt: &impl Print,
+    times: u32,
+    mode: u8,
+    default: u8,
+    asked: u32,
+    table: &[u8],
+) -> io::Result<()> {
     let mut output = [0u8; 8200];
     let mut work = room();
     let ranks = [0u16; 0];
     if times == 0 {
-        print(b"not run\n");
-        return;
+        return print(rt, b"not run\n");
     }
     if mode == 0 {
-        run_list(times - 1, table);
-        return;
+        return run_list(rt, times - 1, table);
     }
     if 128 <= mode {
         let answer = repeat_plain(
@@ -233,8 +232,7 @@ fn run(times: u32, mode: u8, default: u8, asked: u32, table: &[u8]) {
             &ranks,
             &mut output,
         );
-        print_answer(answer, table.len() / 8);
-        return;
+        return print_answer(rt, answer, table.len() / 8);
     }
     let answer = repeat_in(
         times - 1,
@@ -246,15 +244,16 @@ fn run(times: u32, mode: u8, default: u8, asked: u32, table: &[u8]) {
         asked,
         &mut work,
     );
-    print_answer(answer, table.len() / 8);
+    print_answer(rt, answer, table.len() / 8)
 }
 
-fn main() {
+fn main(rt: HostRuntime) -> io::Result<()> {
+    let mut input = rt.stdin();
     let mut head = [0u8; 8];
     let mut table = [0u8; 8200];
-    io::read_full(STDIN_FILENO, &mut head);
-    let size = io::read_full(STDIN_FILENO, &mut table);
+    read_full(&mut input, &mut head)?;
+    let size = read_full(&mut input, &mut table)?;
     let times = join3(head[0], head[1], head[2]);
     let words = join3(head[5], head[6], head[7]);
-    run(times, head[3], head[4], words, &table[..size]);
+    run(&rt, times, head[3], head[4], words, &table[..size])
 }

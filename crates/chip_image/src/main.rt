@@ -1,12 +1,15 @@
 // Reads a map's table from standard input, at most 8,200 bytes of it, masks its host bits, and writes its slot image, 8,192 bytes, to standard output; or the
 // refusal as a line to standard error, and nothing else. It is run on examples/yard.table.
 
+#![tactic(auto)]
+
 ghost use Rattle.std.specs.Prelude.{◌≤◌, length};
 ghost use Rattle.chip_image.specs.Written.{Answered};
 
 use chip::Loaded;
-use libc::{STDERR_FILENO, STDIN_FILENO, STDOUT_FILENO};
 use records::Form;
+use std::io;
+use streams::read_full;
 use text::put_refused;
 
 // How many bytes go to standard output, and how many to standard error.
@@ -40,14 +43,14 @@ fn answer(table: &[u8], image: &mut [u8; 8192], line: &mut [u8]) -> Written
     }
 }
 
-fn main() {
+fn main(rt: HostRuntime) -> io::Result<()> {
     let mut table = [0u8; 8200];
     let mut image = [0u8; 8192];
     let mut line = [0u8; 36];
-    let size = io::read_full(STDIN_FILENO, &mut table);
+    let size = read_full(&mut rt.stdin(), &mut table)?;
     let written = answer(&table[..size], &mut image, &mut line);
     let shown = written.shown;
     let said = written.said;
-    io::write_all(STDOUT_FILENO, &image[..shown]);
-    io::write_all(STDERR_FILENO, &line[..said]);
+    rt.write_all(&image[..shown])?;
+    rt.stderr().write_all(&line[..said])
 }

@@ -1,12 +1,14 @@
 // Prints the fold card (words, src/card.rt) to be hung up: in the box of a byte stand its fold as a hex digit and, below, the fold's four bits;
 // the high half of the byte goes down, the low half across. Then two lines on its use, and an example that is read from the card.
+#![tactic(auto)]
+
 ghost use Rattle.std.specs.Prelude.{◌≡◌, ◌+◌, ◌*◌, ◌≤◌, ◌<◌, length};
 ghost use Rattle.words.specs.Bits.{bit};
 ghost use Rattle.words.specs.Card.{Card};
 ghost use Rattle.text.specs.Text.{Put};
 ghost use Rattle.fold_card.specs.Shown.{hex_digit, bit_digit, box_line, boxes, row_text, hex_byte};
 
-use libc::STDOUT_FILENO;
+use std::io;
 use text::put_bytes;
 use words::bits::has_bit;
 use words::card::fold_card;
@@ -94,88 +96,91 @@ fn hex_byte(b: u8) -> [u8; 3]
 }
 
 // Writes bytes to standard output.
-fn print(bytes: &[u8]) {
-    io::write_all(STDOUT_FILENO, bytes);
+fn print(rt: &impl Print, bytes: &[u8]) -> io::Result<()> {
+    rt.write_all(bytes)
 }
 
 // Prints a row and the line below it.
-fn print_row(card: &[u8], high: usize)
+fn print_row(rt: &impl Print, card: &[u8], high: usize) -> io::Result<()>
     requires card { Card card.now }
     requires high_bound { high < 16 }
 {
     let mut out = [0u8; 234];
     let end = put_row(card, high, 0, &mut out);
-    print(&out[..end]);
-    print(&RULE);
+    print(rt, &out[..end])?;
+    print(rt, &RULE)
 }
 
 // Prints all rows.
-fn print_rows(card: &[u8])
+fn print_rows(rt: &impl Print, card: &[u8]) -> io::Result<()>
     requires { Card card.now }
 {
-    let mut high: usize = 0;
-    while high < 16 {
-        print_row(card, high);
-        high += 1;
+    for high in 0..16 {
+        print_row(rt, card, high)?;
     }
+    Ok(())
 }
 
 // Prints the bytes of a word.
-fn print_word(x: u32) {
-    print(&hex_byte((x >> 24) as u8));
-    print(&hex_byte(((x >> 16) % 256) as u8));
-    print(&hex_byte(((x >> 8) % 256) as u8));
-    print(&hex_byte((x % 256) as u8));
+fn print_word(rt: &impl Print, x: u32) -> io::Result<()> {
+    print(rt, &hex_byte((x >> 24) as u8))?;
+    print(rt, &hex_byte(((x >> 16) % 256) as u8))?;
+    print(rt, &hex_byte(((x >> 8) % 256) as u8))?;
+    print(rt, &hex_byte((x % 256) as u8))
 }
 
 // Prints the digit of a byte's fold behind a space.
-fn print_fold(card: &[u8], b: u8)
+fn print_fold(rt: &impl Print, card: &[u8], b: u8) -> io::Result<()>
     requires { Card card.now }
 {
-    print(&[32, hex_digit(card[b as usize])]);
+    print(rt, &[32, hex_digit(card[b as usize])])
 }
 
 // Prints what the card says of a word of slots, and what fold_children makes of it.
-fn print_example(card: &[u8], slots: u32)
+fn print_example(rt: &impl Print, card: &[u8], slots: u32) -> io::Result<()>
     requires { Card card.now }
 {
-    print(b"Example: the slots");
-    print_word(slots);
-    print(b" have the folds");
-    print_fold(card, (slots >> 24) as u8);
-    print_fold(card, ((slots >> 16) % 256) as u8);
-    print_fold(card, ((slots >> 8) % 256) as u8);
-    print_fold(card, (slots % 256) as u8);
-    print(b", which as a word of positions are");
-    print_word(fold_children(slots));
-    print(b".\n");
+    print(rt, b"Example: the slots")?;
+    print_word(rt, slots)?;
+    print(rt, b" have the folds")?;
+    print_fold(rt, card, (slots >> 24) as u8)?;
+    print_fold(rt, card, ((slots >> 16) % 256) as u8)?;
+    print_fold(rt, card, ((slots >> 8) % 256) as u8)?;
+    print_fold(rt, card, (slots % 256) as u8)?;
+    print(rt, b", which as a word of positions are")?;
+    print_word(rt, fold_children(slots))?;
+    print(rt, b".\n")
 }
 
 // Prints the rule of a fold and the low halves.
-fn print_heading() {
+fn print_heading(rt: &impl Print) -> io::Result<()> {
     print(
+        rt,
         b"The fold of each byte of child slots. Bit k of a fold is set exactly when bits 2k and 2k + 1 of the byte are.\n\n",
-    );
+    )?;
     print(
+        rt,
         b"       0      1      2      3      4      5      6      7      8      9      A      B      C      D      E      F\n",
-    );
-    print(&RULE);
+    )?;
+    print(rt, &RULE)
 }
 
 // Prints how to fold a word.
-fn print_use() {
+fn print_use(rt: &impl Print) -> io::Result<()> {
     print(
+        rt,
         b"\nWrite the word of 32 slots in hex, slot 31 first: four bytes. Find the box of each: high half left, low half top.\n",
-    );
+    )?;
     print(
+        rt,
         b"The four digits in that order are level 4: bit j, position 15 + j, is set exactly when slots 2j and 2j + 1 are.\n",
-    );
+    )
 }
 
-fn main() {
+fn main(rt: HostRuntime) -> io::Result<()> {
     let card = fold_card();
-    print_heading();
-    print_rows(&card);
-    print_use();
-    print_example(&card, 0xFC03_3CF1);
+    print_heading(&rt)?;
+    print_rows(&rt, &card)?;
+    print_use(&rt)?;
+    print_example(&rt, &card, 0xFC03_3CF1)
 }

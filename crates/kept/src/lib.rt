@@ -1,6 +1,8 @@
 // What the program replay does around the calls (docs/CASES.md): what a case says in its first bytes, and a buffer in which the text of answers is kept
 // until there is much of it. What reading and writing do is not said by a contract.
 
+#![tactic(auto)]
+
 pub mod counted;
 pub mod ranks;
 
@@ -9,9 +11,10 @@ ghost use Rattle.rooms.specs.Rooms.{all_are};
 ghost use Rattle.text.specs.Text.{Put};
 ghost use Rattle.kept.specs.Kept.{call_by, is_long, form_by, address_of, begin_of};
 
-use libc::STDOUT_FILENO;
 use records::sized::oct_at;
 use records::{Form, join4};
+use std::io::Stdout;
+use streams::outlet::Outlet;
 use text::put_bytes;
 
 // What stands in the rooms before a call: no byte and no word of it is zero.
@@ -99,14 +102,14 @@ pub fn steps_behind(head: &[u8; 16]) -> usize
 }
 
 // Writes the kept text.
-pub fn send(kept: &[u8], at: usize)
+pub fn send(outlet: &mut Outlet<Stdout>, kept: &[u8], at: usize)
     requires { at ≤ length kept.now }
 {
-    io::write_all(STDOUT_FILENO, &kept[..at]);
+    outlet.send(&kept[..at]);
 }
 
 // Room for the text of an answer with at most 65,535 bytes of records, three for each and 36 more: once there is less, the kept text is written.
-pub fn room_for(kept: &[u8], at: usize) -> usize
+pub fn room_for(outlet: &mut Outlet<Stdout>, kept: &[u8], at: usize) -> usize
     requires at_in_bounds { at ≤ length kept.now }
     requires in_bounds { 262144 ≤ length kept.now }
     ensures value { result ≡ begin_of at }
@@ -115,29 +118,29 @@ pub fn room_for(kept: &[u8], at: usize) -> usize
     if at <= 65503 {
         return at;
     }
-    send(kept, at);
+    send(outlet, kept, at);
     0
 }
 
 // Keeps a line.
-pub fn keep_line(line: &[u8], at: usize, kept: &mut [u8]) -> usize
+pub fn keep_line(outlet: &mut Outlet<Stdout>, line: &[u8], at: usize, kept: &mut [u8]) -> usize
     requires line_len_bound { length line.now ≤ 20 }
     requires at_in_bounds { at ≤ length kept.old }
     requires in_bounds { 262144 ≤ length kept.old }
     ensures { Put line.now (begin_of at) result kept.old kept.new }
 {
-    let begin = room_for(kept, at);
+    let begin = room_for(outlet, kept, at);
     put_bytes(line, begin, kept)
 }
 
 // Keeps the line that ends a run.
-pub fn last_line(line: &[u8], at: usize, kept: &mut [u8]) -> Turn
+pub fn last_line(outlet: &mut Outlet<Stdout>, line: &[u8], at: usize, kept: &mut [u8]) -> Turn
     requires line_len_bound { length line.now ≤ 20 }
     requires at_in_bounds { at ≤ length kept.old }
     requires in_bounds { 262144 ≤ length kept.old }
     ensures { Put line.now (begin_of at) result.at kept.old kept.new }
 {
-    let end = keep_line(line, at, kept);
+    let end = keep_line(outlet, line, at, kept);
     Turn {
         at: end,
         more: false,
@@ -145,7 +148,7 @@ pub fn last_line(line: &[u8], at: usize, kept: &mut [u8]) -> Turn
 }
 
 // Keeps `work not zero`, if a word of the room is not.
-pub fn keep_work(work: &[u32], at: usize, kept: &mut [u8]) -> usize
+pub fn keep_work(outlet: &mut Outlet<Stdout>, work: &[u32], at: usize, kept: &mut [u8]) -> usize
     requires at_in_bounds { at ≤ length kept.old }
     requires in_bounds { 262144 ≤ length kept.old }
     ensures { all_are 0 work.now ≡ true → (result ≡ at) × (kept.new ≡ kept.old) }
@@ -153,11 +156,17 @@ pub fn keep_work(work: &[u32], at: usize, kept: &mut [u8]) -> usize
     if rooms::words::are(work, 0, 0) {
         return at;
     }
-    keep_line(b"work not zero\n", at, kept)
+    keep_line(outlet, b"work not zero\n", at, kept)
 }
 
 // Keeps `output touched`, if a byte of the output from a place on is not as it was filled.
-pub fn keep_output(output: &[u8], from: usize, at: usize, kept: &mut [u8]) -> usize
+pub fn keep_output(
+    outlet: &mut Outlet<Stdout>,
+    output: &[u8],
+    from: usize,
+    at: usize,
+    kept: &mut [u8],
+) -> usize
     requires at_in_bounds { at ≤ length kept.old }
     requires in_bounds { 262144 ≤ length kept.old }
     ensures { all_are 165 (drop from output.now) ≡ true → (result ≡ at) × (kept.new ≡ kept.old) }
@@ -165,5 +174,5 @@ pub fn keep_output(output: &[u8], from: usize, at: usize, kept: &mut [u8]) -> us
     if rooms::bytes::are(output, from, FILLED_BYTE) {
         return at;
     }
-    keep_line(b"output touched\n", at, kept)
+    keep_line(outlet, b"output touched\n", at, kept)
 }

@@ -1,9 +1,11 @@
 // The ranks that a case lends: whether it does, how they are read, and their bytes as numbers.
 
-ghost use Rattle.std.specs.Prelude.{◌≡◌, ◌≤◌, length};
+ghost use Rattle.std.specs.Prelude.{◌≡◌, ◌≤◌, length, IfOk};
 ghost use Rattle.kept.specs.Kept.{lends_ranks};
 
-use libc::STDIN_FILENO;
+use std::io;
+use std::io::Read;
+use streams::read_full;
 
 // Does a case with this first byte lend ranks?
 pub fn lends_ranks(first: u8) -> bool
@@ -20,22 +22,22 @@ fn how_many(count: u8) -> usize
 }
 
 // Reads the ranks of a case with this first byte, none where it lends none, and says how many they are; 256 where they are cut short.
-pub fn read_ranks(first: u8, bytes: &mut [u8]) -> usize
+pub fn read_ranks(input: &mut impl Read, first: u8, bytes: &mut [u8]) -> io::Result<usize>
     requires { 255 ≡ length bytes.old }
-    ensures { result ≤ 256 }
+    ensures { IfOk result (λ lent. lent ≤ 256) }
 {
     if !lends_ranks(first) {
-        return 0;
+        return Ok(0);
     }
     let mut count = [0u8; 1];
-    if io::read_full(STDIN_FILENO, &mut count) < 1 {
-        return 256;
+    if read_full(input, &mut count)? < 1 {
+        return Ok(256);
     }
     let size = how_many(count[0]);
-    if io::read_full(STDIN_FILENO, &mut bytes[..size]) < size {
-        return 256;
+    if read_full(input, &mut bytes[..size])? < size {
+        return Ok(256);
     }
-    size
+    Ok(size)
 }
 
 // Each byte as a rank.

@@ -1,8 +1,12 @@
 // Reads 32-bit words from standard input to its end, and writes for each the ten results of the folds and pushes: fold_children, fold_l4 to
 // fold_l1, push_l0 to push_l4. Words are four bytes, most significant first; one that the input breaks off in is passed over.
+#![tactic(auto)]
+
 ghost use Rattle.std.specs.Prelude.{◌≡◌, length, ◌+◌, ◌*◌, ◌≤◌, ◌<◌};
 
-use libc::{STDIN_FILENO, STDOUT_FILENO};
+use std::io;
+use std::io::Read;
+use streams::read_full;
 use words::ladder::{
     fold_children, fold_l1, fold_l2, fold_l3, fold_l4, push_l0, push_l1, push_l2, push_l3, push_l4,
 };
@@ -76,26 +80,30 @@ fn answers(room: &[u8; 4096], n: usize, out: &mut [u8])
 }
 
 // Writes the first n bytes of `out`.
-fn send(out: &[u8], n: usize) -> bool
+fn send(rt: &impl Print, out: &[u8], n: usize) -> io::Result<()>
     requires { n ≤ length out.now }
 {
-    io::write_all(STDOUT_FILENO, &out[..n])
+    rt.write_all(&out[..n])
 }
 
 // Answers the next words, at most 1,024. Is there more to read?
-fn turn() -> bool {
+fn turn(rt: &impl Print, input: &mut impl Read) -> io::Result<bool> {
     let mut room = [0u8; 4096];
     let mut out = [0u8; 40960];
-    let got = io::read_full(STDIN_FILENO, &mut room);
+    let got = read_full(input, &mut room)?;
     let n = got / 4;
     answers(&room, n, &mut out);
-    send(&out, n * 40) && got == 4096
+    send(rt, &out, n * 40)?;
+    Ok(got == 4096)
 }
 
-// A proved loop has to end, so the turns are counted down from a number that no input uses up.
-fn main() {
-    let mut turns = u64::MAX;
-    while turns > 0 && turn() {
-        turns -= 1;
+// A proved loop has to end, so the turns are counted up to a number that no input uses up.
+fn main(rt: HostRuntime) -> io::Result<()> {
+    let mut input = rt.stdin();
+    for _ in 0..u64::MAX {
+        if !turn(&rt, &mut input)? {
+            break;
+        }
     }
+    Ok(())
 }

@@ -1,4 +1,5 @@
 // The commands of a case with call 10, the live map (docs/CASES.md): each is carried out on one room, and the line that tells its answer is put.
+#![tactic(auto)]
 
 mod copies;
 mod lines;

@@ -1,13 +1,17 @@
 // What the programs share: a table rewritten in a mode, and the result's records and the change as text, or the refusal; and the programs of a mode, which
 // read the table from standard input and mask its host bits: document 01's, and those for records of 16 bytes.
 
-ghost use Rattle.std.specs.Prelude.{◌+◌, ◌*◌, ◌≤◌, length};
+#![tactic(auto)]
+
+ghost use Rattle.std.specs.Prelude.{◌+◌, ◌*◌, ◌≤◌, length, IfOk};
 ghost use Rattle.records.specs.Forms.{size_of};
 ghost use Rattle.text.specs.Text.{Put};
 ghost use Rattle.program.specs.Printed.{printed, printed_in};
 
-use libc::{STDIN_FILENO, STDOUT_FILENO};
 use records::{Form, size_of};
+use std::io;
+use std::io::Read;
+use streams::read_full;
 use text::answers::put_rewritten;
 
 // Lays what is printed for a table into the buffer, from its start, and says where it ends. The output and the room are lent, and no ranks.
@@ -88,19 +92,19 @@ fn most(long: bool) -> usize
 }
 
 // Reads a table, at most 1,025 records of it, and says how many bytes it has.
-fn read_table(table: &mut [u8], long: bool) -> usize
+fn read_table(input: &mut impl Read, table: &mut [u8], long: bool) -> io::Result<usize>
     requires { 16400 ≤ length table.old }
-    ensures { result ≤ 16400 }
+    ensures { IfOk result (λ size. size ≤ 16400) }
 {
     let room = most(long);
-    io::read_full(STDIN_FILENO, &mut table[..room])
+    read_full(input, &mut table[..room])
 }
 
 // Reads a table and prints the answer in the mode.
-pub fn run(long: bool, mode: u32) {
+pub fn run(rt: &impl Print, input: &mut impl Read, long: bool, mode: u32) -> io::Result<()> {
     let mut table = [0u8; 16400];
     let mut out = [0u8; 49236];
-    let size = read_table(&mut table, long);
+    let size = read_table(input, &mut table, long)?;
     let end = answer(&table[..size], long, mode, &mut out);
-    io::write_all(STDOUT_FILENO, &out[..end]);
+    rt.write_all(&out[..end])
 }

@@ -1,6 +1,8 @@
 // The cases of the calls that take tables of both sizes, and of addresses held: each call is made on what the case lends it, and the text of its answer is
 // kept. The rooms are filled before a call and looked at after it: by the calls' statements no line about them is ever kept.
 
+#![tactic(auto)]
+
 ghost use Rattle.std.specs.Prelude.{◌≡◌, ◌+◌, ◌*◌, ◌≤◌, length};
 ghost use Rattle.calls.specs.Rewriting.{count_of};
 ghost use Rattle.holes.specs.Listing.{listed_count};
@@ -17,6 +19,8 @@ use kept::{
 };
 use lookup::{addresses_held, lookup};
 use records::{Form, join4, size_of};
+use std::io::Stdout;
+use streams::outlet::Outlet;
 use text::answers::{put_covers, put_held, put_listed, put_lookup, put_rewritten};
 
 // The bytes of the output that an answer's records take.
@@ -32,6 +36,7 @@ fn written(answer: Rewritten, size: usize) -> usize
 
 // Keeps the answer of a rewrite.
 fn keep_rewritten(
+    outlet: &mut Outlet<Stdout>,
     mode: u8,
     default: u8,
     table: &[u8],
@@ -59,14 +64,15 @@ fn keep_rewritten(
         output,
         work,
     );
-    let begin = room_for(kept, at);
+    let begin = room_for(outlet, kept, at);
     let end = put_rewritten(answer, output, size, true, 1 < mode, begin, kept);
-    let after = keep_work(work, end, kept);
-    keep_output(output, written(answer, size), after, kept)
+    let after = keep_work(outlet, work, end, kept);
+    keep_output(outlet, output, written(answer, size), after, kept)
 }
 
 // Keeps the answer of a rewrite by the plain engine.
 fn keep_plain(
+    outlet: &mut Outlet<Stdout>,
     mode: u8,
     default: u8,
     table: &[u8],
@@ -84,13 +90,14 @@ fn keep_plain(
     let size = size_of(form);
     rooms::bytes::fill(output, FILLED_BYTE);
     let answer = plain::rewrite(table, form, mode as u32, default as u32, ranks, output);
-    let begin = room_for(kept, at);
+    let begin = room_for(outlet, kept, at);
     let end = put_rewritten(answer, output, size, true, 1 < mode, begin, kept);
-    keep_output(output, written(answer, size), end, kept)
+    keep_output(outlet, output, written(answer, size), end, kept)
 }
 
 // Keeps the answer of a case with call 5, which is lent as much of the output as it says.
 pub fn plain_turn(
+    outlet: &mut Outlet<Stdout>,
     head: &[u8; 16],
     table: &[u8],
     ranks: &[u16],
@@ -105,6 +112,7 @@ pub fn plain_turn(
 {
     let room = join2(head[12], head[13]);
     keep_plain(
+        outlet,
         head[1],
         head[2],
         table,
@@ -118,6 +126,7 @@ pub fn plain_turn(
 
 // Keeps the answer of the cover query.
 fn keep_covers(
+    outlet: &mut Outlet<Stdout>,
     address: u64,
     len: u8,
     table: &[u8],
@@ -132,28 +141,41 @@ fn keep_covers(
 {
     rooms::words::fill(work, FILLED_WORD);
     let answer = covers(table, form, address, len as u32, work);
-    let begin = room_for(kept, at);
+    let begin = room_for(outlet, kept, at);
     let end = put_covers(answer, begin, kept);
-    keep_work(work, end, kept)
+    keep_work(outlet, work, end, kept)
 }
 
 // Keeps the answer of a lookup.
-fn keep_lookup(address: u64, table: &[u8], form: Form, at: usize, kept: &mut [u8]) -> usize
+fn keep_lookup(
+    outlet: &mut Outlet<Stdout>,
+    address: u64,
+    table: &[u8],
+    form: Form,
+    at: usize,
+    kept: &mut [u8],
+) -> usize
     requires at_in_bounds { at ≤ length kept.old }
     requires in_bounds { 262144 ≤ length kept.old }
     ensures { Put (lookup_answer form table.now address) (begin_of at) result kept.old kept.new }
 {
-    let begin = room_for(kept, at);
+    let begin = room_for(outlet, kept, at);
     put_lookup(lookup(table, form, address), begin, kept)
 }
 
 // Keeps the answer of addresses held.
-fn keep_held(table: &[u8], form: Form, at: usize, kept: &mut [u8]) -> usize
+fn keep_held(
+    outlet: &mut Outlet<Stdout>,
+    table: &[u8],
+    form: Form,
+    at: usize,
+    kept: &mut [u8],
+) -> usize
     requires at_in_bounds { at ≤ length kept.old }
     requires in_bounds { 262144 ≤ length kept.old }
     ensures { Put (held_answer form table.now) (begin_of at) result kept.old kept.new }
 {
-    let begin = room_for(kept, at);
+    let begin = room_for(outlet, kept, at);
     put_held(addresses_held(table, form), begin, kept)
 }
 
@@ -169,7 +191,13 @@ fn listed(answer: Listed, size: usize) -> usize
 }
 
 // The text of a list of what has no route, from the start of a text of its own: three bytes for each of the output, and 36.
-pub fn list_text(table: &[u8], form: Form, output: &mut [u8], text: &mut [u8]) -> usize
+pub fn list_text(
+    outlet: &mut Outlet<Stdout>,
+    table: &[u8],
+    form: Form,
+    output: &mut [u8],
+    text: &mut [u8],
+) -> usize
     requires output_len_bound { length output.old ≤ 1048576 }
     requires in_bounds { 3145764 ≤ length text.old }
     ensures { Put (list_answer form table.now (length output.old)) 0 result text.old text.new }
@@ -178,11 +206,12 @@ pub fn list_text(table: &[u8], form: Form, output: &mut [u8], text: &mut [u8]) -
     rooms::bytes::fill(output, FILLED_BYTE);
     let answer = unrouted(table, form, output);
     let end = put_listed(answer, output, size, true, true, 0, text);
-    keep_output(output, listed(answer, size), end, text)
+    keep_output(outlet, output, listed(answer, size), end, text)
 }
 
 // Keeps the answer of a case with call 0 to 3: its first 16 bytes, the query, its table, and the rooms of which it is lent as much as it says.
 pub fn keep_answer(
+    outlet: &mut Outlet<Stdout>,
     head: &[u8; 16],
     query: &[u8],
     table: &[u8],
@@ -205,6 +234,7 @@ pub fn keep_answer(
     if call == 0 {
         let room = join2(head[12], head[13]);
         return keep_rewritten(
+            outlet,
             head[1],
             head[2],
             table,
@@ -218,10 +248,19 @@ pub fn keep_answer(
     }
     let address = address_of(head, query);
     if call == 1 {
-        return keep_covers(address, head[3], table, form, &mut work[..words], at, kept);
+        return keep_covers(
+            outlet,
+            address,
+            head[3],
+            table,
+            form,
+            &mut work[..words],
+            at,
+            kept,
+        );
     }
     if call == 2 {
-        return keep_lookup(address, table, form, at, kept);
+        return keep_lookup(outlet, address, table, form, at, kept);
     }
-    keep_held(table, form, at, kept)
+    keep_held(outlet, table, form, at, kept)
 }

@@ -11,6 +11,8 @@ use chip::Loaded;
 use kept::counted::put_counted;
 use kept::{FILLED_BYTE, form_of, join2, keep_line, room_for};
 use records::Form;
+use std::io::Stdout;
+use streams::outlet::Outlet;
 use text::{put_records, put_refused};
 
 // The lines of an image's first slots, and how many they are.
@@ -38,6 +40,7 @@ fn put_loaded(answer: Loaded, image: &[u8], at: usize, out: &mut [u8]) -> usize
 
 // Keeps a line, if a byte of the image from a place on is not the value.
 fn keep_unless(
+    outlet: &mut Outlet<Stdout>,
     image: &[u8],
     from: usize,
     value: u8,
@@ -53,39 +56,55 @@ fn keep_unless(
     if rooms::bytes::are(image, from, value) {
         return at;
     }
-    keep_line(line, at, kept)
+    keep_line(outlet, line, at, kept)
 }
 
 // Keeps `slots not clear`, if after an answer a byte of an unused slot is not 255, and `image touched`, if after a refusal a byte is not as it was filled.
-fn keep_image(answer: Loaded, image: &[u8], at: usize, kept: &mut [u8]) -> usize
+fn keep_image(
+    outlet: &mut Outlet<Stdout>,
+    answer: Loaded,
+    image: &[u8],
+    at: usize,
+    kept: &mut [u8],
+) -> usize
     requires answer_bound { used_of answer ≤ 1024 }
     requires at_in_bounds { at ≤ length kept.old }
     requires in_bounds { 262144 ≤ length kept.old }
     ensures { is_as_said answer image.now ≡ true → (result ≡ at) × (kept.new ≡ kept.old) }
 {
     match answer {
-        Loaded::Slots(used) => { keep_unless(image, 8 * used, 255, b"slots not clear\n", at, kept) }
+        Loaded::Slots(used) => {
+            keep_unless(outlet, image, 8 * used, 255, b"slots not clear\n", at, kept)
+        }
         Loaded::Refused { .. } => {
-            keep_unless(image, 0, FILLED_BYTE, b"image touched\n", at, kept)
+            keep_unless(outlet, image, 0, FILLED_BYTE, b"image touched\n", at, kept)
         }
     }
 }
 
 // Keeps the answer of the chip loader.
-fn keep_chip(table: &[u8], form: Form, image: &mut [u8], at: usize, kept: &mut [u8]) -> usize
+fn keep_chip(
+    outlet: &mut Outlet<Stdout>,
+    table: &[u8],
+    form: Form,
+    image: &mut [u8],
+    at: usize,
+    kept: &mut [u8],
+) -> usize
     requires at_in_bounds { at ≤ length kept.old }
     requires in_bounds { 262144 ≤ length kept.old }
     ensures { Put (chip_answer form table.now (length image.old)) (begin_of at) result kept.old kept.new }
 {
     rooms::bytes::fill(image, FILLED_BYTE);
     let answer = chip::load(table, form, image);
-    let begin = room_for(kept, at);
+    let begin = room_for(outlet, kept, at);
     let end = put_loaded(answer, image, begin, kept);
-    keep_image(answer, image, end, kept)
+    keep_image(outlet, answer, image, end, kept)
 }
 
 // Keeps the answer of a case with call 6, which is lent as much of the output as it says as its image.
 pub fn chip_turn(
+    outlet: &mut Outlet<Stdout>,
     head: &[u8; 16],
     table: &[u8],
     output: &mut [u8],
@@ -98,5 +117,12 @@ pub fn chip_turn(
     ensures { Put (chip_case head.now table.now) (begin_of at) result kept.old kept.new }
 {
     let size = join2(head[12], head[13]);
-    keep_chip(table, form_of(head[0]), &mut output[..size], at, kept)
+    keep_chip(
+        outlet,
+        table,
+        form_of(head[0]),
+        &mut output[..size],
+        at,
+        kept,
+    )
 }

@@ -9,6 +9,8 @@ use kept::counted::put_counted;
 use kept::{form_of, room_for};
 use records::{Form, join4};
 use special::{Special, special_use};
+use std::io::Stdout;
+use streams::outlet::Outlet;
 use text::{put_bytes, put_refused};
 
 // The text of an answer.
@@ -24,21 +26,34 @@ fn put_special(answer: Special, at: usize, out: &mut [u8]) -> usize
 }
 
 // Keeps the answer of special use.
-fn keep_special(edition: u32, table: &[u8], form: Form, at: usize, kept: &mut [u8]) -> usize
+fn keep_special(
+    outlet: &mut Outlet<Stdout>,
+    edition: u32,
+    table: &[u8],
+    form: Form,
+    at: usize,
+    kept: &mut [u8],
+) -> usize
     requires at_in_bounds { at ≤ length kept.old }
     requires in_bounds { 262144 ≤ length kept.old }
     ensures { Put (special_answer form table.now edition) (begin_of at) result kept.old kept.new }
 {
-    let begin = room_for(kept, at);
+    let begin = room_for(outlet, kept, at);
     put_special(special_use(table, form, edition), begin, kept)
 }
 
 // Keeps the answer of a case with call 9.
-pub fn special_turn(head: &[u8; 16], table: &[u8], at: usize, kept: &mut [u8]) -> usize
+pub fn special_turn(
+    outlet: &mut Outlet<Stdout>,
+    head: &[u8; 16],
+    table: &[u8],
+    at: usize,
+    kept: &mut [u8],
+) -> usize
     requires at_in_bounds { at ≤ length kept.old }
     requires in_bounds { 262144 ≤ length kept.old }
     ensures { Put (special_case head.now table.now) (begin_of at) result kept.old kept.new }
 {
     let edition = join4(head[4], head[5], head[6], head[7]);
-    keep_special(edition, table, form_of(head[0]), at, kept)
+    keep_special(outlet, edition, table, form_of(head[0]), at, kept)
 }

@@ -1,15 +1,21 @@
 // The main job on every accepted table: `shrink MODE [DEFAULT]` reads a table from standard input and prints what document 01's programs print,
 // in a work room that is long enough for any. Its stored run has more nodes than the room of those.
-ghost use Rattle.std.specs.Prelude.{◌≡◌, ◌≤◌, length};
+#![tactic(auto)]
+
+ghost use Rattle.std.specs.Prelude.{◌≡◌, ◌≤◌, length, IfOk};
 ghost use Rattle.records.specs.Forms.{by_default};
 ghost use Rattle.text.specs.Text.{Put};
 ghost use Rattle.program.specs.Printed.{printed_in};
 ghost use Rattle.shrink.specs.Input.{judged};
 ghost use Rattle.shrink.specs.Words.{behind, word_number};
 
-use libc::{ENAMETOOLONG, STDIN_FILENO, STDOUT_FILENO};
 use program::answer_in;
 use records::Form;
+use std::env::FillError;
+use std::io;
+use std::io::Read;
+use std::rt::Env;
+use streams::read_full;
 
 // What stands for no number: neither a mode nor a hop.
 const NO_NUMBER: u32 = 4294967295;
@@ -46,35 +52,36 @@ fn word_number(word: &[u8]) -> u32
 }
 
 // The number of an argument. One that is left out is 0, as an empty one; one of more than 32 bytes is none.
-fn argument(i: usize) -> u32 {
+fn argument(rt: &impl Env, i: usize) -> u32 {
     let mut word = [0u8; 32];
-    let size = os::arg(i, &mut word);
-    if os::errno() == ENAMETOOLONG {
-        return NO_NUMBER;
+    match rt.arg(i, &mut word) {
+        Ok(size) => word_number(&word[..size]),
+        Err(FillError::NotPresent) => 0,
+        Err(FillError::TooLong) => NO_NUMBER,
     }
-    word_number(&word[..size])
 }
 
 // Reads some bytes more, and says how many.
-fn pass_over() -> u64
-    ensures { result ≤ 4096 }
+fn pass_over(input: &mut impl Read) -> io::Result<u64>
+    ensures { IfOk result (λ size. size ≤ 4096) }
 {
     let mut bytes = [0u8; 4096];
-    io::read_full(STDIN_FILENO, &mut bytes) as u64
+    Ok(read_full(input, &mut bytes)? as u64)
 }
 
 // Reads the rest of the input, and says how many bytes it had. The turns are more than any input takes.
-fn pass_over_all() -> u64
-    ensures { result ≤ 9223372036854775808 }
+fn pass_over_all(input: &mut impl Read) -> io::Result<u64>
+    ensures { IfOk result (λ size. size ≤ 9223372036854775808) }
 {
     let mut all: u64 = 0;
-    let mut turns: u64 = 2251799813685248;
-    while 0 < turns {
-        let size = pass_over();
+    for _ in 0..2251799813685248u64 {
+        let size = pass_over(input)?;
+        if size == 0 {
+            return Ok(all);
+        }
         all += size;
-        turns = if size == 0 { 0 } else { turns - 1 };
     }
-    all
+    Ok(all)
 }
 
 // How many bytes decide the answer, of an input of so many.
@@ -92,13 +99,13 @@ fn deciding(size: u64) -> usize
 }
 
 // The same, once the first of them are read, at most 8,200. If there may be more, the rest is read.
-fn kept(first: usize) -> usize
-    ensures { result ≤ 8200 }
+fn kept(first: usize, input: &mut impl Read) -> io::Result<usize>
+    ensures { IfOk result (λ size. size ≤ 8200) }
 {
     if first < 8200 {
-        return first;
+        return Ok(first);
     }
-    deciding(8200 + pass_over_all())
+    Ok(deciding(8200 + pass_over_all(input)?))
 }
 
 // Lays what is printed for a table into the buffer, from its start, and says where it ends. The room has 160 words for each of the 5,153 nodes
@@ -121,15 +128,18 @@ fn answer(table: &[u8], mode: u32, default: u32, work: &mut [u32; 824480], out: 
 }
 
 // Reads the input and prints the answer.
-fn run(work: &mut [u32; 824480]) {
+fn run(rt: &(impl Env + Print), input: &mut impl Read, work: &mut [u32; 824480]) -> io::Result<()> {
     let mut table = [0u8; 8200];
     let mut out = [0u8; 49236];
-    let size = kept(io::read_full(STDIN_FILENO, &mut table));
-    let end = answer(&table[..size], argument(1), argument(2), work, &mut out);
-    io::write_all(STDOUT_FILENO, &out[..end]);
+    let first = read_full(input, &mut table)?;
+    let size = kept(first, input)?;
+    let mode = argument(rt, 1);
+    let default = argument(rt, 2);
+    let end = answer(&table[..size], mode, default, work, &mut out);
+    rt.write_all(&out[..end])
 }
 
-fn main() {
+fn main(rt: HostRuntime) -> io::Result<()> {
     let mut work = [0u32; 824480];
-    run(&mut work);
+    run(&rt, &mut rt.stdin(), &mut work)
 }

@@ -1,5 +1,7 @@
 // The text of answers, as document 01's programs print it: laid into a lent buffer from a place on. Each function says where its text ends.
 
+#![tactic(auto)]
+
 pub mod answers;
 
 ghost use Rattle.std.specs.Prelude.{◌≡◌, [], ◌∷◌, ◌++◌, ◌+◌, ◌-◌, ◌*◌, ◌/◌, ◌^◌, ◌≤◌, ◌<◌, nat_abs, length};

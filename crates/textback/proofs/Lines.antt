@@ -2,7 +2,7 @@
 use mathlib.Core.Path.{◌≡◌, refl, sym, ap, subst, ◌∙◌}
 use mathlib.Core.Bool.{Bool, true, false, cond, ◌&&◌}
 use mathlib.Core.List.{List, [], ◌∷◌, ◌++◌, append_assoc, append-nil}
-use Prim.Native.Nat.{ℕ, suc, ◌+◌, ◌/◌, ◌%◌, ◌≤◌, ◌<◌}
+use Prim.Native.Nat.{ℕ, suc, ◌/◌, ◌%◌, ◌≤◌, ◌<◌}
 use native.Mathlib.Omega.{arith}
 use borrow.Author.Tests.{lt-ltb, le-leb, ne_eqb}
 use lib.Dec.{leb, eqb}
@@ -10,7 +10,7 @@ use lib.ListN.{length}
 use Rattle.theory.specs.Routes.{Route}
 use Rattle.records.specs.Wire.{join}
 use Rattle.text.specs.Text.{decimal, dotted, hop_end, address_in, line_in, line_of}
-use Rattle.tabletext.specs.Pieces.{is, up_to, behind, unblank, none, number, joined, address, is_default, prefix_address, prefix_length}
+use Rattle.tabletext.specs.Pieces.{is, up_to, behind, unblank, number, joined, address, is_default, prefix_address, prefix_length}
 use Rattle.tabletext.specs.Lines.{end_of_set, end_of_map, of_prefix, of_words, of_body, of_line, said}
 use Rattle.tabletext.specs.Reading.{marked, unmarked}
 use Rattle.tabletext.specs.declared.Said.TheVariants.{Record}

@@ -1,1 +1,3 @@
+#![tactic(auto)]
+
 // What is printed reads back. There is no code: definitions in specs/, laws in proofs/.

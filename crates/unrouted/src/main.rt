@@ -1,12 +1,16 @@
 // Reads a map's table from standard input, at most 1,025 records of it, and prints what has no route, a prefix a line, or the refusal. Records have 8
 // bytes, or 16 where the first argument is `64`, the bits of an address. Host bits are masked. It is run on examples/yard.table.
 
+#![tactic(auto)]
+
 ghost use Rattle.std.specs.Prelude.{◌+◌, ◌*◌, ◌≤◌, length};
 ghost use Rattle.text.specs.Text.{Put};
 ghost use Rattle.unrouted.specs.Printed.{printed, printed_in};
 
-use libc::{STDIN_FILENO, STDOUT_FILENO};
 use records::{Form, size_of};
+use std::io;
+use std::rt::Env;
+use streams::read_full;
 use text::answers::put_listed;
 
 // Lays what is printed for a table into the buffer, from its start, and says where it ends. The output is lent.
@@ -37,15 +41,12 @@ fn answer(table: &[u8], long: bool, out: &mut [u8]) -> usize
 }
 
 // Is the first argument `64`?
-fn is_long() -> bool {
+fn is_long(rt: &impl Env) -> bool {
     let mut word = [0u8; 4];
-    if os::arg(1, &mut word) != 2 {
-        return false;
+    match rt.arg(1, &mut word) {
+        Ok(2) => word[0] == 54 && word[1] == 52,
+        _ => false,
     }
-    if word[0] != 54 {
-        return false;
-    }
-    word[1] == 52
 }
 
 // How many bytes of a table count, of so many that were read.
@@ -58,11 +59,11 @@ fn kept(read: usize, long: bool) -> usize
     if read < 8200 { read } else { 8200 }
 }
 
-fn main() {
+fn main(rt: HostRuntime) -> io::Result<()> {
     let mut table = [0u8; 16400];
     let mut out = [0u8; 393252];
-    let long = is_long();
-    let size = kept(io::read_full(STDIN_FILENO, &mut table), long);
+    let long = is_long(&rt);
+    let size = kept(read_full(&mut rt.stdin(), &mut table)?, long);
     let end = answer(&table[..size], long, &mut out);
-    io::write_all(STDOUT_FILENO, &out[..end]);
+    rt.write_all(&out[..end])
 }

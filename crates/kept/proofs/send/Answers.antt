@@ -1,0 +1,1 @@
+-- `send` is safe and ends. Assumes nothing.

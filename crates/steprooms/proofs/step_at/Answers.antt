@@ -1,0 +1,9 @@
+-- `step_at` meets its contract: eight bytes are a step. Assumes nothing.
+use Rattle.steprooms.proofs.Filled.{step_made}
+use Rattle.steprooms.proofs.step_at.Goals as goal
+
+-- src/lib.rt:30:1
+pub returns : goal.returns
+returns c =
+    let args = c.args in
+    step_made args.bytes.now args.i c.raw_addr_at.result c.raw_addr_at.ensures

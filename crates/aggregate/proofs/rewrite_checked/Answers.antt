@@ -1,7 +1,6 @@
 -- `rewrite_checked` refuses an output without room for the result's records, which it counts only where the most that the mode makes might not
 -- fit, and else writes them. Assumes nothing.
 use Prim.Native.Nat.{◌/◌, ◌^◌, ◌≤◌, ◌<◌}
-use mathlib.Core.Logic.{⊎_elim}
 use mathlib.Core.Path.{◌∙◌}
 use native.Mathlib.Omega.{arith}
 use borrow.Author.Rules.{rules}
@@ -10,6 +9,7 @@ use Rattle.records.proofs.SizedReading.{size-some}
 use Rattle.calls.proofs.Ending.{change-fits, change_is, result-most, finished_refused, finished_written}
 use Rattle.aggregate.proofs.WalkLaws.{written_count, written-most, written-bytes, records-fit}
 use Rattle.aggregate.proofs.rewrite_checked.Goals as goal
+use Rattle.aggregate.proofs.rewrite_checked.Goals.{then-output-size+else-output-size-2, else-output-size}
 
 pub nonzero_div-output : goal.nonzero_div-output
 nonzero_div-output c = omega (arith, size-some _ c.requires.size.0)
@@ -41,16 +41,16 @@ returns c =
     let wrote = c.write-written.ensures in
     let count = written_count _ pre.size.0 _ _ _ _ pre.size.1.valid wrote in
     let room : c.write-written.result ≤ length c.args.output.now / c.args.size =
-    ⊎_elim
-    (λ w.
-    let dry = written_count _ pre.size.0 _ _ _ _ pre.size.1.valid w.3.ensures in
-    let long = w.5.left in
-    omega arith)
-    (λ w.
-    let most = result-most _ _ _ c.args.fill c.args.ranks.now pre.in_use pre.size.1 pre.before_value c.most_records.ensures in
-    let long = w.left in
-    omega arith)
-    c.if-output-size.branch in
+    elim c.if-output-size.branch [
+      | then-output-size+else-output-size-2 w ↦
+          let dry = written_count _ pre.size.0 _ _ _ _ pre.size.1.valid w.write-count.ensures in
+          let long = w.if-output-size-2.false in
+          omega arith
+      | else-output-size w ↦
+          let most = result-most _ _ _ c.args.fill c.args.ranks.now pre.in_use pre.size.1 pre.before_value c.most_records.ensures in
+          let long = w.if-output-size.false in
+          omega arith
+    ] in
     finished_written _ pre.size.0 _ _ _ _ _ count room
     (change_is c.write-written.result c.args.before few.0 few.1 ∙ rw pre.before_value)
     (written-bytes _ pre.size.0 _ _ _ _ pre.size.1.valid wrote (records-fit _ pre.size.0 _ _ room))

@@ -26,10 +26,10 @@ returns-then-mode-eq3 c =
 pub rewrite-root-requires : goal.rewrite-root-requires
 rewrite-root-requires c =
     let pre = c.requires in
-    (pre.size.1.node, ((omega arith, (fill_le pre.fills, omega arith)), pre.prepared.sets (omega arith)))
+    record { node = pre.size.1.node; inherited_le_no_hop = (omega arith, (fill_le pre.fills, omega arith)); stored = pre.prepared.sets (omega arith) }
 
 pub returns : goal.returns
 returns c =
     let a = c.args in
     let pre = c.requires in
-    rw (ortc_is (lowest a.ranks.now) a.size a.table.now a.fill (omega arith) pre.in_use.1 pre.fills) c.rewrite-root.ensures.1
+    rw (ortc_is (lowest a.ranks.now) a.size a.table.now a.fill (omega arith) pre.in_use.1 pre.fills) c.rewrite-root.ensures.wrote

@@ -1,4 +1,5 @@
 // The text of steps and of the checker's answer.
+#![tactic(auto)]
 
 ghost use Rattle.std.specs.Prelude.{◌++◌, ◌+◌, ◌*◌, ◌≤◌, length, take};
 ghost use Rattle.checking.specs.Passes.{puts};

@@ -1,5 +1,6 @@
 // Steps read from lines, and judged. A reader guesses a step for each line; the lines of the guessed steps are then written and compared with the text, so what is
 // judged are the steps whose lines the text is, whatever the guess.
+#![tactic(auto)]
 
 ghost use Rattle.std.specs.Prelude.{◌≡◌, ◌+◌, ◌≤◌, length, take};
 ghost use Rattle.text.specs.Text.{Put};

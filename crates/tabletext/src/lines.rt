@@ -31,6 +31,7 @@ fn end_of_set(addr: u32, len: u8, rest: &[u8]) -> Said
 }
 
 // A map's record, behind whose prefix this stands.
+#[tactic(auto, unfolding(crate::specs::Lines::end_of_map))]
 fn end_of_map(addr: u32, len: u8, rest: &[u8]) -> Said
     ensures { result ≡ end_of_map addr len rest.now }
 {
@@ -49,6 +50,7 @@ fn end_of_map(addr: u32, len: u8, rest: &[u8]) -> Said
 }
 
 // A record whose prefix has these parts, behind which this stands.
+#[tactic(auto, unfolding(crate::specs::Lines::of_prefix))]
 fn of_prefix(hops: bool, addr: u64, len: u32, rest: &[u8]) -> Said
     ensures { result ≡ of_prefix hops addr len rest.now }
 {

@@ -39,6 +39,7 @@ fn rest_of(set: u64) -> u64
 }
 
 // The hop of lowest rank of a set: without ranks the smallest, else the best as its hops are gone through.
+#[tactic(auto, using(crate::proofs::RankLaws::unranked_word))]
 pub fn lowest(set: u64, ranks: &[u16]) -> u8
     requires { 0 < set }
     ensures { ((s : List ℕ) → ShowsHops set s → result ≡ Rattle.theory.specs.Ranks.lowest ranks.now s) × (result < no_hop) }
@@ -56,6 +57,7 @@ pub fn lowest(set: u64, ranks: &[u16]) -> u8
 }
 
 // Are these ranks that may be lent: none, or each of the numbers 0 to 63 once? From the last to the first, with the set of those already seen.
+#[tactic(auto, using(crate::proofs::RankLaws::tests_high))]
 pub fn is_ranking(ranks: &[u16]) -> bool
     ensures { result ≡ is_ranking no_hop ranks.now }
 {

@@ -25,6 +25,7 @@ pub fn check_table(table: &[u8], form: Form, is_set: bool) -> Checked
 }
 
 // The same for records of this size, 8 bytes or 16, where under `strict` a record with host bits is refused.
+#[tactic(auto, using(crate::proofs::SizedJudging::too_many))]
 pub fn check_sized(table: &[u8], size: usize, strict: bool, is_set: bool) -> Checked
     requires { IsSize size }
     ensures { checked_says result ≡ check_reply_in size «strict» is_set table.now }

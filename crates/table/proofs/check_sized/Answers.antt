@@ -7,7 +7,7 @@ use Rattle.refusals.specs.Rules.{refuses, judge}
 use Rattle.records.specs.Sized.{records_in}
 use Rattle.records.proofs.SizedReading.{size-some}
 use Rattle.table.specs.SizedRules.{rules_from_in}
-use Rattle.table.proofs.SizedJudging.{not_whole, too_many, is_scan, scan_bad, scan_good, scan_end}
+use Rattle.table.proofs.SizedJudging.{not_whole, is_scan, scan_bad, scan_good, scan_end}
 use Rattle.table.proofs.check_sized.Goals as goal
 
 pub nonzero_rem-len : goal.nonzero_rem-len
@@ -19,13 +19,10 @@ returns-then-len-size-ne0 c = sym (not_whole _ _ _ _ _ c.if-len-size-ne0.true)
 pub nonzero_div-n : goal.nonzero_div-n
 nonzero_div-n c = omega (arith, size-some c.args.size c.requires)
 
-pub returns-then-n-gt1024 : goal.returns-then-n-gt1024
-returns-then-n-gt1024 c = sym (too_many _ _ _ _ _ c.if-len-size-ne0.false c.if-n-gt1024.true)
-
 pub loop-i-init : goal.loop-i-init
 loop-i-init c = (
   omega arith,
-  is_scan _ _ _ _ _ c.if-len-size-ne0.false c.if-n-gt1024.false
+  is_scan _ _ _ _ _ c.if-len-size-ne0.false (omega arith)
       ∙ ap (λ (k : ℕ). judge (rules_from_in c.args.size c.args.strict c.args.is_set c.args.table.now 0 k) (records_in c.args.size c.args.table.now)) (omega arith),
 )
 

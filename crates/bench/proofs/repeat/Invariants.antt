@@ -1,0 +1,10 @@
+-- `bench::repeat` is safe and ends: the measure is the number of rewrites that are left before the last. Assumes nothing.
+use mathlib.Core.Path.{◌≡◌}
+use lib.ListN.{length}
+use Rattle.bench.proofs.repeat.Given as goal
+
+abbrev pub invariant-loop-left : goal.invariant-loop-left
+invariant-loop-left l = (length l.output ≡ length l.initial.output) × (length l.work ≡ length l.initial.work)
+
+abbrev pub decreases-loop-left : goal.decreases-loop-left
+decreases-loop-left l = l.left

@@ -3,13 +3,12 @@
 use mathlib.Core.Path.{◌≡◌, refl, sym, ap, ap₂, ◌∙◌}
 use mathlib.Core.Bool.{true}
 use mathlib.Core.List.{List, ◌++◌}
-use Prim.Native.Nat.{ℕ, ◌+◌, ◌-◌, ◌*◌, ◌≤◌}
+use Prim.Native.Nat.{ℕ, ◌-◌, ◌*◌, ◌≤◌}
 use native.Mathlib.Omega.{arith}
 use lib.ListN.{length, take, drop, replicate}
 use lib.Seq.{take_at, drop_at}
 use Rattle.theory.specs.Routes.{Route, All, Valid}
 use Rattle.theory.proofs.Lists.{all_member, member_all}
-use Rattle.refusals.specs.Rules.{judge}
 use Rattle.refusals.proofs.Judged.{gives_any, refuses_any}
 use Rattle.records.specs.Wire.{records, routes, bytes_of}
 use Rattle.records.specs.Sized.{Bytes}
@@ -17,7 +16,7 @@ use Rattle.records.specs.declared.Form.{Form}
 use Rattle.records.proofs.Written.{length-bytes, routes-bytes}
 use Rattle.rooms.specs.Rooms.{all_are}
 use Rattle.chip.specs.Images.{image_of}
-use Rattle.chip.specs.Loading.{load_rules, load_order, loaded_says, Loads}
+use Rattle.chip.specs.Loading.{load_rules, load_order, Loads}
 use Rattle.chip.specs.declared.Loaded.{Loaded}
 use Rattle.chip.specs.declared.Loaded.TheVariants.{Slots, Refused}
 use Rattle.chip.proofs.Calls.{load_given, load_used, load_image, load_length, load_member, lawful, refusal_changes_nothing}

@@ -1,11 +1,11 @@
 -- Whose text is kept, and what a call leaves in the rooms that were filled before it. Assumes nothing.
 use mathlib.Core.Path.{◌≡◌, refl, sym, ap, ◌∙◌}
-use mathlib.Core.Bool.{true, ◌&&◌}
+use mathlib.Core.Bool.{true}
 use mathlib.Core.List.{List}
-use Prim.Native.Nat.{ℕ, zero, suc, ◌*◌, ◌≤◌, ◌<◌}
+use Prim.Native.Nat.{ℕ, ◌*◌}
 use native.Mathlib.Nat.{mul-zero}
 use native.Mathlib.Omega.{arith}
-use borrow.Author.Tests.{le-leb, lt-leb, eq-eqb, ne_eqb}
+use borrow.Author.Tests.{eq-eqb, ne_eqb}
 use lib.ListN.{length, drop, replicate}
 use lib.Seq.{drop_at}
 use Rattle.theory.specs.Routes.{Route}
@@ -33,10 +33,9 @@ use Rattle.holes.specs.Listing.{listed_count, Lists}
 use Rattle.holes.specs.declared.Listed.{Listed}
 use Rattle.holes.specs.declared.Listed.TheVariants.{Records as Listing, Refused as NotListed}
 use Rattle.holes.proofs.Calls.{refusal_changes_nothing, unrouted_rest}
-use Rattle.text.specs.Text.{Put}
 use Rattle.text.specs.Answers.{covers_text, lookup_text, held_text}
 use Rattle.kept.proofs.KeptLaws.{all_replicate, all_dropped}
-use Rattle.kept.specs.Kept.{byte, call_by, form_by, address_of, words_of, room_of, begin_of}
+use Rattle.kept.specs.Kept.{byte, call_by, form_by, address_of, words_of, room_of}
 use Rattle.replaying.specs.Answers.{covers_of, lookup_of, held_of, rewrite_answer, cover_answer, lookup_answer, held_answer, answer_text}
 
 -- ---- Whose text it is: an answer that says the right reply has its text.

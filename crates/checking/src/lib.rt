@@ -27,6 +27,12 @@ use words::prefix::{host_bits_clear, masked};
 // No step for the prefix has been seen.
 const UNSEEN: u8 = 65;
 
+// The most routes that an installed table may have.
+const MOST: usize = 1024;
+
+// The length of the longest prefixes.
+const LONGEST: u8 = 32;
+
 // What a check is at.
 #[derive(Clone, Copy)]
 pub enum Stage {
@@ -625,7 +631,7 @@ fn met(installed: &[u8], new: &[u8], n: usize, c: Check, p: Pass, put: bool) -> 
 {
     let stands = stood(installed, p.x, c.len, p.found);
     let count = counted(put, stands != NO_HOP, c.count);
-    if 1024 < count {
+    if MOST < count {
         return over(Stage::No, 0, 0, n);
     }
     if is_fresh(put, p.found, stands) {
@@ -683,7 +689,7 @@ fn covering(installed: &[u8], new: &[u8], n: usize, c: Check, p: Pass) -> Check
     requires index_lt_n { (c.index < n) × (c.len ≤ 32) × (c.place ≤ 1024) }
     ensures { result ≡ covering_of installed.now new.now n c p }
 {
-    if 32 < p.found {
+    if LONGEST < p.found {
         return over(Stage::No, 0, 0, n);
     }
     let y = behind(masked(p.x, p.found), p.found);

@@ -16,6 +16,9 @@ use records::sized::{hop_of, key_at, length_at, oct_at};
 use words::bits::with_bit;
 use words::key::masked_key;
 
+// No position has a record: the word without a bit.
+const NONE: u32 = 0;
+
 // The address of record i, its first bit on top: half of its wide address.
 pub fn half_at(table: &[u8], size: usize, i: usize) -> u64
     requires { IsSize size × (i < records_in size table.now) }
@@ -260,7 +263,7 @@ pub fn covering_hops(
     requires size { IsSize size }
     ensures { (l j : ℕ) → l ≤ 4 → j < 2 ^ l → get_or result (position l j) 0 ≡ covering_at size table.now first.now end.now inherited l j }
 {
-    if present == 0 {
+    if present == NONE {
         return [inherited; 31];
     }
     covering_values(table, size, first, end, inherited)

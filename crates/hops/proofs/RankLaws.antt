@@ -1,5 +1,5 @@
 -- The choice by rank over words: a set's hops from the smallest on, the best of them so far kept; and the test of ranks, from the last to the first.
-use Prim.Native.Nat.{ℕ, zero, suc, ◌+◌, ◌-◌, ◌≤◌, ◌<◌}
+use Prim.Native.Nat.{ℕ, zero, suc, ◌-◌, ◌≤◌, ◌<◌}
 use mathlib.Core.Path.{◌≡◌, refl, sym, ap, ◌∙◌}
 use mathlib.Core.Bool.{Bool, true, false, true≢false, cond, not, ◌||◌, ◌&&◌, and-false, and-true, or-false}
 use mathlib.Core.List.{List, [], ◌∷◌}
@@ -79,10 +79,6 @@ pub unranked : (ranks s : List ℕ) → length ranks ≡ 0 → Sorted s → smal
 unranked [] s e p = sym (unranked_smallest s p)
 unranked (r ∷ ranks) s e p = absurd (omega arith)
 
--- So a word's smallest hop is the lowest of its set.
-pub unranked_word : (ranks : List ℕ) (x h : ℕ) → length ranks ≡ 0 → ((s : List ℕ) → ShowsHops x s → h ≡ smallest s) → (s : List ℕ) → ShowsHops x s → h ≡ lowest ranks s
-unranked_word ranks x h e first s p = first s p ∙ unranked ranks s e p.sorted
-
 -- ---- The test of ranks.
 
 -- Of 64 ranks it is whether they differ, of others whether there is none.
@@ -142,9 +138,3 @@ module _ {ranks : List ℕ} {i j seen : ℕ} (p : Seen ranks j seen) (next : j �
   seen_twice low old =
       let r = get_or ranks i 0 in
       failed ranks i (rw (from, sym (hop_in low ∙ in_set r (drop j ranks)) ∙ sym old, and-false (ltb r 64)))
-
--- So the test fails at a rank that is no hop.
-pub tests_high : (ranks : List ℕ) (i j seen : ℕ) → Seen ranks j seen → j ≡ i + 1 → i < length ranks → length ranks ≡ 64 → 64 ≤ get_or ranks i 0
-    → false ≡ is_ranking 64 ranks
-tests_high ranks i j seen p next inside long high =
-    tests_differing ranks false long (seen-high {ranks = ranks} {i = i} p (omega arith) inside high)

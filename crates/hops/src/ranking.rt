@@ -8,6 +8,12 @@ ghost use Rattle.hops.specs.Sets.{ShowsHops};
 
 use super::{has, one, smallest};
 
+// How many ranks are lent where none are.
+const UNRANKED: usize = 0;
+
+// The greatest rank that may be lent.
+const GREATEST: u16 = 63;
+
 // The rank of a hop.
 fn rank_of(ranks: &[u16], h: u8) -> u16
     ensures { result ≡ rank_of ranks.now h }
@@ -39,12 +45,11 @@ fn rest_of(set: u64) -> u64
 }
 
 // The hop of lowest rank of a set: without ranks the smallest, else the best as its hops are gone through.
-#[tactic(auto, using(crate::proofs::RankLaws::unranked_word))]
 pub fn lowest(set: u64, ranks: &[u16]) -> u8
     requires { 0 < set }
     ensures { ((s : List ℕ) → ShowsHops set s → result ≡ Rattle.theory.specs.Ranks.lowest ranks.now s) × (result < no_hop) }
 {
-    if ranks.len() == 0 {
+    if ranks.len() == UNRANKED {
         return smallest(set);
     }
     let mut best = smallest(set);
@@ -57,7 +62,6 @@ pub fn lowest(set: u64, ranks: &[u16]) -> u8
 }
 
 // Are these ranks that may be lent: none, or each of the numbers 0 to 63 once? From the last to the first, with the set of those already seen.
-#[tactic(auto, using(crate::proofs::RankLaws::tests_high))]
 pub fn is_ranking(ranks: &[u16]) -> bool
     ensures { result ≡ is_ranking no_hop ranks.now }
 {
@@ -69,7 +73,7 @@ pub fn is_ranking(ranks: &[u16]) -> bool
     while 0 < i {
         i -= 1;
         let r = ranks[i];
-        if 63 < r {
+        if GREATEST < r {
             return false;
         }
         let h = r as u8;

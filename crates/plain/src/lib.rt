@@ -27,6 +27,9 @@ use records::{Form, size_of};
 use runs::{past_own, right_half, split};
 use table::{Checked, check_sized};
 
+// The candidate set of a hole.
+const HOLE: u64 = 0;
+
 // How a position is taken apart.
 #[derive(Clone, Copy)]
 enum Part {
@@ -110,7 +113,7 @@ fn write_entry(
     requires { IsSize size × (len ≤ width_in size) }
     ensures { (S : Cand) → ShowsSet set S → Put size (entry_at ranks.now size S (width_in size - len) (address_in size key) above) result out.old out.new }
 {
-    if set == 0 {
+    if set == HOLE {
         return 0;
     }
     if has(set, above) {

@@ -11,6 +11,9 @@ use super::due::count_due;
 use records::Form;
 use table::{Checked, check_table};
 
+// The most routes that a table may have.
+const MOST: usize = 1024;
+
 // How many steps does the answer say are written?
 pub fn count_of(answer: Planned) -> usize
     ensures { result ≡ count_of answer }
@@ -29,7 +32,7 @@ fn choose(installed: &[u8], new: &[u8], room: usize) -> Planned
 {
     let puts = count_due(new, installed, true);
     let takes = count_due(installed, new, false);
-    if 1024 < new.len() / 8 + takes {
+    if MOST < new.len() / 8 + takes {
         return Planned::GaveUp;
     }
     if room < puts + takes {

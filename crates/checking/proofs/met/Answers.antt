@@ -3,11 +3,11 @@ use mathlib.Core.Path.{sym, ◌∙◌}
 use borrow.Author.Tests.{lt-ltb, le-ltb}
 use Rattle.checking.proofs.met.Goals as goal
 
-pub returns-then-count-gt1024 : goal.returns-then-count-gt1024
-returns-then-count-gt1024 c = rw (sym c.stood-stands.ensures, sym c.counted-count.ensures, lt-ltb _ _ c.if-count-gt1024.true) c.over.ensures
+pub returns-then-count-gt-MOST : goal.returns-then-count-gt-MOST
+returns-then-count-gt-MOST c = rw (sym c.stood-stands.ensures, sym c.counted-count.ensures, lt-ltb _ _ c.if-count-gt-MOST.true) c.over.ensures
 
 pub returns-then-is_fresh : goal.returns-then-is_fresh
-returns-then-is_fresh c = rw (sym c.stood-stands.ensures, sym c.counted-count.ensures, le-ltb _ _ c.if-count-gt1024.false, sym c.is_fresh.ensures ∙ c.if-is_fresh.true) c.class_at.ensures
+returns-then-is_fresh c = rw (sym c.stood-stands.ensures, sym c.counted-count.ensures, le-ltb _ _ c.if-count-gt-MOST.false, sym c.is_fresh.ensures ∙ c.if-is_fresh.true) c.class_at.ensures
 
 pub returns : goal.returns
-returns c = rw (sym c.stood-stands.ensures, sym c.counted-count.ensures, le-ltb _ _ c.if-count-gt1024.false, sym c.is_fresh.ensures ∙ c.if-is_fresh.false) c.step_or_record.ensures
+returns c = rw (sym c.stood-stands.ensures, sym c.counted-count.ensures, le-ltb _ _ c.if-count-gt-MOST.false, sym c.is_fresh.ensures ∙ c.if-is_fresh.false) c.step_or_record.ensures

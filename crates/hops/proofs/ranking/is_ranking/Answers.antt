@@ -18,6 +18,12 @@ returns-then-ranks-ne64 c =
 pub loop-i-init : goal.loop-i-init
 loop-i-init c = (omega arith, omega arith, seen_none _ 64 (omega arith))
 
+pub returns-then-r-gt-GREATEST : goal.returns-then-r-gt-GREATEST
+returns-then-r-gt-GREATEST c =
+    let ranks = c.args.ranks.now in
+    let l = c.loop-i in
+    tests_differing ranks false l.invariant.1 (seen-high {ranks = ranks} {i = l.i - 1} l.invariant.2 (omega arith) (omega (arith, l.invariant.1)) (omega arith))
+
 pub returns-then-has : goal.returns-then-has
 returns-then-has c =
     let ranks = c.args.ranks.now in

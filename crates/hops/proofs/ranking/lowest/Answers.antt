@@ -5,6 +5,11 @@ use native.Mathlib.Omega.{arith}
 use Rattle.hops.proofs.RankLaws.{choosing_start, choosing_next, better-below, choosing_end, unranked}
 use Rattle.hops.proofs.ranking.lowest.Goals as goal
 
+pub returns-then-ranks-eq-UNRANKED : goal.returns-then-ranks-eq-UNRANKED
+returns-then-ranks-eq-UNRANKED c =
+    let r = c.smallest.ensures in
+    (λ s p. r.0 s p ∙ unranked c.args.ranks.now s (omega (arith, c.if-ranks-eq-UNRANKED.true)) p.sorted, r.1)
+
 pub loop-rest-init : goal.loop-rest-init
 loop-rest-init c =
     (c.smallest-best.ensures.1, choosing_start c.args.ranks.now c.args.set _ _ c.requires c.smallest-best.ensures.0 c.rest_of-rest.ensures.0)

@@ -10,8 +10,8 @@ use Rattle.planner.proofs.proposal.choose.Goals as goal
 pub overflow_add-new : goal.overflow_add-new
 overflow_add-new c = omega (arith, c.count_due-takes.ensures, few_due (is_due false (routes c.args.new.now)) c.requires.0, c.requires.1.few, length-routes c.args.new.now)
 
-pub returns-then-new-takes-gt1024 : goal.returns-then-new-takes-gt1024
-returns-then-new-takes-gt1024 c = chosen_full c.args.installed.now c.args.new.now c.requires.0.table c.requires.1.table c.args.room c.count_due-puts.result c.count_due-takes.result c.count_due-puts.ensures c.count_due-takes.ensures c.if-new-takes-gt1024.true
+pub returns-then-new-takes-gt-MOST : goal.returns-then-new-takes-gt-MOST
+returns-then-new-takes-gt-MOST c = chosen_full c.args.installed.now c.args.new.now c.requires.0.table c.requires.1.table c.args.room c.count_due-puts.result c.count_due-takes.result c.count_due-puts.ensures c.count_due-takes.ensures c.if-new-takes-gt-MOST.true
 
 pub overflow_add-puts : goal.overflow_add-puts
 overflow_add-puts c = omega (arith, c.count_due-puts.ensures, c.count_due-takes.ensures, few_due (is_due false (routes c.args.new.now)) c.requires.0, few_due (is_due true (routes c.args.installed.now)) c.requires.1)

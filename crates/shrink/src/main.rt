@@ -74,7 +74,7 @@ fn pass_over_all(input: &mut impl Read) -> io::Result<u64>
     ensures { IfOk result (λ size. size ≤ 9223372036854775808) }
 {
     let mut all: u64 = 0;
-    for _ in 0..2251799813685248u64 {
+    for _turn in 0..2251799813685248u64 {
         let size = pass_over(input)?;
         if size == 0 {
             return Ok(all);

@@ -8,7 +8,7 @@ ghost use Rattle.hops.specs.Sets.{ShowsHops};
 
 use super::{has, one, smallest};
 
-// How many ranks are lent where none are.
+// The most ranks that count as none.
 const UNRANKED: usize = 0;
 
 // The greatest rank that may be lent.
@@ -49,7 +49,7 @@ pub fn lowest(set: u64, ranks: &[u16]) -> u8
     requires { 0 < set }
     ensures { ((s : List ℕ) → ShowsHops set s → result ≡ Rattle.theory.specs.Ranks.lowest ranks.now s) × (result < no_hop) }
 {
-    if ranks.len() == UNRANKED {
+    if ranks.len() <= UNRANKED {
         return smallest(set);
     }
     let mut best = smallest(set);

@@ -5,10 +5,10 @@ use native.Mathlib.Omega.{arith}
 use Rattle.hops.proofs.RankLaws.{choosing_start, choosing_next, better-below, choosing_end, unranked}
 use Rattle.hops.proofs.ranking.lowest.Goals as goal
 
-pub returns-then-ranks-eq-UNRANKED : goal.returns-then-ranks-eq-UNRANKED
-returns-then-ranks-eq-UNRANKED c =
+pub returns-then-ranks-le-UNRANKED : goal.returns-then-ranks-le-UNRANKED
+returns-then-ranks-le-UNRANKED c =
     let r = c.smallest.ensures in
-    (λ s p. r.0 s p ∙ unranked c.args.ranks.now s (omega (arith, c.if-ranks-eq-UNRANKED.true)) p.sorted, r.1)
+    (λ s p. r.0 s p ∙ unranked c.args.ranks.now s (omega (arith, c.if-ranks-le-UNRANKED.true)) p.sorted, r.1)
 
 pub loop-rest-init : goal.loop-rest-init
 loop-rest-init c =

@@ -228,7 +228,7 @@ pub fn value_at(table: &[u8], size: usize, first: u16, end: u16, over: u8) -> u8
     }
 }
 
-// The hop that covers each position of a node, its own record included; `noHop` for none.
+// The hop that covers each position of a node, its own record included; `no_hop` for none.
 pub fn covering_values(
     table: &[u8],
     size: usize,
@@ -249,7 +249,7 @@ pub fn covering_values(
     hops
 }
 
-// The hop that covers each position of a node, its own record included; `noHop` for none. Where no position has a record it is the inherited one.
+// The hop that covers each position of a node, its own record included; `no_hop` for none. Where no position has a record it is the inherited one.
 pub fn covering_hops(
     table: &[u8],
     size: usize,

@@ -8,5 +8,5 @@ pub mod leaves;
 pub mod ranking;
 pub mod room;
 
-// No hop: the number above all hops, `noHop` in contracts.
+// No hop: the number above all hops, `no_hop` in contracts.
 pub const NO_HOP: u16 = 1024;

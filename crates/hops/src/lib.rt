@@ -11,7 +11,7 @@ ghost use Rattle.hops.specs.Sets.{ShowsHops, ShowsSet};
 
 use ranking::lowest;
 
-// No hop: the number above all hops, `noHop` in contracts.
+// No hop: the number above all hops, `no_hop` in contracts.
 pub const NO_HOP: u8 = 64;
 
 // The set of one hop.

@@ -27,7 +27,7 @@ pub struct Collected {
 }
 
 // The first walk: lays the sets of a node and of all below it into the room, from `top` downward. `inherited` covers the node from above, and
-// `fill` is the hop of what has no route; `noHop` for none.
+// `fill` is the hop of what has no route; `no_hop` for none.
 pub fn collect_sets(
     table: &[u8],
     size: usize,

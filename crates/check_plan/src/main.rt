@@ -13,7 +13,8 @@ use stepread::reply;
 use streams::named::read_named;
 use streams::read_full;
 
-// Reads the file that an argument names. There is `None` where it cannot be opened, which standard error says.
+// Reads the file that an argument names. There is `None` where it cannot be opened, which standard error says. It fails only where a read, or a write of what
+// is said, fails, and what was lent keeps its length.
 fn table_of<R: Env + Files + Eprint>(
     rt: &R,
     i: usize,
@@ -24,7 +25,7 @@ fn table_of<R: Env + Files + Eprint>(
     read_named(rt, i, table)
 }
 
-// Reads the steps, and prints the answer.
+// Reads the steps, and prints the answer. It fails only where a read or the write fails; where a read fails, no answer is printed.
 fn check(rt: &impl Print, input: &mut impl Read, installed: &[u8], new: &[u8]) -> io::Result<()> {
     let mut text = [0u8; 65537];
     let mut out = [0u8; 37];

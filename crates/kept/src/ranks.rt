@@ -21,7 +21,8 @@ fn how_many(count: u8) -> usize
     count as usize
 }
 
-// Reads the ranks of a case with this first byte, none where it lends none, and says how many they are; 256 where they are cut short.
+// Reads the ranks of a case with this first byte, none where it lends none, and says how many they are; 256 where they are cut short. It fails only where a
+// read fails, and what was lent keeps its length.
 pub fn read_ranks(input: &mut impl Read, first: u8, bytes: &mut [u8]) -> io::Result<usize>
     requires { 255 ≡ length bytes.old }
     ensures { IfOk result (λ lent. lent ≤ 256) }

@@ -12,7 +12,8 @@ use steplines::plan_text;
 use steprooms::empty_room;
 use streams::named::read_named;
 
-// Reads the file that an argument names. There is `None` where it cannot be opened, which standard error says.
+// Reads the file that an argument names. There is `None` where it cannot be opened, which standard error says. It fails only where a read, or a write of what
+// is said, fails, and what was lent keeps its length.
 fn table_of<R: Env + Files + Eprint>(
     rt: &R,
     i: usize,

@@ -91,7 +91,7 @@ fn most(long: bool) -> usize
     if long { 16400 } else { 8200 }
 }
 
-// Reads a table, at most 1,025 records of it, and says how many bytes it has.
+// Reads a table, at most 1,025 records of it, and says how many bytes it has. It fails only where a read fails, and what was lent keeps its length.
 fn read_table(input: &mut impl Read, table: &mut [u8], long: bool) -> io::Result<usize>
     requires { 16400 ≤ length table.old }
     ensures { IfOk result (λ size. size ≤ 16400) }
@@ -100,7 +100,7 @@ fn read_table(input: &mut impl Read, table: &mut [u8], long: bool) -> io::Result
     read_full(input, &mut table[..room])
 }
 
-// Reads a table and prints the answer in the mode.
+// Reads a table and prints the answer in the mode. It fails only where a read or the write fails; where a read fails, no answer is printed.
 pub fn run(rt: &impl Print, input: &mut impl Read, long: bool, mode: u32) -> io::Result<()> {
     let mut table = [0u8; 16400];
     let mut out = [0u8; 49236];

@@ -3,12 +3,14 @@
 // What is kept for a case that was read is proved to be the text of the right answer (replaying, `keep_answer`). Of what reads and writes it is proved that
 // it is safe and ends: no contract can say what was read and what was written, which runs show.
 //
+// What reads fails only where a read fails. Each read of a case comes before anything of it is kept, so what was kept then stands as before.
+//
 // There is no memory but the stack, 8 MiB where nobody says otherwise: each kind of case has rooms of its own, which are there only while it is answered.
 // A function with large rooms is called in two places, so that the compiler does not make its rooms those of `main`.
 
 #![tactic(auto)]
 
-ghost use Rattle.std.specs.Prelude.{◌≡◌, ◌≤◌, length, IfOk};
+ghost use Rattle.std.specs.Prelude.{◌≡◌, ◌≤◌, length, IfOk, OnErr};
 ghost use Rattle.kept.specs.Kept.{words_of};
 
 use kept::ranks::{as_ranks, read_ranks};
@@ -71,7 +73,8 @@ fn steps_turn(
     requires steps_len_bound { length steps.old ≤ 262144 }
     requires at_in_bounds { at ≤ length kept.old }
     requires in_bounds { 262144 ≤ length kept.old }
-    ensures { IfOk result (λ next. next.at ≤ length kept.old) }
+    ensures bound { IfOk result (λ next. next.at ≤ length kept.old) }
+    ensures unchanged { OnErr result (kept.new ≡ kept.old) }
 {
     let size = join2(head[8], head[9]);
     if read_full(input, &mut new[..size])? < size {
@@ -105,7 +108,8 @@ fn plan_rooms(
     requires size_bound { size ≤ 262144 }
     requires at_in_bounds { at ≤ length kept.old }
     requires in_bounds { 262144 ≤ length kept.old }
-    ensures { IfOk result (λ next. next.at ≤ length kept.old) }
+    ensures bound { IfOk result (λ next. next.at ≤ length kept.old) }
+    ensures unchanged { OnErr result (kept.new ≡ kept.old) }
 {
     let mut new = table_room();
     let mut steps = kept_room();
@@ -210,7 +214,8 @@ fn apart_turn(
     requires size_bound { size ≤ 262144 }
     requires at_in_bounds { at ≤ length kept.old }
     requires in_bounds { 262144 ≤ length kept.old }
-    ensures { IfOk result (λ next. next.at ≤ length kept.old) }
+    ensures bound { IfOk result (λ next. next.at ≤ length kept.old) }
+    ensures unchanged { OnErr result (kept.new ≡ kept.old) }
 {
     let call = call_of(head[0]);
     let asked = join4(head[8], head[9], head[10], head[11]) as usize;
@@ -235,7 +240,8 @@ fn plan_case(
     requires size_bound { size ≤ 262144 }
     requires at_in_bounds { at ≤ length kept.old }
     requires in_bounds { 262144 ≤ length kept.old }
-    ensures { IfOk result (λ next. next.at ≤ length kept.old) }
+    ensures bound { IfOk result (λ next. next.at ≤ length kept.old) }
+    ensures unchanged { OnErr result (kept.new ≡ kept.old) }
 {
     apart_turn(input, outlet, head, installed, size, at, kept)
 }
@@ -333,7 +339,8 @@ fn case_turn(
     requires table_len_bound { length table.now ≤ 65535 }
     requires at_in_bounds { at ≤ length kept.old }
     requires in_bounds { 262144 ≤ length kept.old }
-    ensures { IfOk result (λ next. next.at ≤ length kept.old) }
+    ensures bound { IfOk result (λ next. next.at ≤ length kept.old) }
+    ensures unchanged { OnErr result (kept.new ≡ kept.old) }
 {
     let call = call_of(head[0]);
     if !is_call(call, is_long(head[0])) {
@@ -371,7 +378,7 @@ fn case_turn(
     Ok(roomy_turn(outlet, head, query, table, ranks, &mut output, at, kept))
 }
 
-// Reads the query of a case, where addresses have 64 bits. Says whether it is there.
+// Reads the query of a case, where addresses have 64 bits. Says whether it is there. It fails only where a read fails, and the query keeps its length.
 fn read_query(input: &mut impl Read, first: u8, query: &mut [u8]) -> io::Result<bool>
     requires { 8 ≡ length query.old }
 {
@@ -392,7 +399,8 @@ fn turn(
     requires value { 65535 ≡ length table.old }
     requires at_in_bounds { at ≤ length kept.old }
     requires in_bounds { 262144 ≤ length kept.old }
-    ensures { IfOk result (λ next. next.at ≤ length kept.old) }
+    ensures bound { IfOk result (λ next. next.at ≤ length kept.old) }
+    ensures unchanged { OnErr result (kept.new ≡ kept.old) }
 {
     let mut head = [0u8; 16];
     let got = read_full(input, &mut head)?;

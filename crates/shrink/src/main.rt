@@ -61,7 +61,7 @@ fn argument(rt: &impl Env, i: usize) -> u32 {
     }
 }
 
-// Reads some bytes more, and says how many.
+// Reads some bytes more, and says how many. It fails only where a read fails.
 fn pass_over(input: &mut impl Read) -> io::Result<u64>
     ensures { IfOk result (λ size. size ≤ 4096) }
 {
@@ -69,7 +69,7 @@ fn pass_over(input: &mut impl Read) -> io::Result<u64>
     Ok(read_full(input, &mut bytes)? as u64)
 }
 
-// Reads the rest of the input, and says how many bytes it had. The turns are more than any input takes.
+// Reads the rest of the input, and says how many bytes it had. The turns are more than any input takes. It fails only where a read fails.
 fn pass_over_all(input: &mut impl Read) -> io::Result<u64>
     ensures { IfOk result (λ size. size ≤ 9223372036854775808) }
 {
@@ -98,7 +98,7 @@ fn deciding(size: u64) -> usize
     }
 }
 
-// The same, once the first of them are read, at most 8,200. If there may be more, the rest is read.
+// The same, once the first of them are read, at most 8,200. If there may be more, the rest is read. It fails only where a read fails.
 fn kept(first: usize, input: &mut impl Read) -> io::Result<usize>
     ensures { IfOk result (λ size. size ≤ 8200) }
 {
@@ -127,7 +127,8 @@ fn answer(table: &[u8], mode: u32, default: u32, work: &mut [u32; 824480], out: 
     )
 }
 
-// Reads the input and prints the answer.
+// Reads the input and prints the answer. It fails only where a read or the write fails; where a read fails, no answer is printed. The work room keeps its
+// length, which its type says.
 fn run(rt: &(impl Env + Print), input: &mut impl Read, work: &mut [u32; 824480]) -> io::Result<()> {
     let mut table = [0u8; 8200];
     let mut out = [0u8; 49236];

@@ -4,18 +4,20 @@
 pub mod named;
 pub mod outlet;
 
-ghost use Rattle.std.specs.Prelude.{◌<◌, take, length, IfOk};
+ghost use Rattle.std.specs.Prelude.{ℕ, ◌<◌, take, length, IfOk, OnErr};
 ghost use Rattle.std.specs.Io.{ReadsAtMost};
 ghost use Rattle.std.specs.Io.KnownBytes.{Consumes, IsAtEnd};
 
 use std::io;
 use std::io::Read;
 
-// Reads until the buffer is full or the input ends, and says how many bytes stand at the buffer's start.
+// Reads until the buffer is full or the input ends, and says how many bytes stand at the buffer's start. It fails only where a read fails, and what was read
+// until then stands at the buffer's start.
 pub fn read_full<R: Read>(reader: &mut R, buf: &mut [u8]) -> io::Result<usize>
     ensures bound { ReadsAtMost result buf.new }
     ensures bytes { IfOk result (λ n. Consumes (R.remaining reader.old) (R.remaining reader.new) (take n buf.new)) }
     ensures end { IfOk result (λ n. n < length buf.old → IsAtEnd (R.remaining reader.new)) }
+    ensures lost { OnErr result ((n : ℕ) × Consumes (R.remaining reader.old) (R.remaining reader.new) (take n buf.new)) }
 {
     let mut done = 0;
     while done < buf.len() {

@@ -20,10 +20,10 @@ fn words_length(said: &[u8]) -> usize
     said.len()
 }
 
-// Says on standard error that a file cannot be read, and why.
+// Says on standard error that a file cannot be read, and why. It fails only where that write fails.
 fn say(rt: &impl Eprint, path: &str, error: io::Error) -> io::Result<()> {
     let mut said = Cursor::new([0u8; 128]);
-    write!(said, "{error}")?;
+    let _ = write!(said, "{error}");
     let said = said.into_inner();
     let words = match str::from_utf8(&said[..words_length(&said)]) {
         Ok(words) => words,
@@ -33,7 +33,8 @@ fn say(rt: &impl Eprint, path: &str, error: io::Error) -> io::Result<()> {
 }
 
 // Reads the file that an argument names until the buffer is full or the file ends, and says how many bytes stand at the buffer's start. There is
-// `None` where no file of this name can be opened, which standard error says.
+// `None` where no file of this name can be opened, which standard error says; so too of a name that is not UTF-8, since only names that are text are
+// opened: `path: not text`. It fails only where a read, or a write of these lines, fails, and the buffer keeps its length.
 pub fn read_named<R: Env + Files + Eprint>(
     rt: &R,
     i: usize,

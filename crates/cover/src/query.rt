@@ -108,7 +108,8 @@ pub fn covers_in_aggregate(
     gather_run(table, size, lo, hi, depth, key, &mut first, &mut end);
     let b = heap_index(query, level_of(len, depth), depth);
     if b < 31 {
-        if record_over(&first, &end, b) {
+        let over = record_over(&first, &end, b);
+        if over {
             return true;
         }
         return bit_covered(table, size, lo, hi, depth, key, b);

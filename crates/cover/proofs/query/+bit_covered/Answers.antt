@@ -1,6 +1,5 @@
 -- `cover::query::bit_covered`, which calls itself on the slots that it asks, meets its contract, by falling bits below the node. The loop's
 -- invariant: of the slots before the next the word has those that were asked and are covered. Assumes nothing.
-use Prim.Native.Nat.{◌-◌}
 use mathlib.Core.Path.{refl, sym, ◌∙◌}
 use native.Mathlib.Omega.{arith}
 use lib.ListN.{get_or-replicate}

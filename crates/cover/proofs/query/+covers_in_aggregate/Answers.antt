@@ -25,14 +25,14 @@ heap_index-b-requires t c =
     let pre = c.requires in
     (pre.node.at.deep, c.level_of.ensures.1)
 
-pub record_over-requires : goal.record_over-requires
-record_over-requires t c = c.if-b-lt31.true
+pub record_over-over-requires : goal.record_over-over-requires
+record_over-over-requires t c = c.if-b-lt31.true
 
-pub returns-then-record_over : goal.returns-then-record_over
-returns-then-record_over t c =
+pub returns-then-over : goal.returns-then-over
+returns-then-over t c =
     let sought : Sought c.args.size c.args.table.now c.args.lo c.args.hi c.args.depth (c.args.key * 2) (c.args.query * 2) c.args.len c.gather_run.new.first c.gather_run.new.end c.gather_run.result.present c.level_of.result c.heap_index-b.result = let pre = c.requires in record { node = pre.node; gathered = c.gather_run.ensures.gathered; lens = pre.depth_le_len; aligned = pre.aligned; lies = pre.fact; leveled = c.level_of.ensures; placed = c.heap_index-b.ensures.by_index _ pre.node.at pre.fact } in
     let s = sought in
-    position-answer s true c.if-b-lt31.true (λ l j le lt e. record_covers s.node s.gathered l j le lt (sym c.if-record_over.true ∙ c.record_over.ensures l j le lt e))
+    position-answer s true c.if-b-lt31.true (λ l j le lt e. record_covers s.node s.gathered l j le lt (sym c.if-over.true ∙ c.record_over-over.ensures l j le lt e))
 
 pub bit_covered-requires : goal.bit_covered-requires
 bit_covered-requires t c = record { node = c.requires.node; b_bound = c.if-b-lt31.true }
@@ -42,15 +42,15 @@ returns-then-b-lt31 t c =
     let sought : Sought c.args.size c.args.table.now c.args.lo c.args.hi c.args.depth (c.args.key * 2) (c.args.query * 2) c.args.len c.gather_run.new.first c.gather_run.new.end c.gather_run.result.present c.level_of.result c.heap_index-b.result = let pre = c.requires in record { node = pre.node; gathered = c.gather_run.ensures.gathered; lens = pre.depth_le_len; aligned = pre.aligned; lies = pre.fact; leveled = c.level_of.ensures; placed = c.heap_index-b.ensures.by_index _ pre.node.at pre.fact } in
     position-answer sought _ c.if-b-lt31.true c.bit_covered.ensures
 
-pub record_over-requires-2 : goal.record_over-requires-2
-record_over-requires-2 t c =
+pub record_over-requires : goal.record_over-requires
+record_over-requires t c =
     let sought : Sought c.args.size c.args.table.now c.args.lo c.args.hi c.args.depth (c.args.key * 2) (c.args.query * 2) c.args.len c.gather_run.new.first c.gather_run.new.end c.gather_run.result.present c.level_of.result c.heap_index-b.result = let pre = c.requires in record { node = pre.node; gathered = c.gather_run.ensures.gathered; lens = pre.depth_le_len; aligned = pre.aligned; lies = pre.fact; leveled = c.level_of.ensures; placed = c.heap_index-b.ensures.by_index _ pre.node.at pre.fact } in
     omega (arith, place_lt sought)
 
-pub returns-then-record_over-2 : goal.returns-then-record_over-2
-returns-then-record_over-2 t c =
+pub returns-then-record_over : goal.returns-then-record_over
+returns-then-record_over t c =
     let sought : Sought c.args.size c.args.table.now c.args.lo c.args.hi c.args.depth (c.args.key * 2) (c.args.query * 2) c.args.len c.gather_run.new.first c.gather_run.new.end c.gather_run.result.present c.level_of.result c.heap_index-b.result = let pre = c.requires in record { node = pre.node; gathered = c.gather_run.ensures.gathered; lens = pre.depth_le_len; aligned = pre.aligned; lies = pre.fact; leveled = c.level_of.ensures; placed = c.heap_index-b.ensures.by_index _ pre.node.at pre.fact } in
-    slot-answer sought true c.if-b-lt31.false (λ l j le lt e. sym c.if-record_over-2.true ∙ c.record_over-2.ensures l j le lt e)
+    slot-answer sought true c.if-b-lt31.false (λ l j le lt e. sym c.if-record_over.true ∙ c.record_over.ensures l j le lt e)
 
 pub offset_bounds-first-b : goal.offset_bounds-first-b
 offset_bounds-first-b t c =
@@ -95,7 +95,7 @@ pub returns-then-from-to : goal.returns-then-from-to
 returns-then-from-to t c =
     let sought : Sought c.args.size c.args.table.now c.args.lo c.args.hi c.args.depth (c.args.key * 2) (c.args.query * 2) c.args.len c.gather_run.new.first c.gather_run.new.end c.gather_run.result.present c.level_of.result c.heap_index-b.result = let pre = c.requires in record { node = pre.node; gathered = c.gather_run.ensures.gathered; lens = pre.depth_le_len; aligned = pre.aligned; lies = pre.fact; leveled = c.level_of.ensures; placed = c.heap_index-b.ensures.by_index _ pre.node.at pre.fact } in
     c.covers_in_aggregate.ensures
-    ∙ slot-answer sought false c.if-b-lt31.false (λ l j le lt e. sym c.if-record_over-2.false ∙ c.record_over-2.ensures l j le lt e)
+    ∙ slot-answer sought false c.if-b-lt31.false (λ l j le lt e. sym c.if-record_over.false ∙ c.record_over.ensures l j le lt e)
 
 pub returns : goal.returns
 returns t c =
@@ -103,4 +103,4 @@ returns t c =
     let a = c.args in
     sym (none_covered wide (wide - a.len) (a.query * 2))
     ∙ ap (λ (u : List Route). throughout (held wide u) (wide - a.len) (a.query * 2)) (sym (run_none a.size a.table.now _ _ c.if-from-to.false))
-    ∙ slot-answer sought false c.if-b-lt31.false (λ l j le lt e. sym c.if-record_over-2.false ∙ c.record_over-2.ensures l j le lt e)
+    ∙ slot-answer sought false c.if-b-lt31.false (λ l j le lt e. sym c.if-record_over.false ∙ c.record_over.ensures l j le lt e)

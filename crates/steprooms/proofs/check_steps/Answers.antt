@@ -5,7 +5,6 @@ use Rattle.plans.specs.declared.answers.Step.{Step}
 use Rattle.plans.specs.Judging.{Judges}
 use Rattle.steprooms.proofs.check_steps.Goals as goal
 
--- src/lib.rt:73:1
 pub returns : goal.returns
 returns c =
     let args = c.args in

@@ -2,7 +2,6 @@
 use Rattle.steprooms.proofs.Filled.{step_made}
 use Rattle.steprooms.proofs.step_at.Goals as goal
 
--- src/lib.rt:30:1
 pub returns : goal.returns
 returns c =
     let args = c.args in

@@ -4,6 +4,7 @@
 pub mod Shown
 pub mod Judged
 pub mod Ranked
+pub mod Replies
 pub mod Answered
 pub mod Waived
 pub mod Examples

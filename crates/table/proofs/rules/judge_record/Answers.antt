@@ -1,4 +1,4 @@
--- `rules::fault` answers the number of the first of rules 5 to 8 that record i breaks, or 0. Assumes nothing.
+-- `rules::judge_record` answers by the first of rules 5 to 8 that record i breaks. Assumes nothing.
 use mathlib.Core.Bool.{true}
 use mathlib.Core.Path.{◌≡◌, sym, ◌∙◌}
 use native.Mathlib.Omega.{arith}
@@ -8,7 +8,7 @@ use Rattle.refusals.specs.Rules.{broken}
 use Rattle.records.specs.Sized.{width_in, route_in}
 use Rattle.records.proofs.SizedReading.{size-some}
 use Rattle.table.specs.SizedRules.{host_kept_in, record_rules_in}
-use Rattle.table.proofs.rules.fault.Goals as goal
+use Rattle.table.proofs.rules.judge_record.Goals as goal
 
 pub overflow_mul-size : goal.overflow_mul-size
 overflow_mul-size c = omega (arith, size-some c.args.size c.requires.0)

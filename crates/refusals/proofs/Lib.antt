@@ -3,8 +3,8 @@
 -- what is not refused by a number is answered as if the number were not given at all.
 pub mod Shown
 pub mod Judged
-pub mod Ranked
 pub mod Replies
+pub mod Ranked
 pub mod Answered
 pub mod Waived
 pub mod Examples

@@ -1,8 +1,11 @@
 -- What a call that gives a value or refuses says settles its answer: causes have different numbers. Assumes nothing.
 use mathlib.Core.Path.{◌≡◌, refl, sym, ap, ap₂, ◌∙◌}
+use mathlib.Core.List.{List}
 use Prim.Native.Nat.{ℕ, ◌+◌, ◌≤◌, ◌<◌}
 use native.Mathlib.Omega.{arith}
 use Rattle.std.specs.Prelude.{Result, Ok, Err, cond, eqb}
+use Rattle.refusals.specs.Rules.{Rule, refuses, judge}
+use Rattle.refusals.proofs.Judged.{refuses_any}
 use Rattle.refusals.specs.Numbers.{number_of, in_new_of, reply_of}
 use Rattle.refusals.specs.declared.Cause.{Cause}
 use Rattle.refusals.specs.declared.Cause.TheVariants as cause
@@ -138,3 +141,7 @@ number_some cause.NewPrefixLength = omega arith
 number_some cause.NewHostBits = omega arith
 number_some cause.NewTail = omega arith
 number_some cause.NewOrder = omega arith
+
+-- A refusal is passed on: a call that judges by the same rules, and first asks one that refuses, says the same.
+pub passed_on : {A B : Type 0} (rs : List Rule) (a : A) (b : B) (r : Refusal) → refuses (number_of r.cause) r.index ≡ judge rs a → refuses (number_of r.cause) r.index ≡ judge rs b
+passed_on rs a b r e = sym (refuses_any rs a b (number_of r.cause) r.index (sym e))

@@ -5,6 +5,7 @@ pub mod Shown
 pub mod Judged
 pub mod Replies
 pub mod Ranked
+pub mod Caused
 pub mod Answered
 pub mod Waived
 pub mod Examples

@@ -7,6 +7,7 @@ pub mod SizedTested
 pub mod SizedAccepted
 pub mod SizedTables
 pub mod SizedMasking
+pub mod Caused
 pub mod SizedAlone
 pub mod SizedChecking
 pub mod AtEight

@@ -2,6 +2,7 @@
 // records can the result have at most.
 
 ghost use Rattle.std.specs.Prelude.{◌≡◌, ◌+◌, ◌^◌, ◌<◌};
+ghost use Rattle.calls.specs.Rewriting.{takes_set};
 ghost use Rattle.calls.specs.Modes.{mode_number, Names, FilledBy, RankedBy};
 
 use hops::NO_HOP;
@@ -42,6 +43,13 @@ impl TryFrom<u32> for Mode {
 }
 
 impl Mode {
+    // Does the mode take a set's table?
+    pub fn takes_set(self) -> bool
+        ensures { result ≡ takes_set (mode_number self) }
+    {
+        self == Mode::Set
+    }
+
     // The hop of what has no route: the default, which must be one, where the mode fills, and none in the others.
     pub fn fill(self, default: u32) -> Result<u8, Cause>
         ensures { FilledBy (mode_number self) default result }

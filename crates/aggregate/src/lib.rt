@@ -29,7 +29,7 @@ use words::key::masked_key;
 fn clear(work: &mut [u32])
     ensures { work.new ≡ replicate (length work.old) 0 }
 {
-    rooms::words::fill(work, 0);
+    work.fill(0);
 }
 
 // Is the mode not 1 to 5?

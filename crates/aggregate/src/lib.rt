@@ -31,7 +31,7 @@ use words::key::masked_key;
 fn clear(work: &mut [u32])
     ensures { work.new ≡ replicate (length work.old) 0 }
 {
-    rooms::words::fill(work, 0);
+    work.fill(0);
 }
 
 // The rewrite of a table that keeps the rules and has so many records, in a room that is long enough. Where the output might be too short, a

@@ -32,12 +32,10 @@ put_at {ws} {at} {at₁} {r} {r₁} {o} {o'} {o₁} e f g p =
 
 -- A list of one value is that throughout, and so is its end.
 pub all_replicate : (v n : ℕ) → all_are v (replicate n v) ≡ true
-unfolding all_are
 all_replicate v zero = refl
 all_replicate v (suc n) = ap (◌&& all_are v (replicate n v)) (eq-eqb v v refl) ∙ all_replicate v n
 
 pub all_dropped : (v k n : ℕ) → all_are v (drop k (replicate n v)) ≡ true
-unfolding all_are
 all_dropped v zero n = all_replicate v n
 all_dropped v (suc k) zero = refl
 all_dropped v (suc k) (suc n) = all_dropped v k n

@@ -153,7 +153,7 @@ pub fn keep_work(outlet: &mut Outlet<Stdout>, work: &[u32], at: usize, kept: &mu
     requires in_bounds { 262144 ≤ length kept.old }
     ensures { all_are 0 work.now ≡ true → (result ≡ at) × (kept.new ≡ kept.old) }
 {
-    if rooms::words::are(work, 0, 0) {
+    if rooms::are(work, 0, 0) {
         return at;
     }
     keep_line(outlet, b"work not zero\n", at, kept)
@@ -171,7 +171,7 @@ pub fn keep_output(
     requires in_bounds { 262144 ≤ length kept.old }
     ensures { all_are 165 (drop from output.now) ≡ true → (result ≡ at) × (kept.new ≡ kept.old) }
 {
-    if rooms::bytes::are(output, from, FILLED_BYTE) {
+    if rooms::are(output, from, FILLED_BYTE) {
         return at;
     }
     keep_line(outlet, b"output touched\n", at, kept)

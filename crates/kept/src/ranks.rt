@@ -46,9 +46,7 @@ pub fn as_ranks(bytes: &[u8], ranks: &mut [u16])
     requires { length ranks.old ≡ length bytes.now }
     ensures { ranks.new ≡ bytes.now }
 {
-    let mut i: usize = 0;
-    while i < bytes.len() {
-        ranks[i] = bytes[i] as u16;
-        i += 1;
+    for (i, b) in bytes.iter().enumerate() {
+        ranks[i] = u16::from(*b);
     }
 }

@@ -53,8 +53,8 @@ fn keep_rewritten(
     ensures { Put (rewrite_answer form table.now mode default ranks.now (length output.old) (length work.old)) (begin_of at) result kept.old kept.new }
 {
     let size = size_of(form);
-    rooms::bytes::fill(output, FILLED_BYTE);
-    rooms::words::fill(work, FILLED_WORD);
+    output.fill(FILLED_BYTE);
+    work.fill(FILLED_WORD);
     let answer = rewrite(
         table,
         form,
@@ -88,7 +88,7 @@ fn keep_plain(
     ensures { Put (plain_answer form table.now mode default ranks.now (length output.old)) (begin_of at) result kept.old kept.new }
 {
     let size = size_of(form);
-    rooms::bytes::fill(output, FILLED_BYTE);
+    output.fill(FILLED_BYTE);
     let answer = plain::rewrite(table, form, mode as u32, default as u32, ranks, output);
     let begin = room_for(outlet, kept, at);
     let end = put_rewritten(answer, output, size, true, 1 < mode, begin, kept);
@@ -139,7 +139,7 @@ fn keep_covers(
     requires in_bounds { 262144 ≤ length kept.old }
     ensures { Put (cover_answer form table.now address len (length work.old)) (begin_of at) result kept.old kept.new }
 {
-    rooms::words::fill(work, FILLED_WORD);
+    work.fill(FILLED_WORD);
     let answer = covers(table, form, address, len as u32, work);
     let begin = room_for(outlet, kept, at);
     let end = put_covers(answer, begin, kept);
@@ -203,7 +203,7 @@ pub fn list_text(
     ensures { Put (list_answer form table.now (length output.old)) 0 result text.old text.new }
 {
     let size = size_of(form);
-    rooms::bytes::fill(output, FILLED_BYTE);
+    output.fill(FILLED_BYTE);
     let answer = unrouted(table, form, output);
     let end = put_listed(answer, output, size, true, true, 0, text);
     keep_output(outlet, output, listed(answer, size), end, text)

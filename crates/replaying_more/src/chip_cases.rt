@@ -53,7 +53,7 @@ fn keep_unless(
     requires in_bounds { 262144 ≤ length kept.old }
     ensures { all_are value (drop from image.now) ≡ true → (result ≡ at) × (kept.new ≡ kept.old) }
 {
-    if rooms::bytes::are(image, from, value) {
+    if rooms::are(image, from, value) {
         return at;
     }
     keep_line(outlet, line, at, kept)
@@ -95,7 +95,7 @@ fn keep_chip(
     requires in_bounds { 262144 ≤ length kept.old }
     ensures { Put (chip_answer form table.now (length image.old)) (begin_of at) result kept.old kept.new }
 {
-    rooms::bytes::fill(image, FILLED_BYTE);
+    image.fill(FILLED_BYTE);
     let answer = chip::load(table, form, image);
     let begin = room_for(outlet, kept, at);
     let end = put_loaded(answer, image, begin, kept);

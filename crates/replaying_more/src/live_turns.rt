@@ -14,7 +14,7 @@ fn live_lines(commands: &[u8], room: &mut [u32], before: &mut [u32], text: &mut 
     requires in_bounds { 524288 ≤ length text.old }
     ensures { Put (live_answer commands.now (length room.old)) 0 result text.old text.new }
 {
-    rooms::words::fill(room, FILLED_WORD);
+    room.fill(FILLED_WORD);
     put_commands(commands, room, before, 0, text)
 }
 

@@ -4,11 +4,11 @@
 mod edition_5735;
 mod edition_6890;
 
-ghost use Rattle.std.specs.Prelude.{◌≡◌};
-ghost use Rattle.records.specs.Wire.{routes};
+ghost use Rattle.std.specs.Prelude.{◌≡◌, ◌<◌};
+ghost use Rattle.records.specs.Wire.{routes, records, route_at};
 ghost use Rattle.records.specs.Sized.{route};
 ghost use Rattle.refusals.specs.Rules.{gives};
-ghost use Rattle.special.specs.Ranges.{Ranges, is_special, first_special};
+ghost use Rattle.special.specs.Ranges.{Ranges, lies_in, is_special, first_special};
 ghost use Rattle.special.specs.Calls.{special_says, ranges_reply, special_reply};
 
 use edition_5735::rfc_5735;
@@ -25,20 +25,28 @@ pub enum Special {
     Refused { number: u8, index: usize },
 }
 
+// Does the prefix lie in range i?
+fn lies_at(ranges: &[u8], i: usize, addr: u32, len: u8) -> bool
+    requires { Ranges ranges.now × (i < records ranges.now) }
+    ensures { result ≡ lies_in 32 (route_at ranges.now i) (route addr len 0) }
+{
+    contains(addr_at(ranges, i), len_at(ranges, i), addr, len)
+}
+
 // Does the prefix lie in one of the ranges?
 fn is_special(ranges: &[u8], addr: u32, len: u8) -> bool
     requires { Ranges ranges.now }
     ensures { result ≡ is_special 32 (routes ranges.now) (route addr len 0) }
 {
-    let n = ranges.len() / 8;
-    let mut i = 0;
-    while i < n {
-        if contains(addr_at(ranges, i), len_at(ranges, i), addr, len) {
-            return true;
-        }
-        i += 1;
-    }
-    false
+    (0..ranges.len() / 8).any(|i| lies_at(ranges, i, addr, len))
+}
+
+// Does record i of a table lie in one of the ranges?
+fn is_special_at(table: &[u8], i: usize, ranges: &[u8]) -> bool
+    requires { Ranges ranges.now × (i < records table.now) }
+    ensures { result ≡ is_special 32 (routes ranges.now) (route_at table.now i) }
+{
+    is_special(ranges, addr_at(table, i), len_at(table, i))
 }
 
 // The first record of a table that lies in one of the ranges.
@@ -46,15 +54,10 @@ fn first_special(table: &[u8], ranges: &[u8]) -> Special
     requires { Ranges ranges.now }
     ensures { special_says result ≡ gives (first_special 32 (routes ranges.now) (routes table.now)) }
 {
-    let n = table.len() / 8;
-    let mut i = 0;
-    while i < n {
-        if is_special(ranges, addr_at(table, i), len_at(table, i)) {
-            return Special::At(i);
-        }
-        i += 1;
+    match (0..table.len() / 8).find(|i| is_special_at(table, *i, ranges)) {
+        Some(i) => Special::At(i),
+        None => Special::Nothing,
     }
-    Special::Nothing
 }
 
 // The same of an accepted map's table, or the refusal (3 to 8).

@@ -12,4 +12,4 @@ pub returns : goal.returns
 unfolding live_answer
 returns c =
     let commands = c.args.commands.now in
-    put_as (ap (λ (room : List ℕ). lines_of commands (length commands / 8) room) c.fill.ensures) c.put_commands.ensures
+    put_as (ap (λ (room : List ℕ). lines_of commands (length commands / 8) room) (c.fill.ensures.after (λ y e. e))) c.put_commands.ensures

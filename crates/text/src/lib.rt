@@ -1,4 +1,5 @@
 // The text of answers, as document 01's programs print it: laid into a lent buffer from a place on. Each function says where its text ends.
+// Functions in place of `Display`: each promises the bytes that it lays in memory of fixed size, which a formatter would not say.
 
 #![tactic(auto)]
 
@@ -66,10 +67,11 @@ pub fn put_dotted(address: u32, at: usize, out: &mut [u8]) -> usize
     ensures put { Put (dotted address ++ (47 ∷ [])) at result out.old out.new }
     ensures upper_bound { result ≤ at + 16 }
 {
-    let first = put_octet((address / 16777216) as u8, b'.', at, out);
-    let second = put_octet((address / 65536 % 256) as u8, b'.', first, out);
-    let third = put_octet((address / 256 % 256) as u8, b'.', second, out);
-    put_octet((address % 256) as u8, b'/', third, out)
+    let [a, b, c, d] = address.to_be_bytes();
+    let first = put_octet(a, b'.', at, out);
+    let second = put_octet(b, b'.', first, out);
+    let third = put_octet(c, b'.', second, out);
+    put_octet(d, b'/', third, out)
 }
 
 // Where not all that is left is zero, a group of 16 bits in hex, without leading zeros, and a colon.

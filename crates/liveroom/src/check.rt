@@ -9,6 +9,7 @@ ghost use Rattle.liveroom.specs.Rooms.{shown_from, sound};
 ghost use Rattle.liveroom.specs.Inner.{Holds, held_nodes, passed_nodes, prior_at, with_at};
 
 use super::fields::{addr_in, comes_before, hop_in, len_in};
+use crate::MARK;
 use nodecount::new_nodes;
 use words::prefix::host_bits_clear;
 
@@ -74,7 +75,7 @@ pub fn nodes_held(room: &[u32]) -> usize
     if size < 160 {
         return 0;
     }
-    if room[0] != 1818850917 {
+    if room[0] != MARK {
         return 0;
     }
     if 1024 < room[1] {

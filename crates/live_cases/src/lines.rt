@@ -6,7 +6,6 @@ ghost use Rattle.lookup.specs.Calls.{lookup_says};
 ghost use Rattle.text.specs.Text.{Put};
 ghost use Rattle.live_cases.specs.Lines.{kept_line, look_line};
 
-use super::copies::same;
 use live::answers::Kept;
 use lookup::answers::Lookup;
 use text::{put_bytes, put_found, put_refused};
@@ -41,7 +40,7 @@ pub fn put_touched(before: &[u32], room: &[u32], at: usize, out: &mut [u8]) -> u
     requires at_in_bounds { at + 13 ≤ length out.old }
     ensures { before.now ≡ room.now → (result ≡ at) × (out.new ≡ out.old) }
 {
-    if same(before, room) {
+    if before == room {
         return at;
     }
     put_bytes(b"room touched\n", at, out)

@@ -11,21 +11,12 @@ use lib.Seq.{drop-drop}
 use Rattle.tabletext.specs.Pieces.{is, place, has, up_to, behind, unblank, number}
 use Rattle.tabletext.specs.Lines.{end_of_map, said}
 use Rattle.tabletext.specs.Reading.{on_first, lines_in, with_line, read_lines}
-use Rattle.tabletext.specs.declared.Reason.TheVariants.{NotHop, MoreWords}
 use Rattle.tabletext.specs.declared.Said.{Said}
-use Rattle.tabletext.specs.declared.Said.TheVariants.{Record, Wrong}
+use Rattle.tabletext.specs.declared.Said.TheVariants.{Record}
 
 -- ---- The hop of a map's line.
 
 module _ (addr len : ℕ) (rest : List ℕ) (some : length rest ≡ 0 → ⊥) where
-  pub map_more : (length (unblank (behind 32 rest)) ≡ 0 → ⊥) → Wrong MoreWords ≡ end_of_map addr len rest
-  unfolding end_of_map
-  map_more h = rw (ne_eqb (length rest) 0 some, ne_eqb (length (unblank (behind 32 rest))) 0 h)
-
-  pub map-high : length (unblank (behind 32 rest)) ≡ 0 → 64 ≤ number (up_to 32 rest) → Wrong NotHop ≡ end_of_map addr len rest
-  unfolding end_of_map
-  map-high h high = rw (ne_eqb (length rest) 0 some, eq-eqb (length (unblank (behind 32 rest))) 0 h, le-ltb (number (up_to 32 rest)) 64 high)
-
   pub map-hop : length (unblank (behind 32 rest)) ≡ 0 → number (up_to 32 rest) < 64 → Record addr len (number (up_to 32 rest)) ≡ end_of_map addr len rest
   unfolding end_of_map
   map-hop h low = rw (ne_eqb (length rest) 0 some, eq-eqb (length (unblank (behind 32 rest))) 0 h, lt-ltb (number (up_to 32 rest)) 64 low)

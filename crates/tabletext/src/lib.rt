@@ -78,22 +78,14 @@ fn store(what: Said, k: usize, n: usize, out: &mut [u8], lines: &mut [usize]) ->
 }
 
 // A text without its byte order mark.
+#[tactic(auto, unfolding(crate::specs::Reading::unmarked, crate::specs::Reading::marked))]
 fn unmarked(text: &[u8]) -> &[u8]
     ensures { result.now ≡ unmarked text.now }
 {
-    if text.len() < 3 {
-        return text;
+    match text {
+        [0xEF, 0xBB, 0xBF, rest @ ..] => rest,
+        _ => text,
     }
-    if text[0] != 239 {
-        return text;
-    }
-    if text[1] != 187 {
-        return text;
-    }
-    if text[2] != 191 {
-        return text;
-    }
-    &text[3..]
 }
 
 // Reads the lines of a text into rooms that are long enough.

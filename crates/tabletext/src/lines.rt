@@ -7,17 +7,14 @@ use crate::pieces::{behind, number, place, prefix_address, prefix_length, unblan
 use crate::{Reason, Said};
 
 // A line without a carriage return at its end.
+#[tactic(auto, unfolding(crate::specs::Lines::unreturned))]
 fn unreturned(line: &[u8]) -> &[u8]
     ensures { result.now ≡ unreturned line.now }
 {
-    if line.len() == 0 {
-        return line;
+    match line {
+        [rest @ .., b'\r'] => rest,
+        _ => line,
     }
-    let last = line.len() - 1;
-    if line[last] == 13 {
-        return &line[..last];
-    }
-    line
 }
 
 // A set's record, behind whose prefix this stands.

@@ -1,67 +1,59 @@
 // Pieces of a line: what stands before a byte and behind it, words, numbers, addresses.
 
 ghost use Rattle.std.specs.Prelude.{◌≡◌, ◌||◌, ◌&&◌, ◌≤◌, ◌<◌, eqb, length};
+ghost use Rattle.std.specs.List.{position};
 ghost use Rattle.tabletext.specs.Pieces.{is, place, up_to, behind, unblank, digit_from, number, joined, address, is_default, prefix_address, prefix_length};
 
 // Is x the byte b? A tab counts as a space.
 fn is(b: u8, x: u8) -> bool
     ensures { result ≡ is b x }
 {
-    if x == b {
-        return true;
-    }
-    if b != 32 {
-        return false;
-    }
-    x == 9
+    x == b || (b == b' ' && x == b'\t')
+}
+
+// Where the first b stands.
+fn find(s: &[u8], b: u8) -> Option<usize>
+    ensures { result ≡ position (is b) s.now }
+{
+    s.iter().position(|x| is(b, *x))
 }
 
 // How many bytes stand before the first b.
 pub fn place(s: &[u8], b: u8) -> usize
     ensures { (result ≡ place b s.now) × (result ≤ length s.now) }
 {
-    let mut i: usize = 0;
-    while i < s.len() {
-        if is(b, s[i]) {
-            return i;
-        }
-        i += 1;
-    }
-    i
+    find(s, b).unwrap_or(s.len())
 }
 
 // What stands before the first b.
+#[tactic(auto, unfolding(crate::specs::Pieces::up_to))]
 pub fn up_to(s: &[u8], b: u8) -> &[u8]
     ensures { result.now ≡ up_to b s.now }
 {
-    let end = place(s, b);
-    &s[..end]
+    &s[..place(s, b)]
 }
 
 // What stands behind the first b.
+#[tactic(auto, unfolding(crate::specs::Pieces::behind))]
 pub fn behind(s: &[u8], b: u8) -> &[u8]
     ensures { result.now ≡ behind b s.now }
 {
-    let end = place(s, b);
-    if end < s.len() {
-        let next = end + 1;
-        return &s[next..];
+    match &s[place(s, b)..] {
+        [_, rest @ ..] => rest,
+        none => none,
     }
-    &s[end..]
 }
 
 // What stands behind the blanks at the beginning.
+#[tactic(auto, unfolding(crate::specs::Pieces::unblank))]
 pub fn unblank(s: &[u8]) -> &[u8]
     ensures { result.now ≡ unblank s.now }
 {
-    let mut i: usize = 0;
-    while i < s.len() {
-        if !is(32, s[i]) {
-            return &s[i..];
-        }
-        i += 1;
+    let mut rest = s;
+    while let [b' ' | b'\t', more @ ..] = rest {
+        rest = more;
     }
-    &s[i..]
+    rest
 }
 
 // The value of a digit from `low` to 9; 1,000 for any other byte.
@@ -127,31 +119,11 @@ fn address(s: &[u8]) -> u64
 }
 
 // Is a word `default`?
+#[tactic(auto, unfolding(crate::specs::Pieces::is_default))]
 fn is_default(s: &[u8]) -> bool
     ensures { result ≡ is_default s.now }
 {
-    if s.len() != 7 {
-        return false;
-    }
-    if s[0] != 100 {
-        return false;
-    }
-    if s[1] != 101 {
-        return false;
-    }
-    if s[2] != 102 {
-        return false;
-    }
-    if s[3] != 97 {
-        return false;
-    }
-    if s[4] != 117 {
-        return false;
-    }
-    if s[5] != 108 {
-        return false;
-    }
-    s[6] == 116
+    matches!(s, b"default")
 }
 
 // The address of a prefix, as it is written; 2 ^ 32 where it is none.

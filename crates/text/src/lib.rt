@@ -1,10 +1,11 @@
 // The text of answers, as document 01's programs print it: laid into a lent buffer from a place on. Each function says where its text ends.
+// Functions in place of `Display`: each promises the bytes that it lays in memory of fixed size, which a formatter would not say.
 
 #![tactic(auto)]
 
 pub mod answers;
 
-ghost use Rattle.std.specs.Prelude.{◌≡◌, [], ◌∷◌, ◌++◌, ◌+◌, ◌-◌, ◌*◌, ◌/◌, ◌^◌, ◌≤◌, ◌<◌, nat_abs, length};
+ghost use Rattle.std.specs.Prelude.{◌≡◌, [], ◌∷◌, ◌++◌, ◌+◌, ◌-◌, ◌*◌, ◌/◌, ◌^◌, ◌≤◌, ◌<◌, length};
 ghost use Rattle.records.specs.Sized.{IsSize, width_in, records_in, route_in, routes_in};
 ghost use Rattle.text.specs.Ipv6.{hex16, ipv6, group_part};
 ghost use Rattle.text.specs.Text.{Put, decimal, signed, dotted, hop_end, address_in, line_in, lines_in, change_line, refused_line, found_line, addresses_line, unrouted_line, total_end};
@@ -25,12 +26,8 @@ pub fn put_bytes(bytes: &[u8], at: usize, out: &mut [u8]) -> usize
     requires { at + length bytes.now ≤ length out.old }
     ensures { Put bytes.now at result out.old out.new }
 {
-    let mut end = at;
-    let mut i: usize = 0;
-    while i < bytes.len() {
-        end = put_byte(bytes[i], end, out);
-        i += 1;
-    }
+    let end = at + bytes.len();
+    out[at..end].copy_from_slice(bytes);
     end
 }
 
@@ -61,7 +58,7 @@ pub fn put_last(n: u64, at: usize, out: &mut [u8]) -> usize
     ensures upper_bound { result ≤ at + 21 }
 {
     let end = put_decimal(n, at, out);
-    put_byte(10, end, out)
+    put_byte(b'\n', end, out)
 }
 
 // An address as four numbers with dots between them, and a slash.
@@ -70,10 +67,11 @@ pub fn put_dotted(address: u32, at: usize, out: &mut [u8]) -> usize
     ensures put { Put (dotted address ++ (47 ∷ [])) at result out.old out.new }
     ensures upper_bound { result ≤ at + 16 }
 {
-    let first = put_octet((address / 16777216) as u8, 46, at, out);
-    let second = put_octet((address / 65536 % 256) as u8, 46, first, out);
-    let third = put_octet((address / 256 % 256) as u8, 46, second, out);
-    put_octet((address % 256) as u8, 47, third, out)
+    let [a, b, c, d] = address.to_be_bytes();
+    let first = put_octet(a, b'.', at, out);
+    let second = put_octet(b, b'.', first, out);
+    let third = put_octet(c, b'.', second, out);
+    put_octet(d, b'/', third, out)
 }
 
 // Where not all that is left is zero, a group of 16 bits in hex, without leading zeros, and a colon.
@@ -88,7 +86,7 @@ fn put_group(group: u16, left: u64, at: usize, out: &mut [u8]) -> usize
     let mut text = [0u8; 16];
     let k = io::hex(group as u64, 1, &mut text);
     let end = put_bytes(&text[..k], at, out);
-    put_byte(58, end, out)
+    put_byte(b':', end, out)
 }
 
 // An address of 64 bits as the upper half of an IPv6 address, and a slash: the groups up to the last that is not zero, and `::`.
@@ -119,7 +117,7 @@ pub fn put_hex16(address: u64, at: usize, out: &mut [u8]) -> usize
     let mut text = [0u8; 16];
     let k = io::hex(address, 16, &mut text);
     let end = put_bytes(&text[..k], at, out);
-    put_byte(47, end, out)
+    put_byte(b'/', end, out)
 }
 
 // A length and, where `hops` says so, one space and the hop; and the line feed.
@@ -129,10 +127,10 @@ pub fn put_ending(len: u8, hop: u8, hops: bool, at: usize, out: &mut [u8]) -> us
     ensures upper_bound { result ≤ at + 8 }
 {
     if hops {
-        let end = put_octet(len, 32, at, out);
-        put_octet(hop, 10, end, out)
+        let end = put_octet(len, b' ', at, out);
+        put_octet(hop, b'\n', end, out)
     } else {
-        put_octet(len, 10, at, out)
+        put_octet(len, b'\n', at, out)
     }
 }
 
@@ -191,21 +189,11 @@ pub fn put_records(
     ensures put { Put (lines_in size hex hops (routes_in size table.now)) at result out.old out.new }
     ensures upper_bound { result ≤ at + 3 * length table.now }
 {
-    let n = table.len() / size;
     let mut end = at;
-    let mut i: usize = 0;
-    while i < n {
+    for i in 0..table.len() / size {
         end = put_record(table, size, i, hex, hops, end, out);
-        i += 1;
     }
     end
-}
-
-// How far a number is from 0.
-fn distance(n: i64) -> u64
-    ensures { result ≡ nat_abs n }
-{
-    if n < 0 { (-1 - n) as u64 + 1 } else { n as u64 }
 }
 
 // A number with a sign only if it is negative.
@@ -215,10 +203,10 @@ fn put_signed(n: i64, at: usize, out: &mut [u8]) -> usize
     ensures upper_bound { result ≤ at + 21 }
 {
     if n < 0 {
-        let begin = put_byte(45, at, out);
-        put_decimal(distance(n), begin, out)
+        let begin = put_byte(b'-', at, out);
+        put_decimal(n.unsigned_abs(), begin, out)
     } else {
-        put_decimal(distance(n), at, out)
+        put_decimal(n.unsigned_abs(), at, out)
     }
 }
 
@@ -229,7 +217,7 @@ pub fn put_change(change: i64, at: usize, out: &mut [u8]) -> usize
 {
     let word = put_bytes(b"change ", at, out);
     let end = put_signed(change, word, out);
-    put_byte(10, end, out)
+    put_byte(b'\n', end, out)
 }
 
 // The line `refused N at I`.
@@ -238,7 +226,7 @@ pub fn put_refused(number: u8, index: usize, at: usize, out: &mut [u8]) -> usize
     ensures { Put (refused_line number index) at result out.old out.new }
 {
     let word = put_bytes(b"refused ", at, out);
-    let end = put_octet(number, 32, word, out);
+    let end = put_octet(number, b' ', word, out);
     let place = put_bytes(b"at ", end, out);
     put_last(index as u64, place, out)
 }
@@ -249,9 +237,9 @@ pub fn put_found(hop: u8, len: u8, at: usize, out: &mut [u8]) -> usize
     ensures { Put (found_line hop len) at result out.old out.new }
 {
     let word = put_bytes(b"hop ", at, out);
-    let end = put_octet(hop, 32, word, out);
+    let end = put_octet(hop, b' ', word, out);
     let place = put_bytes(b"length ", end, out);
-    put_octet(len, 10, place, out)
+    put_octet(len, b'\n', place, out)
 }
 
 // The line `addresses N`.

@@ -3,18 +3,15 @@ use Prim.Native.Nat.{ℕ, ◌+◌}
 use mathlib.Core.List.{List}
 use mathlib.Core.Path.{ap, ◌∙◌}
 use native.Mathlib.Omega.{arith}
-use lib.ListN.{length-set, set}
+use lib.ListN.{set}
 use Rattle.records.specs.Sized.{route}
 use Rattle.liveroom.specs.Inner.{written}
 use Rattle.liveroom.proofs.Moving.{insert_is}
 use Rattle.liveroom.proofs.changes.insert.Goals as goal
 
-pub shape_of-room : goal.shape_of-room
-shape_of-room c = length-set c.set_record.new.room 1 _ ∙ c.set_record.auto.room ∙ c.move_up.auto.room
-
 pub returns : goal.returns
 returns c =
     let a = c.args in
     let r = route a.addr a.len a.hop in
-    ap (λ (u : List ℕ). set u 1 (a.n + 1)) (c.set_record.ensures ∙ ap (λ (u : List ℕ). written u a.at r) c.move_up.ensures)
+    ap (λ (u : List ℕ). set u 1 (a.n + 1)) (c.set_record.ensures ∙ ap (λ (u : List ℕ). written u a.at r) c.copy_within.ensures.after)
     ∙ insert_is a.room.now a.n a.at r (omega arith) (omega arith)

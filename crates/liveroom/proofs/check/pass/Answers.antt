@@ -43,8 +43,6 @@ loop-i-init c =
     let some : 0 < a.n = pos a.n c.if-n-eq0.false in
     let e : 1 + passed 32 root (rest_in a.room.now a.n 0) ≡ 1 + passed 32 root (shown_from a.room.now 0 a.n) =
     ap (λ (t : List Route). 1 + passed 32 root t) (rest_all a.room.now a.n 0 refl) in (
-      omega arith,
-      some,
       sound-short _ _ c.hop_in.result first-sound,
       omega (arith, c.brought-count.ensures.1),
       first_good a.room.now a.n 0 _ _ _ some c.addr_in-last_addr.ensures c.len_in-last_len.ensures c.hop_in.ensures refl
@@ -58,7 +56,7 @@ returns-then-not-follows c =
     let a = c.args in
     let l = c.loop-i in
     passed_false a.room.now a.n
-    (l.invariant.4
+    (l.invariant.2
     ∙ next_bad a.room.now a.n l.i _ _ _ c.loop-i-test.true c.addr_in-addr.ensures c.len_in-len.ensures
     c.hop_in-in-loop-i.ensures (bare l.last_addr l.last_len) (sym c.follows.ensures ∙ c.if-not-follows.true))
 
@@ -82,15 +80,13 @@ loop-i-preserved c =
     let l = c.loop-i in
     let lt : l.i < a.n = c.loop-i-test.true in
     let b = c.brought-count-in-loop-i.ensures in (
-      omega arith,
-      omega arith,
       follows_short (bare l.last_addr l.last_len) _ _ c.hop_in-in-loop-i.result went,
       omega arith,
-      l.invariant.4
+      l.invariant.2
           ∙ next_good a.room.now a.n l.i _ _ _ lt c.addr_in-addr.ensures c.len_in-len.ensures c.hop_in-in-loop-i.ensures
           (bare l.last_addr l.last_len) went,
       next-count a.room.now a.n l.i _ _ _ lt c.addr_in-addr.ensures c.len_in-len.ensures c.hop_in-in-loop-i.ensures
-          (bare l.last_addr l.last_len) l.count _ _ b.0 l.invariant.5,
+          (bare l.last_addr l.last_len) l.count _ _ b.0 l.invariant.3,
     )
 
 pub returns : goal.returns
@@ -99,5 +95,5 @@ returns c =
     let l = c.loop-i in
     let end : a.n ≤ l.i = c.loop-i-test.false in
     passed_true a.room.now a.n l.count (λ k. (c.type_inv.room k).fits)
-    (l.invariant.4 ∙ done_order a.room.now a.n l.i (bare l.last_addr l.last_len) end)
-    (omega (arith, l.invariant.5, done_count a.room.now a.n l.i (bare l.last_addr l.last_len) end))
+    (l.invariant.2 ∙ done_order a.room.now a.n l.i (bare l.last_addr l.last_len) end)
+    (omega (arith, l.invariant.3, done_count a.room.now a.n l.i (bare l.last_addr l.last_len) end))

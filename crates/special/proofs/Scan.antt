@@ -4,12 +4,14 @@ use mathlib.Core.Bool.{Bool, true, false, ◌||◌, cond}
 use mathlib.Core.List.{List, [], ◌∷◌}
 use Prim.Native.Nat.{ℕ, zero, suc, ◌+◌}
 use native.Mathlib.Numerals.{add-one}
+use Rattle.std.specs.Option.{option_map}
+use Rattle.special.specs.Calls.{place_of}
 use Rattle.std.specs.Prelude.{Option, None, Some}
 use Rattle.std.specs.List.{list_any, find, range_with_len}
 use Rattle.theory.specs.Routes.{Route}
 use Rattle.records.specs.Wire.{route_at, records, routes, routes_from}
 use Rattle.records.specs.Sized.{route, routes_from_in, routes_in}
-use Rattle.special.specs.Ranges.{lies_in, is_special, Place, nowhere, at, first_from, first_special}
+use Rattle.special.specs.Ranges.{lies_in, is_special, at, first_from, first_special}
 
 -- A route's hop does not matter.
 pub any_hop : (w : ℕ) (ranges : List Route) (r : Route) → is_special w ranges (route r.addr r.len 0) ≡ is_special w ranges r
@@ -30,10 +32,9 @@ module _ (t : List ℕ) (q : Route) where
 
 -- ---- Through the records t of a table.
 
--- The place by its number, if there is one.
-abbrev pub place_of : Option ℕ → Place
-place_of None = nowhere
-place_of (Some i) = at i
+pub place_kept : (o : Option ℕ) → place_of (option_map (λ (i : ℕ). i) o) ≡ place_of o
+place_kept None = refl
+place_kept (Some i) = refl
 
 module _ (ranges : List Route) (t : List ℕ) where
   found_from : (i k : ℕ) → place_of (find (λ j. is_special 32 ranges (route_at t j)) (range_with_len i k)) ≡ first_from 32 ranges i (routes_from t i k)

@@ -2,7 +2,7 @@
 // each position.
 #![tactic(auto)]
 
-ghost use Rattle.std.specs.Prelude.{◌≡◌, ℕ, ◌+◌, ◌-◌, ◌*◌, ◌/◌, ◌^◌, ◌≤◌, ◌<◌, eqb, false, ◌||◌, length, get_or};
+ghost use Rattle.std.specs.Prelude.{◌≡◌, ℕ, ◌+◌, ◌-◌, ◌*◌, ◌/◌, ◌^◌, ◌≤◌, ◌<◌, eqb, true, false, ◌||◌, length, get_or};
 ghost use Rattle.theory.specs.Results.{In};
 ghost use Rattle.records.specs.Sized.{IsSize, records_in};
 ghost use Rattle.words.specs.Bits.{bit};
@@ -85,25 +85,6 @@ pub fn with_slot(occupied: u32, b: usize) -> u32
     }
 }
 
-// The first of the records i..hi, of 8 bytes each, that stands after the address `last`; hi where none does. The addresses are compared as the
-// table has them, which is quicker than moving each up.
-fn first_past_short(table: &[u8], i: usize, hi: usize, last: u64) -> usize
-    requires { (i ≤ hi) × (hi ≤ records_in 8 table.now) }
-    ensures lower_bound { (i ≤ result) × (result ≤ hi) }
-    ensures by_index { (k : ℕ) → i ≤ k → k < result → (wide_at 8 table.now k).addr ≤ last * 2 }
-    ensures last_bound { result < hi → last * 2 < (wide_at 8 table.now result).addr }
-{
-    let limit = (last >> 32) as u32;
-    let mut at = i;
-    while at < hi {
-        if limit < addr_at(table, at) {
-            return at;
-        }
-        at += 1;
-    }
-    at
-}
-
 // The address of record i where a record has 16 bytes: half of its wide address, had without asking the size.
 fn long_half_at(table: &[u8], i: usize) -> u64
     requires { i < records_in 16 table.now }
@@ -112,24 +93,24 @@ fn long_half_at(table: &[u8], i: usize) -> u64
     masked_key(oct_at(table, 16 * i), length_at(table, 16, i))
 }
 
-// The first of the records i..hi, of 16 bytes each, that stands after the address `last`; hi where none does.
-fn first_past_long(table: &[u8], i: usize, hi: usize, last: u64) -> usize
-    requires { (i ≤ hi) × (hi ≤ records_in 16 table.now) }
-    ensures lower_bound { (i ≤ result) × (result ≤ hi) }
-    ensures by_index { (k : ℕ) → i ≤ k → k < result → (wide_at 16 table.now k).addr ≤ last * 2 }
-    ensures last_bound { result < hi → last * 2 < (wide_at 16 table.now result).addr }
+// The first of the numbers i..hi that passes; hi where none does.
+fn first_where<F: Fn(usize) -> bool>(i: usize, hi: usize, passes: F) -> usize
+    requires callable { (k : ℕ) → i ≤ k → k < hi → F.pre passes k }
+    requires i_le_hi { i ≤ hi }
+    ensures bounds { (i ≤ result) × (result ≤ hi) }
+    ensures before { (k : ℕ) → i ≤ k → k < result → F.post passes k false }
+    ensures found { result < hi → F.post passes result true }
 {
-    let mut at = i;
-    while at < hi {
-        if last < long_half_at(table, at) {
-            return at;
+    for k in i..hi {
+        if passes(k) {
+            return k;
         }
-        at += 1;
     }
-    at
+    hi
 }
 
-// The first of the records i..hi that stands after the address `last`; hi where none does. The size is asked once, before the records are read.
+// The first of the records i..hi that stands after the address `last`; hi where none does. The size is asked once, before the records are read, and
+// addresses of 32 bits are compared as the table has them, which is quicker than moving each up.
 pub fn first_past(table: &[u8], size: usize, i: usize, hi: usize, last: u64) -> usize
     requires { IsSize size × ((i ≤ hi) × (hi ≤ records_in size table.now)) }
     ensures lower_bound { (i ≤ result) × (result ≤ hi) }
@@ -137,9 +118,10 @@ pub fn first_past(table: &[u8], size: usize, i: usize, hi: usize, last: u64) -> 
     ensures last_bound { result < hi → last * 2 < (wide_at size table.now result).addr }
 {
     if size == 8 {
-        first_past_short(table, i, hi, last)
+        let limit = (last >> 32) as u32;
+        first_where(i, hi, |at| limit < addr_at(table, at))
     } else {
-        first_past_long(table, i, hi, last)
+        first_where(i, hi, |at| last < long_half_at(table, at))
     }
 }
 
@@ -241,10 +223,8 @@ pub fn covering_values(
     ensures { (l j : ℕ) → l ≤ 4 → j < 2 ^ l → get_or result (position l j) 0 ≡ covering_at size table.now first.now end.now inherited l j }
 {
     let mut hops = [inherited; 31];
-    let mut b: usize = 0;
-    while b < 31 {
+    for b in 0..31 {
         hops[b] = value_at(table, size, first[b], end[b], over_at(&hops, b, inherited));
-        b += 1;
     }
     hops
 }

@@ -6,5 +6,3 @@ use Rattle.gather.proofs.covering_values.Given as goal
 abbrev pub invariant-loop-b : goal.invariant-loop-b
 invariant-loop-b l = (l.b ≤ 31) × Covering l.size l.table l.first l.end l.inherited l.hops l.b
 
-abbrev pub decreases-loop-b : goal.decreases-loop-b
-decreases-loop-b l = 31 - l.b

@@ -24,9 +24,6 @@ loop-i-init c =
       slots-start a.first.now a.end.now p.by_index,
     )
 
-pub bits_at-requires : goal.bits_at-requires
-bits_at-requires c = (c.requires.node.sized, omega (arith, c.requires.node.high))
-
 pub level_of-level-requires : goal.level_of-level-requires
 level_of-level-requires c =
     let a = c.args in
@@ -34,81 +31,6 @@ level_of-level-requires c =
     let n = c.requires.node in
     let w : Within wide (wide - a.depth) (a.key * 2) (wide_at a.size a.table.now l.i) = node-within n l.i l.invariant.0 c.loop-i-test.true in
     (n.at.deep, let d = n.at.deep in omega (arith, w.deep, c.bits_at.ensures))
-
-pub half_at-requires : goal.half_at-requires
-half_at-requires c =
-    let n = c.requires.node in
-    (n.sized, omega (arith, n.high))
-
-pub heap_index-b-requires : goal.heap_index-b-requires
-heap_index-b-requires c =
-    let n = c.requires.node in
-    (n.at.deep, c.level_of-level.ensures.1)
-
-pub place_end-stop-requires : goal.place_end-stop-requires
-place_end-stop-requires c =
-    let is_small : c.heap_index-b.result < 63 = c.heap_index-b.ensures.upper_bound in
-    let n = c.requires.node in record { i_lt_hi = (c.loop-i-test.true, (n.high, n.sized)); b_bound = (is_small, n.at) }
-
-pub offset_bounds-first-b : goal.offset_bounds-first-b
-offset_bounds-first-b c =
-    let is_small : c.heap_index-b.result < 63 = c.heap_index-b.ensures.upper_bound in
-    omega (arith, is_small)
-
-pub bounds-first-b : goal.bounds-first-b
-bounds-first-b c =
-    let is_small : c.heap_index-b.result < 63 = c.heap_index-b.ensures.upper_bound in
-    is_small
-
-pub offset_bounds-end-b : goal.offset_bounds-end-b
-offset_bounds-end-b c =
-    let is_small : c.heap_index-b.result < 63 = c.heap_index-b.ensures.upper_bound in
-    omega (arith, is_small)
-
-pub bounds-end-b : goal.bounds-end-b
-bounds-end-b c =
-    let is_small : c.heap_index-b.result < 63 = c.heap_index-b.ensures.upper_bound in
-    is_small
-
-pub overflow_cast-i-in-loop-i : goal.overflow_cast-i-in-loop-i
-overflow_cast-i-in-loop-i c = omega (arith, c.loop-i-test.true, c.well_formed.1.1.0)
-
-pub offset_bounds-first-b-in-loop-i : goal.offset_bounds-first-b-in-loop-i
-offset_bounds-first-b-in-loop-i c =
-    let is_small : c.heap_index-b.result < 63 = c.heap_index-b.ensures.upper_bound in
-    omega (arith, is_small)
-
-pub bounds-first-b-in-loop-i : goal.bounds-first-b-in-loop-i
-bounds-first-b-in-loop-i c =
-    let is_small : c.heap_index-b.result < 63 = c.heap_index-b.ensures.upper_bound in
-    is_small
-
-pub overflow_cast-end : goal.overflow_cast-end
-overflow_cast-end c = omega (arith, c.place_end-stop.ensures.lower_bound, c.well_formed.1.1.0)
-
-pub offset_bounds-end-b-in-loop-i : goal.offset_bounds-end-b-in-loop-i
-offset_bounds-end-b-in-loop-i c =
-    let is_small : c.heap_index-b.result < 63 = c.heap_index-b.ensures.upper_bound in
-    omega (arith, is_small)
-
-pub bounds-end-b-in-loop-i : goal.bounds-end-b-in-loop-i
-bounds-end-b-in-loop-i c =
-    let is_small : c.heap_index-b.result < 63 = c.heap_index-b.ensures.upper_bound in
-    is_small
-
-pub marked-present-requires : goal.marked-present-requires
-marked-present-requires c =
-    let is_small : c.heap_index-b.result < 63 = c.heap_index-b.ensures.upper_bound in
-    is_small
-
-pub with_slot-occupied-requires : goal.with_slot-occupied-requires
-with_slot-occupied-requires c =
-    let is_small : c.heap_index-b.result < 63 = c.heap_index-b.ensures.upper_bound in
-    is_small
-
-pub loop-i-smaller : goal.loop-i-smaller
-loop-i-smaller c =
-    omega (arith, c.loop-i-test.true, c.place_end-stop.ensures.lower_bound)
 
 pub loop-i-preserved : goal.loop-i-preserved
 loop-i-preserved c =

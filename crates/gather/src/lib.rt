@@ -9,7 +9,7 @@ ghost use Rattle.words.specs.Bits.{bit};
 ghost use Rattle.words.specs.Positions.{position};
 ghost use Rattle.positions.specs.Runs.{size_at, place_at};
 ghost use Rattle.nodes.specs.Node.{wide, slot_size, wide_at, At, Node};
-ghost use Rattle.gather.specs.Gathered.{level_of, Gathered, Occupied, first_of, value_of, over_at, covering_at};
+ghost use Rattle.gather.specs.Gathered.{level_of, Gathered, Occupied, value_of, over_at, covering_at};
 
 use records::addr_at;
 use records::sized::{hop_of, key_at, length_at, oct_at};
@@ -51,38 +51,6 @@ pub fn heap_index(addr: u64, level: usize, depth: usize) -> usize
     ensures upper_bound { result < 63 }
 {
     (((9223372036854775808 + ((addr << depth) >> 1)) >> (63 - level)) - 1) as usize
-}
-
-// Where the records of a place begin, once record i is one of them.
-pub fn first_of(first: u16, end: u16, i: u16) -> u16
-    ensures { result ≡ first_of first end i }
-{
-    if first < end { first } else { i }
-}
-
-// The positions with a record, once place b has one; the places from 31 on are slots.
-pub fn marked(present: u32, b: usize) -> u32
-    requires { b < 63 }
-    ensures by_index { (i : ℕ) → i < 31 → bit result i ≡ (eqb i b || bit present i) }
-    ensures result_value { bit result 31 ≡ bit present 31 }
-{
-    if b < 31 {
-        with_bit(present, b as u32)
-    } else {
-        present
-    }
-}
-
-// The slots with a record, once place b has one; the places from 31 on are slots.
-pub fn with_slot(occupied: u32, b: usize) -> u32
-    requires { b < 63 }
-    ensures { (c : ℕ) → c < 32 → bit result c ≡ (eqb (31 + c) b || bit occupied c) }
-{
-    if b < 31 {
-        occupied
-    } else {
-        with_bit(occupied, (b - 31) as u32)
-    }
 }
 
 // The address of record i where a record has 16 bytes: half of its wide address, had without asking the size.
@@ -156,7 +124,7 @@ pub struct Gathering {
 }
 
 // Gathers a node's run: for each place of its heap the records first[b]..end[b]; the positions that have one, and the slots that have one.
-// The records of a slot follow each other, so the place is found once for all of them.
+// The records of a slot follow each other, so the place is found once for all of them. The first record of a place stays its first.
 pub fn gather_run(
     table: &[u8],
     size: usize,
@@ -181,10 +149,15 @@ pub fn gather_run(
         let level = level_of(bits_at(table, size, i), depth);
         let b = heap_index(half_at(table, size, i), level, depth);
         let stop = place_end(table, size, i, upto, b, depth, key);
-        first[b] = first_of(first[b], end[b], i as u16);
+        if b < 31 {
+            present = with_bit(present, b as u32);
+        } else {
+            occupied = with_bit(occupied, (b - 31) as u32);
+        }
+        if first[b] >= end[b] {
+            first[b] = i as u16;
+        }
         end[b] = stop as u16;
-        present = marked(present, b);
-        occupied = with_slot(occupied, b);
         i = stop;
     }
     Gathering { present, occupied }

@@ -2,7 +2,7 @@
 // each position.
 #![tactic(auto)]
 
-ghost use Rattle.std.specs.Prelude.{◌≡◌, ℕ, ◌+◌, ◌-◌, ◌*◌, ◌/◌, ◌^◌, ◌≤◌, ◌<◌, eqb, true, false, ◌||◌, length, get_or};
+ghost use Rattle.std.specs.Prelude.{◌≡◌, ℕ, ◌+◌, ◌-◌, ◌*◌, ◌/◌, ◌^◌, ◌≤◌, ◌<◌, true, false, length, get_or};
 ghost use Rattle.theory.specs.Results.{In};
 ghost use Rattle.records.specs.Sized.{IsSize, records_in};
 ghost use Rattle.words.specs.Bits.{bit};

@@ -1,4 +1,4 @@
--- `hitless::count_after` meets its contract. Assumes nothing.
+-- `hitless::Change::count_after` meets its contract. Assumes nothing.
 use Prim.Native.Nat.{◌-◌}
 use mathlib.Core.Path.{◌≡◌, sym, ap, ◌∙◌}
 use mathlib.Core.Bool.{not, true, true≢false}
@@ -8,11 +8,11 @@ use Rattle.records.proofs.Reading.{length-routes}
 use Rattle.plans.specs.Following.{step_at}
 use Rattle.plans.proofs.Following.{start_twice}
 use Rattle.plans.proofs.Deciding.{done_start, step_on, step_lost}
-use Rattle.plans.proofs.hitless.count_after.Goals as goal
-use Rattle.plans.proofs.hitless.count_after.Goals.{else-s-ne0-via-then-s-ne0+then-is_none+then-stands-eq-NO_HOP+else-not-is_kept, else-s-ne0-via-then-s-ne0+then-is_none+else-stands-eq-NO_HOP, else-s-ne0-via-then-s-ne0+else-is_none, else-s-ne0-via-else-s-ne0}
+use Rattle.plans.proofs.hitless.Change.count_after.Goals as goal
+use Rattle.plans.proofs.hitless.Change.count_after.Goals.{else-s-ne0-via-then-s-ne0+then-is_none+then-stands-eq-NO_HOP+else-not-is_kept, else-s-ne0-via-then-s-ne0+then-is_none+else-stands-eq-NO_HOP, else-s-ne0-via-then-s-ne0+else-is_none, else-s-ne0-via-else-s-ne0}
 
 pub loop-index-init : goal.loop-index-init
-loop-index-init c = (done_start c.requires, sym (length-routes c.args.installed.now))
+loop-index-init c = (done_start c.requires, sym (length-routes c.args.self.now.installed.now))
 
 pub returns-in_err-count : goal.returns-in_err-count
 returns-in_err-count c =
@@ -37,5 +37,5 @@ loop-index-preserved c =
 
 pub is_kept-requires-clause-prefix : goal.is_kept-requires-clause-prefix
 is_kept-requires-clause-prefix c =
-    let s = step_at c.args.steps.now c.loop-index.index in
+    let s = step_at c.args.self.now.steps.now c.loop-index.index in
     (c.requires.short c.loop-index.index c.loop-index-test.true, rw c.masked-x.ensures (start_twice (32 - s.len) s.addr))

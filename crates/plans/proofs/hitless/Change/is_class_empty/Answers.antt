@@ -1,9 +1,9 @@
--- `hitless::is_class_empty` meets its contract. Assumes nothing.
+-- `hitless::Change::is_class_empty` meets its contract. Assumes nothing.
 use Prim.Native.Nat.{◌-◌}
 use native.Mathlib.Omega.{arith}
 use Rattle.theory.proofs.Blocks.{in_start}
 use Rattle.plans.proofs.Deciding.{end_fits, in_prefix, covered_next}
-use Rattle.plans.proofs.hitless.is_class_empty.Goals as goal
+use Rattle.plans.proofs.hitless.Change.is_class_empty.Goals as goal
 
 pub overflow_cast-y-in-loop-y : goal.overflow_cast-y-in-loop-y
 overflow_cast-y-in-loop-y c =

@@ -1,4 +1,4 @@
--- `hitless::is_hitless` meets its contract. Assumes nothing.
+-- `hitless::Change::is_hitless` meets its contract. Assumes nothing.
 use Prim.Native.Nat.{ℕ}
 use mathlib.Core.Path.{◌≡◌, sym, ◌∙◌}
 use mathlib.Core.Bool.{true, false, true≢false}
@@ -13,7 +13,7 @@ use Rattle.plans.specs.declared.answers.Step.{Step}
 use Rattle.plans.specs.Judging.{Accepts}
 use Rattle.plans.specs.Deciding.{MayFollow, table_after, Done}
 use Rattle.plans.proofs.Deciding.{hitless, count_needed}
-use Rattle.plans.proofs.hitless.is_hitless.Goals as goal
+use Rattle.plans.proofs.hitless.Change.is_hitless.Goals as goal
 
 -- What the count before the end says.
 abbrev Counted : List ℕ → List ℕ → List Step → Option ℕ → Type 0
@@ -31,10 +31,10 @@ not_as_many t u ss may (Some k) h e = count_needed may (λ q. true≢false (sym 
 pub returns-then-eq-clause-yes : goal.returns-then-eq-clause-yes
 returns-then-eq-clause-yes c =
     let a = c.args in
-    let z = as_many a.installed.now a.new.now a.steps.now c.count_after.result c.count_after.ensures (sym c.eq.ensures ∙ c.if-eq.true) in
+    let z = as_many a.self.now.installed.now a.self.now.new.now a.self.now.steps.now c.count_after.result c.count_after.ensures (sym c.eq.ensures ∙ c.if-eq.true) in
     λ y. hitless c.requires z.0 z.1 (c.are_records_kept.ensures.yes y)
 
 pub returns-else-eq-clause-no : goal.returns-else-eq-clause-no
 returns-else-eq-clause-no c =
     let a = c.args in
-    λ y. not_as_many a.installed.now a.new.now a.steps.now c.requires c.count_after.result c.count_after.ensures (sym c.eq.ensures ∙ c.if-eq.false)
+    λ y. not_as_many a.self.now.installed.now a.self.now.new.now a.self.now.steps.now c.requires c.count_after.result c.count_after.ensures (sym c.eq.ensures ∙ c.if-eq.false)

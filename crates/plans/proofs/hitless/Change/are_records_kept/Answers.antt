@@ -1,9 +1,9 @@
--- `hitless::are_records_kept` meets its contract. Assumes nothing.
+-- `hitless::Change::are_records_kept` meets its contract. Assumes nothing.
 use borrow.Author.Count.{below_more}
 use mathlib.Core.Path.{refl}
 use Rattle.plans.proofs.Deciding.{prefix_facts}
-use Rattle.plans.proofs.hitless.are_records_kept.Goals as goal
-use Rattle.plans.proofs.hitless.are_records_kept.Goals.{else-not-is_own_kept-via-then-not-is_own_kept+else-not-is_kept, else-not-is_own_kept-via-else-not-is_own_kept}
+use Rattle.plans.proofs.hitless.Change.are_records_kept.Goals as goal
+use Rattle.plans.proofs.hitless.Change.are_records_kept.Goals.{else-not-is_own_kept-via-then-not-is_own_kept+else-not-is_kept, else-not-is_own_kept-via-else-not-is_own_kept}
 
 pub is_kept-requires-clause-prefix : goal.is_kept-requires-clause-prefix
 is_kept-requires-clause-prefix c =

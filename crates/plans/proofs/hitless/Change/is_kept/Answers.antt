@@ -1,4 +1,4 @@
--- `hitless::is_kept` meets its contract. Assumes nothing.
+-- `hitless::Change::is_kept` meets its contract. Assumes nothing.
 use Prim.Native.Nat.{suc, ◌+◌}
 use mathlib.Core.Path.{◌≡◌, sym, ap, ◌∙◌}
 use mathlib.Core.Bool.{true≢false}
@@ -7,8 +7,8 @@ use lib.ListN.{length, get_or}
 use Rattle.rungs.specs.declared.Rungs.{Rungs}
 use Rattle.plans.proofs.Following.{tracks_start, tracks_held, tracks_other}
 use Rattle.plans.proofs.Deciding.{class_good, class_none, class_lost, class_astray}
-use Rattle.plans.proofs.hitless.is_kept.Goals as goal
-use Rattle.plans.proofs.hitless.is_kept.Goals.{then-s-len+then-holds, else-s-len, else-s-len-via-then-s-len+else-holds, else-s-len-via-else-s-len}
+use Rattle.plans.proofs.hitless.Change.is_kept.Goals as goal
+use Rattle.plans.proofs.hitless.Change.is_kept.Goals.{then-s-len+then-holds, else-s-len, else-s-len-via-then-s-len+else-holds, else-s-len-via-else-s-len}
 
 pub loop-s-init : goal.loop-s-init
 loop-s-init c = rw (c.class_before-class.ensures, c.climb-old.ensures, c.climb-goal.ensures) (tracks_start c.requires.may c.args.x c.args.len c.requires.prefix.0)
@@ -30,21 +30,21 @@ loop-s-preserved c =
 
 pub returns-then-class-clause-yes : goal.returns-then-class-clause-yes
 returns-then-class-clause-yes c =
-    let e : c.loop-s.s-index ≡ length c.args.steps.now = omega arith in
+    let e : c.loop-s.s-index ≡ length c.args.self.now.steps.now = omega arith in
     class_good c.requires.may c.requires.prefix.0 c.requires.prefix.1 (rw e at c.loop-s.invariant) (ap (λ (r : Rungs). get_or r.hops c.args.len 0) c.climb-goal.ensures) c.if-class-goal.true
 
 pub returns-else-class-clause-yes : goal.returns-else-class-clause-yes
 returns-else-class-clause-yes c =
-    let e : c.loop-s.s-index ≡ length c.args.steps.now = omega arith in
+    let e : c.loop-s.s-index ≡ length c.args.self.now.steps.now = omega arith in
     λ y. class_none c.requires.may c.requires.prefix.0 c.requires.prefix.1 (rw e at c.loop-s.invariant) (ap (λ (r : Rungs). get_or r.hops c.args.len 0) c.climb-goal.ensures) c.if-class-goal.true (c.is_class_empty.ensures.yes y)
 
 pub returns-else-class-clause-no : goal.returns-else-class-clause-no
 returns-else-class-clause-no c =
-    let e : c.loop-s.s-index ≡ length c.args.steps.now = omega arith in
+    let e : c.loop-s.s-index ≡ length c.args.self.now.steps.now = omega arith in
     λ y. let z = c.is_class_empty.ensures.no y in
     class_astray c.requires.may c.requires.prefix.0 c.requires.prefix.1 (rw e at c.loop-s.invariant) (ap (λ (r : Rungs). get_or r.hops c.args.len 0) c.climb-goal.ensures) c.if-class.false z.0 z.1 z.2 z.3
 
 pub returns-else-class-goal-clause-no : goal.returns-else-class-goal-clause-no
 returns-else-class-goal-clause-no c =
-    let e : c.loop-s.s-index ≡ length c.args.steps.now = omega arith in
+    let e : c.loop-s.s-index ≡ length c.args.self.now.steps.now = omega arith in
     λ y. class_lost c.requires.may c.requires.prefix.0 c.requires.prefix.1 (rw e at c.loop-s.invariant) (ap (λ (r : Rungs). get_or r.hops c.args.len 0) c.climb-goal.ensures) c.if-class-goal.false

@@ -34,14 +34,7 @@ pub fn is_at(room: &[u32], n: usize, at: usize, addr: u32, len: u32) -> bool
     requires { Holds room.now n }
     ensures { result ≡ is_at room.now n at addr len }
 {
-    if n <= at {
-        return false;
-    }
-    if addr_in(room, at) == addr {
-        len_in(room, at) == len
-    } else {
-        false
-    }
+    at < n && addr_in(room, at) == addr && len_in(room, at) == len
 }
 
 // How many of their first bits two addresses share.
@@ -58,6 +51,7 @@ pub fn longest_in(room: &[u32], n: usize, address: u32) -> Lookup
     ensures { lookup_says result ≡ gives (lookup 32 (shown_from room.now 0 n) address) }
 {
     let mut i = place(room, n, address, 33);
+    // A search finds the next place, so no range goes through them.
     while 0 < i {
         i -= 1;
         let addr = addr_in(room, i);

@@ -33,5 +33,5 @@ pub fn hop_in(room: &[u32], i: usize) -> u32
 pub fn comes_before(a: u32, l: u32, b: u32, m: u32) -> bool
     ensures { result ≡ (ltb a b || (eqb a b && ltb l m)) }
 {
-    a < b || a == b && l < m
+    a < b || (a == b && l < m)
 }

@@ -34,7 +34,9 @@ unblank (x ∷ s) = cond (is 32 x) (unblank s) (x ∷ s)
 abbrev pub none : List ℕ → Bool
 none s = eqb (length s) 0
 
--- ---- What is read of a word: a number below a limit, where there is one. Here what is none counts as the limit or more.
+-- ---- Answers.
+
+-- The answer to n: n itself below a limit, and none at the limit or above, as which what is none counts below.
 abbrev pub Below : ℕ → Option ℕ → ℕ → Type 0
 Below limit None n = limit ≤ n
 Below limit (Some m) n = (m ≡ n) × (n < limit)

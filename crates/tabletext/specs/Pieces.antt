@@ -34,9 +34,7 @@ unblank (x ∷ s) = cond (is 32 x) (unblank s) (x ∷ s)
 abbrev pub none : List ℕ → Bool
 none s = eqb (length s) 0
 
--- ---- Answers.
-
--- The answer to n: n itself below a limit, and none at the limit or above, as which what is none counts below.
+-- ---- What functions answer: a number that is below a limit; none where it is not, as what is no number counts here.
 abbrev pub Below : ℕ → Option ℕ → ℕ → Type 0
 Below limit None n = limit ≤ n
 Below limit (Some m) n = (m ≡ n) × (n < limit)

@@ -1,8 +1,8 @@
 -- The functions for C on a live map: their statements settle the result, all that is set and every word of the room; the result is 0 exactly when no
 -- condition for a refusal holds, and else the number of the first that does. The words of a room are below 2 ^ 32, as those of every `&[u32]` are.
-use Prim.Native.Nat.{ℕ, ◌≤◌, ◌<◌}
+use Prim.Native.Nat.{ℕ, ◌≤◌}
 use mathlib.Core.Path.{◌≡◌, refl, sym, ap, ◌∙◌}
-use mathlib.Core.Bool.{Bool, true}
+use mathlib.Core.Bool.{true}
 use mathlib.Core.List.{List, [], ◌∷◌}
 use mathlib.Core.Logic.{◌↔◌}
 use native.Mathlib.Omega.{arith}
@@ -18,8 +18,8 @@ use Rattle.records.specs.declared.Form.{Form}
 use Rattle.lookup.specs.Calls.{lookup_says}
 use Rattle.lookup.specs.declared.answers.Match.{Match}
 use Rattle.liveroom.specs.Rooms.{shown, fit, Words}
-use Rattle.live.specs.Tables.{masked, prefix_rules, put_rules}
-use Rattle.live.specs.Calls.{Done, Taken, done_says, kept_says, live_rules, look_reply}
+use Rattle.live.specs.Tables.{prefix_rules, put_rules}
+use Rattle.live.specs.Calls.{Done, Taken, done_says, kept_says, live_rules}
 use Rattle.live.specs.Conditions.{MakeCondition, short_room, LookCondition, no_map, TakeCondition, of_room, too_long, host_bits, PutCondition, of_prefix, bad_hop, too_many, too_wide}
 use Rattle.live.proofs.Calls.{make_settled, put_settled, take_settled, look_settled, make_tests, look_tests, take_tests, put_tests}
 use Rattle.suovvamet.specs.Numbers.{form_by, number_of, found_of, hop_of, length_of}

@@ -56,10 +56,7 @@ pub extern "C" fn suovvamet_rewrite(
     ensures { RewriteInC table.now flags mode default ranks.now output.old work.old result count.new change.new index.new output.new work.new }
 {
     let answer = aggregate::rewrite(table, form_of(flags), mode, default, ranks, output, work);
-    (*count, *change) = match answer {
-        Ok(written) => (written.count as u64, written.change),
-        Err(_) => (0, 0),
-    };
+    (*count, *change) = answer.map_or((0, 0), |written| (written.count as u64, written.change));
     refusal_in_c(answer, index)
 }
 
@@ -79,10 +76,7 @@ pub extern "C" fn suovvamet_rewrite_plain(
     ensures { PlainInC table.now flags mode default ranks.now output.old result count.new change.new index.new output.new }
 {
     let answer = plain::rewrite(table, form_of(flags), mode, default, ranks, output);
-    (*count, *change) = match answer {
-        Ok(written) => (written.count as u64, written.change),
-        Err(_) => (0, 0),
-    };
+    (*count, *change) = answer.map_or((0, 0), |written| (written.count as u64, written.change));
     refusal_in_c(answer, index)
 }
 

@@ -20,8 +20,8 @@ use Rattle.plans.specs.Judging.{step_rules, tables_rules, check_rules}
 use Rattle.plans.proofs.Rules.{old_refused, new_refused, all_kept}
 use Rattle.planner.specs.declared.Planned.{Planned}
 use Rattle.planner.specs.declared.Planned.TheVariants.{Steps, GaveUp, Refused}
-use Rattle.planner.specs.Planning.{plan_of, gives_up, chosen, planned_says}
-use Rattle.planner.specs.Proposal.{Proposed}
+use Rattle.planner.specs.Planning.{plan_of, gives_up, chosen, planned_says, written_by, over, Plans}
+use Rattle.plans.specs.declared.answers.Step.{Step}
 
 module _ (form : Form) (t u : List ℕ) {A : Type 0} (a : A) where
   -- The rules of the tables are those of a check of no steps.
@@ -64,20 +64,22 @@ pub both_lawful : (form : Form) (t u : List ℕ) → Bytes t → Bytes u → {m 
 both_lawful form t u bytes bytes' {m} {l} valid valid' =
     ((accepted-table (records t) m form false t bytes valid).0, (accepted-table (records u) l form false u bytes' valid').0)
 
-module _ (form : Form) (t u : List ℕ) (n : ℕ) where
-  pub propose_old : {k i : ℕ} → check_reply form false t ≡ refuses k i → Proposed form t u n (Refused k i)
-  propose_old e = record { answer = sym (old_broken form t u (chosen t u n) e); lawful = λ lt. absurd (omega arith) }
+-- Where nothing is written.
+module _ (form : Form) (t u : List ℕ) (room : List Step) where
+  pub plans_old : {k i : ℕ} → check_reply form false t ≡ refuses k i → Plans form t u room (Refused k i) room
+  plans_old e = record { answer = sym (old_broken form t u (chosen t u (length room)) e); steps = refl }
 
   module _ {m : ℕ} (valid : check_reply form false t ≡ gives m) where
-    pub propose_new : {k i : ℕ} → check_reply form false u ≡ refuses k i → Proposed form t u n (Refused (k + 20) i)
-    propose_new e = record { answer = sym (new_broken form t u (chosen t u n) valid e); lawful = λ lt. absurd (omega arith) }
+    pub plans_new : {k i : ℕ} → check_reply form false u ≡ refuses k i → Plans form t u room (Refused (k + 20) i) room
+    plans_new e = record { answer = sym (new_broken form t u (chosen t u (length room)) valid e); steps = refl }
 
-    module _ {l : ℕ} (valid' : check_reply form false u ≡ gives l) (bytes : Bytes t) (bytes' : Bytes u) where
-      pub propose_chosen : (r : Planned) → r ≡ chosen t u n → Proposed form t u n r
-      propose_chosen r e =
+    -- Where both tables are accepted, the answer is the one chosen.
+    module _ {l : ℕ} (valid' : check_reply form false u ≡ gives l) where
+      pub plans_chosen : (r : Planned) (zs : List Step) → r ≡ chosen t u (length room) → zs ≡ over (written_by r (plan_of t u)) room → Plans form t u room r zs
+      plans_chosen r zs e w =
           record {
-            answer = ap planned_says e ∙ says-chosen t u n ∙ sym (none_broken form t u (chosen t u n) valid valid');
-            lawful = λ lt. both_lawful form t u bytes bytes' valid valid';
+            answer = ap planned_says e ∙ says-chosen t u (length room) ∙ sym (none_broken form t u (chosen t u (length room)) valid valid');
+            steps = w;
           }
 
 -- ---- What an answer that satisfies the statement says.

@@ -23,7 +23,6 @@ use Rattle.steps.specs.Planned.{together, rising, taking_of, plan}
 use Rattle.steps.proofs.Rungs.{match_start}
 use Rattle.steps.proofs.Levels.{falling_all}
 use Rattle.steps.proofs.Plan.{planned_hitless}
-use Rattle.plans.specs.declared.answers.Step.{Step}
 use Rattle.plans.specs.declared.answers.Judged.{Judged}
 use Rattle.plans.specs.declared.answers.Judged.TheVariants.{Yes}
 use Rattle.plans.specs.Following.{step_at}

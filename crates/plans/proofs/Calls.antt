@@ -6,7 +6,6 @@ use mathlib.Core.Bool.{Bool, true, false}
 use mathlib.Core.List.{List, map}
 use mathlib.Core.Logic.{◌↔◌}
 use native.Mathlib.Omega.{arith}
-use Rattle.theory.specs.Routes.{answer}
 use Rattle.refusals.specs.Rules.{Reply, gives, refuses, judge}
 use Rattle.refusals.proofs.Judged.{gives_any, refuses_any}
 use Rattle.records.specs.Wire.{routes}

@@ -18,8 +18,7 @@ use Rattle.records.specs.Forms.{by_default, strictly}
 use Rattle.table.specs.Conditions.{TableCondition, Accepted}
 use Rattle.table.specs.SizedConditions.{not_whole, too_many, of_record, too_long, host_bits, bad_tail, not_after}
 use Rattle.table.proofs.AtEight.{masked-routes, masked_rules}
-use Rattle.steps.specs.Steps as steps
-use Rattle.checking.specs.Passes.{puts}
+use Rattle.checking.specs.Checking.{puts}
 use Rattle.checking.specs.Checking.{host_kept_of, hop_kept_of}
 use Rattle.plans.specs.declared.answers.Step.{Step}
 use Rattle.plans.specs.declared.answers.Judged.{Judged}
@@ -27,7 +26,7 @@ use Rattle.plans.specs.declared.answers.Judged.TheVariants.{Yes, No, Refused}
 use Rattle.plans.specs.Judging.{step_of, step_rules, of_new, tables_rules, check_rules, Accepts, Judges}
 use Rattle.plans.specs.Conditions.{of_installed, of_new_lem, PlanCondition, of_tables, of_step}
 use Rattle.plans.proofs.Calls.{yes_kept, no_kept}
-use Rattle.plans.proofs.Deciding.{start_twice}
+use Rattle.plans.proofs.Following.{start_twice}
 use Rattle.plans.proofs.Refusals.{kept-exactly, check_refused, check_yes, check_no}
 
 -- ---- The strict choice and the default.

@@ -12,7 +12,7 @@ use Rattle.records.specs.declared.Form.{Form}
 use Rattle.table.specs.Checking.{check_reply}
 use Rattle.table.specs.TableRules.{table_rules}
 use Rattle.plans.specs.declared.answers.Step.{Step}
-use Rattle.checking.specs.Passes.{puts}
+use Rattle.checking.specs.Checking.{puts}
 use Rattle.plans.specs.Following.{step_at}
 use Rattle.checking.specs.Checking.{step_kept}
 use Rattle.plans.specs.Judging.{step_rules, of_new, tables_rules, check_rules}

@@ -11,7 +11,7 @@ use Rattle.steps.specs.Steps as steps
 use Rattle.plans.specs.declared.answers.Step.{Step}
 use Rattle.plans.specs.declared.answers.Judged.{Judged}
 use Rattle.plans.specs.declared.answers.Judged.TheVariants.{Yes, No, Refused}
-use Rattle.checking.specs.Passes.{puts}
+use Rattle.checking.specs.Checking.{puts}
 use Rattle.checking.specs.Checking.{step_kept}
 
 -- The step that a struct stands for: its address is masked, and a take's hop is not read.

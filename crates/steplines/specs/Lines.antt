@@ -4,7 +4,7 @@ use Rattle.records.specs.Sized.{route}
 use Rattle.plans.specs.declared.answers.Step.{Step}
 use Rattle.plans.specs.declared.answers.Judged.{Judged}
 use Rattle.plans.specs.declared.answers.Judged.TheVariants.{Yes, No, Refused}
-use Rattle.checking.specs.Passes.{puts}
+use Rattle.checking.specs.Checking.{puts}
 use Rattle.records.specs.declared.Form.{Form}
 use Rattle.planner.specs.declared.Planned.{Planned}
 use Rattle.planner.specs.declared.Planned.TheVariants.{Steps, GaveUp, Refused as NotPlanned}

@@ -2,7 +2,7 @@
 #![tactic(auto)]
 
 ghost use Rattle.std.specs.Prelude.{◌++◌, ◌+◌, ◌*◌, ◌≤◌, length, take};
-ghost use Rattle.checking.specs.Passes.{puts};
+ghost use Rattle.checking.specs.Checking.{puts};
 ghost use Rattle.text.specs.Text.{Put};
 ghost use Rattle.steplines.specs.Lines.{judged_text, word_of, step_line, step_lines, steps_end, planned_text, PlanPut};
 

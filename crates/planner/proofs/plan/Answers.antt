@@ -1,33 +1,34 @@
--- Each turn writes one more step of the plan.
-use Rattle.std.proofs.Common.{◌≡◌, ◌<◌}
+-- `planner::plan` meets its contract. Assumes nothing.
+use mathlib.Core.Path.{sym, ap, ◌∙◌}
 use native.Mathlib.Omega.{arith}
-use Rattle.planner.specs.Proposal.{count_of}
-use Rattle.planner.proofs.Writing.{reached_start, reached_next, write_fits, write_ends}
+use Rattle.table.specs.Checking.{checked_says}
+use Rattle.checking.proofs.Stepping.{number_small}
+use Rattle.planner.proofs.Answers.{both_lawful, plans_old, plans_new, plans_chosen}
 use Rattle.planner.proofs.plan.Goals as goal
 
-pub loop-j-init : goal.loop-j-init
-loop-j-init c = (omega arith, reached_start c.args.installed.now c.args.new.now c.args.steps.now c.from_level-p.result c.from_level-p.ensures)
-
-pub next_step-p-requires : goal.next_step-p-requires
-next_step-p-requires c =
-    let lt : 0 < count_of c.propose-answer.result = omega (arith, c.count_of-count.ensures, c.loop-j-test.true) in
-    (c.propose-answer.ensures.lawful lt, c.loop-j.invariant.1.high)
-
-pub bounds-steps-j : goal.bounds-steps-j
-bounds-steps-j c =
+pub returns-in-Refused : goal.returns-in-Refused
+returns-in-Refused c =
     let a = c.args in
-    let lt : c.loop-j.j < count_of c.propose-answer.result = omega (arith, c.count_of-count.ensures, c.loop-j-test.true) in
-    omega (arith, write_fits a.installed.now a.new.now a.steps.now a.form c.propose-answer.result c.propose-answer.ensures c.loop-j.j lt, c.loop-j.auto.steps)
+    plans_old a.form a.installed.now a.new.now a.steps.now (sym c.check_table.ensures ∙ ap checked_says c.in-Refused.is)
 
-pub loop-j-preserved : goal.loop-j-preserved
-loop-j-preserved c =
+pub overflow_add-result : goal.overflow_add-result
+overflow_add-result c =
     let a = c.args in
-    let lt : c.loop-j.j < count_of c.propose-answer.result = omega (arith, c.count_of-count.ensures, c.loop-j-test.true) in
-    let fits = write_fits a.installed.now a.new.now a.steps.now a.form c.propose-answer.result c.propose-answer.ensures c.loop-j.j lt in
-    (omega arith, reached_next a.installed.now a.new.now a.steps.now fits.0 fits.1 c.loop-j.invariant.1 c.next_step-p.ensures)
+    record { fits = omega (arith, number_small a.form a.new.now c.in-Refused-check_table.number c.in-Refused-check_table.index (sym (ap checked_says c.in-Refused-check_table.is) ∙ c.check_table-2.ensures)) }
+
+pub returns-in-Refused-check_table : goal.returns-in-Refused-check_table
+returns-in-Refused-check_table c =
+    let a = c.args in
+    plans_new a.form a.installed.now a.new.now a.steps.now (sym c.check_table.ensures ∙ ap checked_says c.in_default.is) (sym c.check_table-2.ensures ∙ ap checked_says c.in-Refused-check_table.is)
+
+pub plan_accepted-requires : goal.plan_accepted-requires
+plan_accepted-requires c =
+    let a = c.args in
+    both_lawful a.form a.installed.now a.new.now (λ k. omega (arith, c.type_inv.installed k)) (λ k. omega (arith, c.type_inv.new k))
+    (sym c.check_table.ensures ∙ ap checked_says c.in_default.is) (sym c.check_table-2.ensures ∙ ap checked_says c.in_default-check_table.is)
 
 pub returns : goal.returns
 returns c =
     let a = c.args in
-    let e : c.loop-j.j ≡ count_of c.propose-answer.result = omega (arith, c.count_of-count.ensures, c.loop-j-test.false, c.loop-j.invariant.0) in
-    write_ends a.installed.now a.new.now a.steps.now a.form c.propose-answer.result c.propose-answer.ensures c.loop-j.invariant.1 e
+    plans_chosen a.form a.installed.now a.new.now a.steps.now (sym c.check_table.ensures ∙ ap checked_says c.in_default.is) (sym c.check_table-2.ensures ∙ ap checked_says c.in_default-check_table.is)
+    c.plan_accepted.result c.plan_accepted.new.steps c.plan_accepted.ensures.answer c.plan_accepted.ensures.steps

@@ -1,64 +1,66 @@
--- Each turn shows the check the step that it asks for, and so finds out more.
-use Rattle.std.proofs.Common.{◌≡◌, ◌<◌, ◌-◌, ◌^◌, length}
-use mathlib.Core.Path.{sym, ap, subst, ◌∙◌}
+-- `plans::check_plan` meets its contract. Assumes nothing.
+use Prim.Native.Nat.{◌^◌, ◌<◌}
+use mathlib.Core.Path.{◌≡◌, sym, ap, ◌∙◌}
+use mathlib.Core.Bool.{true}
 use native.Mathlib.Omega.{arith}
-use Rattle.checking.specs.declared.Pass.{Pass}
-use Rattle.checking.specs.declared.Check.{Check}
-use Rattle.checking.specs.Passes.{puts}
-use Rattle.checking.specs.Checking.{seen_of}
+use lib.ListN.{length}
+use borrow.Author.Count.{below_more}
+use Rattle.table.specs.Checking.{checked_says}
 use Rattle.plans.specs.Following.{step_at}
-use Rattle.plans.specs.Judging.{Judges}
-use Rattle.plans.proofs.Deciding.{rank_of}
-use Rattle.plans.proofs.Checked.{Found, found_begin, after_it, found-next, found_falls, found_follow, found_tables, found_see, found_end}
+use Rattle.plans.proofs.Rules.{old_refused, new_refused, all_kept, step_refused}
+use Rattle.plans.proofs.Deciding.{may_follow}
+use Rattle.plans.proofs.Checked.{answers_refused, answers_yes, answers_no}
+use Rattle.checking.proofs.Stepping.{number_small}
 use Rattle.plans.proofs.check_plan.Goals as goal
 
-pub loop-c-init : goal.loop-c-init
-loop-c-init c =
+pub returns-in-Refused : goal.returns-in-Refused
+returns-in-Refused c =
     let a = c.args in
-    let b = c.begin-c.ensures in (
-      b.old_bytes,
-      b.new_bytes,
-      subst (Found a.form a.installed.now a.new.now a.steps.now b.old_bytes b.new_bytes) (sym b.state) (found_begin a.form a.installed.now a.new.now a.steps.now b.old_bytes b.new_bytes),
-    )
+    answers_refused a.form a.installed.now a.new.now a.steps.now (old_refused a.form a.installed.now a.new.now a.steps.now true (sym c.check_table.ensures ∙ ap checked_says c.in-Refused.is))
 
-pub follow-p-requires : goal.follow-p-requires
-follow-p-requires c =
+pub overflow_add-result : goal.overflow_add-result
+overflow_add-result c =
     let a = c.args in
-    let v = c.loop-c.invariant in
-    found_follow a.form a.installed.now a.new.now a.steps.now v.0 v.1 v.2 (omega arith)
+    record { fits = omega (arith, number_small a.form a.new.now c.in-Refused-check_table.number c.in-Refused-check_table.index (sym (ap checked_says c.in-Refused-check_table.is) ∙ c.check_table-2.ensures)) }
 
-pub see-c-requires : goal.see-c-requires
-see-c-requires c =
+pub returns-in-Refused-check_table : goal.returns-in-Refused-check_table
+returns-in-Refused-check_table c =
     let a = c.args in
-    let v = c.loop-c.invariant in
-    let lt : c.loop-c.c.index < length a.steps.now = omega arith in
-    (found_tables a.form a.installed.now a.new.now a.steps.now v.0 v.1 v.2 lt, found_see a.form a.installed.now a.new.now a.steps.now v.0 v.1 v.2 lt)
+    answers_refused a.form a.installed.now a.new.now a.steps.now
+    (new_refused a.form a.installed.now a.new.now a.steps.now true (sym c.check_table.ensures ∙ ap checked_says c.in_default.is) (sym c.check_table-2.ensures ∙ ap checked_says c.in-Refused-check_table.is))
 
-pub loop-c-smaller : goal.loop-c-smaller
-loop-c-smaller c =
+pub returns-then-not-step_kept : goal.returns-then-not-step_kept
+returns-then-not-step_kept c =
     let a = c.args in
-    let v = c.loop-c.invariant in
-    let i = c.loop-c.c in
-    let e = step_at a.steps.now i.index in
-    let lt : i.index < length a.steps.now = omega arith in
-    let is : c.see-c.result ≡ after_it a.form a.installed.now a.new.now a.steps.now v.0 v.1 i =
-    c.see-c.ensures ∙ ap (λ (y : Pass). seen_of a.installed.now a.new.now (length a.steps.now) i y (puts e.put) e.addr e.len e.hop) c.follow-p.ensures in
-    subst (λ (d : Check). rank_of a.installed.now a.steps.now d < rank_of a.installed.now a.steps.now i) (sym is) (found_falls a.form a.installed.now a.new.now a.steps.now v.0 v.1 v.2 lt)
+    answers_refused a.form a.installed.now a.new.now a.steps.now
+    (step_refused a.form a.installed.now a.new.now a.steps.now true (sym c.check_table.ensures ∙ ap checked_says c.in_default.is) (sym c.check_table-2.ensures ∙ ap checked_says c.in_default-check_table.is)
+    c.loop-index.index c.loop-index-test.true (λ j lt. (c.loop-index.invariant j lt).0) (sym c.step_kept.ensures ∙ c.if-not-step_kept.true))
 
-pub loop-c-preserved : goal.loop-c-preserved
-loop-c-preserved c =
+pub is_hitless-requires : goal.is_hitless-requires
+is_hitless-requires c =
     let a = c.args in
-    let v = c.loop-c.invariant in
-    let i = c.loop-c.c in
-    let e = step_at a.steps.now i.index in
-    let lt : i.index < length a.steps.now = omega arith in
-    let small : (step_at c.args.steps.now c.loop-c.c.index).addr < 2 ^ 32 = omega arith in
-    let is : c.see-c.result ≡ after_it a.form a.installed.now a.new.now a.steps.now v.0 v.1 i =
-    c.see-c.ensures ∙ ap (λ (y : Pass). seen_of a.installed.now a.new.now (length a.steps.now) i y (puts e.put) e.addr e.len e.hop) c.follow-p.ensures in
-    (v.0, v.1, subst (Found a.form a.installed.now a.new.now a.steps.now v.0 v.1) (sym is) (found-next a.form a.installed.now a.new.now a.steps.now v.0 v.1 v.2 lt small))
+    let e : c.loop-index.index ≡ length a.steps.now = omega arith in
+    may_follow a.form a.installed.now a.new.now a.steps.now (λ k. omega (arith, c.type_inv.installed k)) (λ k. omega (arith, c.type_inv.new k))
+    (sym c.check_table.ensures ∙ ap checked_says c.in_default.is) (sym c.check_table-2.ensures ∙ ap checked_says c.in_default-check_table.is)
+    (λ j lt. (c.loop-index.invariant j (omega arith)).0) (λ j lt. (c.loop-index.invariant j (omega arith)).1)
 
-pub returns : goal.returns
-returns c =
+pub loop-index-preserved : goal.loop-index-preserved
+loop-index-preserved c =
+    let small : (step_at c.args.steps.now c.loop-index.index).addr < 2 ^ 32 = omega arith in
+    below_more _ _ c.loop-index.invariant (sym c.step_kept.ensures ∙ c.if-not-step_kept.false, small)
+
+pub returns-then-is_hitless : goal.returns-then-is_hitless
+returns-then-is_hitless c =
     let a = c.args in
-    let v = c.loop-c.invariant in
-    subst (Judges a.form a.installed.now a.new.now a.steps.now) (sym c.verdict.ensures) (found_end a.form a.installed.now a.new.now a.steps.now v.0 v.1 v.2 (omega arith))
+    let e : c.loop-index.index ≡ length a.steps.now = omega arith in
+    answers_yes a.form a.installed.now a.new.now a.steps.now
+    (all_kept a.form a.installed.now a.new.now a.steps.now true (sym c.check_table.ensures ∙ ap checked_says c.in_default.is) (sym c.check_table-2.ensures ∙ ap checked_says c.in_default-check_table.is) (λ j lt. (c.loop-index.invariant j (omega arith)).0))
+    (c.is_hitless.ensures.yes c.if-is_hitless.true)
+
+pub returns-else-is_hitless : goal.returns-else-is_hitless
+returns-else-is_hitless c =
+    let a = c.args in
+    let e : c.loop-index.index ≡ length a.steps.now = omega arith in
+    answers_no a.form a.installed.now a.new.now a.steps.now
+    (all_kept a.form a.installed.now a.new.now a.steps.now true (sym c.check_table.ensures ∙ ap checked_says c.in_default.is) (sym c.check_table-2.ensures ∙ ap checked_says c.in_default-check_table.is) (λ j lt. (c.loop-index.invariant j (omega arith)).0))
+    (c.is_hitless.ensures.no c.if-is_hitless.false)

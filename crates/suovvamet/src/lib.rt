@@ -18,8 +18,8 @@ fn form_of(flags: u32) -> Form
     ensures { result ≡ form_by flags }
 {
     Form {
-        strict: flags % 2 != 0,
-        long: flags / 2 % 2 != 0,
+        strict: flags & 1 != 0,
+        long: flags & 2 != 0,
     }
 }
 

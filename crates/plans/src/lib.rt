@@ -4,35 +4,37 @@
 pub mod answers;
 pub mod hitless;
 
-ghost use Rattle.plans.specs.Judging.{Judges};
+ghost use Rattle.std.specs.Prelude.{◌≡◌, true};
+ghost use Rattle.refusals.specs.Rules.{judge};
+ghost use Rattle.plans.specs.Judging.{tables_rules, tables_says, Judges};
 
-use answers::{Judged, Step};
+use answers::Step;
 use checking::step_kept;
 use hitless::is_hitless;
 use records::Form;
-use table::{Checked, check_table};
+use refusals::{Cause, Refusal};
+use table::check_table;
 
-// Do the steps change the installed table to the new one without a detour? Yes, no, or the refusal (3 to 8, 23 to 28, 13).
-pub fn check_plan(installed: &[u8], new: &[u8], form: Form, steps: &[Step]) -> Judged
+// Are both tables accepted? Else the refusal of the first that is not (3 to 8 for the installed one, 23 to 28 for the new one).
+pub fn check_tables(installed: &[u8], new: &[u8], form: Form) -> Result<(), Refusal>
+    ensures { tables_says result ≡ judge (tables_rules form installed.now new.now) true }
+{
+    check_table(installed, form, false)?;
+    if let Err(refusal) = check_table(new, form, false) {
+        return Err(refusal.cause.in_new().at(refusal.index));
+    }
+    Ok(())
+}
+
+// Do the steps change the installed table to the new one without a detour? Or the refusal (3 to 8, 23 to 28, 13).
+pub fn check_plan(installed: &[u8], new: &[u8], form: Form, steps: &[Step]) -> Result<bool, Refusal>
     ensures { Judges form installed.now new.now steps.now result }
 {
-    if let Checked::Refused { number, index } = check_table(installed, form, false) {
-        return Judged::Refused { number, index };
-    }
-    if let Checked::Refused { number, index } = check_table(new, form, false) {
-        return Judged::Refused {
-            number: number + 20,
-            index,
-        };
-    }
+    check_tables(installed, new, form)?;
     for (index, s) in steps.iter().enumerate() {
         if !step_kept(form.strict, s.put != 0, s.addr, s.len, s.hop) {
-            return Judged::Refused { number: 13, index };
+            return Err(Cause::Step.at(index));
         }
     }
-    if is_hitless(installed, new, steps) {
-        Judged::Yes
-    } else {
-        Judged::No
-    }
+    Ok(is_hitless(installed, new, steps))
 }

@@ -1,34 +1,23 @@
 -- `planner::plan` meets its contract. Assumes nothing.
-use mathlib.Core.Path.{sym, ap, ◌∙◌}
+use mathlib.Core.Path.{sym}
 use native.Mathlib.Omega.{arith}
-use Rattle.table.specs.Checking.{checked_says}
-use Rattle.checking.proofs.Stepping.{number_small}
-use Rattle.planner.proofs.Answers.{both_lawful, plans_old, plans_new, plans_chosen}
+use Rattle.std.proofs.lemmas.Result.{err_from_is_err_and}
+use Rattle.planner.proofs.Answers.{kept-lawful, plans_refused, plans_chosen}
 use Rattle.planner.proofs.plan.Goals as goal
 
-pub returns-in-Refused : goal.returns-in-Refused
-returns-in-Refused c =
+pub returns-in_err-check_tables : goal.returns-in_err-check_tables
+returns-in_err-check_tables c =
     let a = c.args in
-    plans_old a.form a.installed.now a.new.now a.steps.now (sym c.check_table.ensures ∙ ap checked_says c.in-Refused.is)
-
-pub overflow_add-result : goal.overflow_add-result
-overflow_add-result c =
-    let a = c.args in
-    record { fits = omega (arith, number_small a.form a.new.now c.in-Refused-check_table.number c.in-Refused-check_table.index (sym (ap checked_says c.in-Refused-check_table.is) ∙ c.check_table-2.ensures)) }
-
-pub returns-in-Refused-check_table : goal.returns-in-Refused-check_table
-returns-in-Refused-check_table c =
-    let a = c.args in
-    plans_new a.form a.installed.now a.new.now a.steps.now (sym c.check_table.ensures ∙ ap checked_says c.in_default.is) (sym c.check_table-2.ensures ∙ ap checked_says c.in-Refused-check_table.is)
+    let p = err_from_is_err_and c.from_residual.result c.from_residual.ensures.1 in
+    rw (p.1, p.2) (plans_refused a.form a.installed.now a.new.now a.steps.now (sym c.in_err-check_tables.ensures))
 
 pub plan_accepted-requires : goal.plan_accepted-requires
 plan_accepted-requires c =
     let a = c.args in
-    both_lawful a.form a.installed.now a.new.now (λ k. omega (arith, c.type_inv.installed k)) (λ k. omega (arith, c.type_inv.new k))
-    (sym c.check_table.ensures ∙ ap checked_says c.in_default.is) (sym c.check_table-2.ensures ∙ ap checked_says c.in_default-check_table.is)
+    kept-lawful a.form a.installed.now a.new.now (λ k. omega (arith, c.type_inv.installed k)) (λ k. omega (arith, c.type_inv.new k)) (sym c.in_ok-check_tables.ensures)
 
 pub returns : goal.returns
 returns c =
     let a = c.args in
-    plans_chosen a.form a.installed.now a.new.now a.steps.now (sym c.check_table.ensures ∙ ap checked_says c.in_default.is) (sym c.check_table-2.ensures ∙ ap checked_says c.in_default-check_table.is)
+    plans_chosen a.form a.installed.now a.new.now a.steps.now (sym c.in_ok-check_tables.ensures)
     c.plan_accepted.result c.plan_accepted.new.steps c.plan_accepted.ensures.answer c.plan_accepted.ensures.steps

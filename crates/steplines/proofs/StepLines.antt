@@ -10,7 +10,7 @@ use Rattle.text.specs.Text.{Put}
 use Rattle.text.proofs.Puts.{put_none}
 use mathlib.Core.Bool.{Bool}
 use borrow.Author.Tests.{lt-ltb, le-ltb}
-use Rattle.planner.specs.declared.Planned.TheVariants.{Steps}
+use Rattle.std.specs.Prelude.{Some, Ok}
 use Rattle.steplines.specs.Lines.{step_line, step_lines, steps_end, planned_text}
 
 -- A line behind lines.
@@ -31,10 +31,10 @@ steps_more room i d lt =
     sym (ap (λ (k : ℕ). step_lines (take k room)) (add-one i) ∙ ap step_lines (take-suc room i d lt) ∙ lines-behind (take i room) (get_or room i d))
 
 -- A plan's text.
-pub planned_long : (total : Bool) (k : ℕ) (room : List Step) → 2048 < k → planned_text total (Steps k) room ≡ []
+pub planned_long : (total : Bool) (k : ℕ) (room : List Step) → 2048 < k → planned_text total (Ok (Some k)) room ≡ []
 unfolding planned_text
 planned_long total k room lt = rw (lt-ltb 2048 k lt)
 
-pub planned_short : (total : Bool) (k : ℕ) (room : List Step) → k ≤ 2048 → planned_text total (Steps k) room ≡ step_lines (take k room) ++ steps_end total k
+pub planned_short : (total : Bool) (k : ℕ) (room : List Step) → k ≤ 2048 → planned_text total (Ok (Some k)) room ≡ step_lines (take k room) ++ steps_end total k
 unfolding planned_text
 planned_short total k room le = rw (le-ltb 2048 k le)

@@ -3,24 +3,25 @@
 
 ghost use Rattle.std.specs.Prelude.{◌≡◌, ℕ, ◌+◌, ◌*◌, ◌≤◌, length};
 ghost use Rattle.checking.specs.Checking.{puts};
-ghost use Rattle.planner.specs.declared.Planned.TheVariants.{Steps};
 ghost use Rattle.text.specs.Text.{Put};
 ghost use Rattle.steplines.specs.Lines.{judged_text, word_of, step_line, step_lines, steps_end, planned_text, PlanPut};
 
-use planner::{Planned, plan};
-use plans::answers::{Judged, Step};
+use planner::plan;
+use plans::answers::Step;
 use records::Form;
+use refusals::Refusal;
 use text::{put_bytes, put_dotted, put_ending, put_last, put_refused};
 
 // `yes`, `no` or the refusal.
-pub fn put_judged(answer: Judged, at: usize, out: &mut [u8]) -> usize
+#[tactic(auto, unfolding(crate::specs::Lines::judged_text))]
+pub fn put_judged(answer: Result<bool, Refusal>, at: usize, out: &mut [u8]) -> usize
     requires { at + 36 ≤ length out.old }
     ensures { Put (judged_text answer) at result out.old out.new }
 {
     match answer {
-        Judged::Yes => put_bytes(b"yes\n", at, out),
-        Judged::No => put_bytes(b"no\n", at, out),
-        Judged::Refused { number, index } => put_refused(number, index, at, out),
+        Ok(true) => put_bytes(b"yes\n", at, out),
+        Ok(false) => put_bytes(b"no\n", at, out),
+        Err(refusal) => put_refused(refusal, at, out),
     }
 }
 
@@ -75,21 +76,27 @@ fn put_total(n: usize, total: bool, at: usize, out: &mut [u8]) -> usize
 }
 
 // The text of the planner's answer, from the room that it left; nothing of a plan of more than 2,048 steps, which no tables have.
-fn put_planned(answer: Planned, room: &[Step], total: bool, at: usize, out: &mut [u8]) -> usize
-    requires fits { (k : ℕ) → answer ≡ Steps k → k ≤ length room.now }
+fn put_planned(
+    answer: Result<Option<usize>, Refusal>,
+    room: &[Step],
+    total: bool,
+    at: usize,
+    out: &mut [u8],
+) -> usize
+    requires fits { (k : ℕ) → answer ≡ Ok (Some k) → k ≤ length room.now }
     requires in_bounds { at + 59428 ≤ length out.old }
     ensures { Put (planned_text total answer room.now) at result out.old out.new }
 {
     match answer {
-        Planned::Steps { count } => {
+        Ok(Some(count)) => {
             if 2048 < count {
                 return at;
             }
             let end = put_steps(&room[..count], at, out);
             put_total(count, total, end, out)
         }
-        Planned::GaveUp => put_bytes(b"gave up\n", at, out),
-        Planned::Refused { number, index } => put_refused(number, index, at, out),
+        Ok(None) => put_bytes(b"gave up\n", at, out),
+        Err(refusal) => put_refused(refusal, at, out),
     }
 }
 

@@ -6,9 +6,10 @@ ghost use Rattle.records.specs.Wire.{records};
 ghost use Rattle.plans.specs.Judging.{Judges};
 ghost use Rattle.steprooms.specs.Steps.{step_from, steps_of};
 
-use plans::answers::{Judged, Step};
+use plans::answers::Step;
 use plans::check_plan;
 use records::{Form, raw_addr_at};
+use refusals::Refusal;
 
 // Step i of bytes.
 fn step_at(bytes: &[u8], i: usize) -> Step
@@ -49,7 +50,7 @@ fn read_steps(bytes: &[u8], steps: &mut [Step])
 }
 
 // The checker, of the steps of bytes.
-pub fn check_steps(installed: &[u8], new: &[u8], form: Form, bytes: &[u8]) -> Judged
+pub fn check_steps(installed: &[u8], new: &[u8], form: Form, bytes: &[u8]) -> Result<bool, Refusal>
     requires { records bytes.now ≤ 65535 }
     ensures { Judges form installed.now new.now (steps_of bytes.now) result }
 {

@@ -18,7 +18,7 @@ pub fn put_kept(answer: Result<bool, Refusal>, at: usize, out: &mut [u8]) -> usi
     match answer {
         Ok(true) => put_bytes(b"done\n", at, out),
         Ok(false) => put_bytes(b"absent\n", at, out),
-        Err(refusal) => put_refused(refusal.cause.number(), refusal.index, at, out),
+        Err(refusal) => put_refused(refusal, at, out),
     }
 }
 
@@ -30,7 +30,7 @@ pub fn put_looked(answer: Result<Option<Match>, Refusal>, at: usize, out: &mut [
     match answer {
         Ok(Some(found)) => put_found(found.hop, found.length, at, out),
         Ok(None) => put_bytes(b"no route\n", at, out),
-        Err(refusal) => put_refused(refusal.cause.number(), refusal.index, at, out),
+        Err(refusal) => put_refused(refusal, at, out),
     }
 }
 

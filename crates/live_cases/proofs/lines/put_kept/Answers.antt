@@ -22,4 +22,4 @@ pub returns-in-Err : goal.returns-in-Err
 unfolding kept_line
 returns-in-Err c =
     let p = c.put_refused.ensures in
-    rw c.in-Err.is (rw c.number.ensures at p, put-short p (refused_short _ _ (search rules) (search rules)))
+    rw c.in-Err.is (p, put-short p (refused_short _ _ (search rules) (search rules)))

@@ -35,10 +35,9 @@ fn plan_accepted(installed: &[u8], new: &[u8], steps: &mut [Step]) -> Planned
     if MOST < new.len() / 8 + takes || steps.len() < puts + takes {
         return Planned::GaveUp;
     }
-    write_plan(installed, new, steps);
-    Planned::Steps {
-        count: puts + takes,
-    }
+    let count = puts + takes;
+    write_plan(installed, new, &mut steps[..count]);
+    Planned::Steps { count }
 }
 
 // Writes a plan of steps from the installed table to the new one: its number of steps, or that it gives up, or the refusal (3 to 8, 23 to 28). Where it

@@ -28,8 +28,9 @@ fn plan_accepted(installed: &[u8], new: &[u8], steps: &mut [Step]) -> Option<usi
     if MOST < new.len() / 8 + takes || steps.len() < puts + takes {
         return None;
     }
-    write_plan(installed, new, steps);
-    Some(puts + takes)
+    let count = puts + takes;
+    write_plan(installed, new, &mut steps[..count]);
+    Some(count)
 }
 
 // Writes a plan of steps from the installed table to the new one: its number of steps, or none where the planner gives up, or the refusal (3 to 8, 23 to 28).

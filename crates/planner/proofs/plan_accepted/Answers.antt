@@ -1,7 +1,9 @@
 -- `planner::plan_accepted` meets its contract. Assumes nothing.
 use native.Mathlib.Omega.{arith}
 use mathlib.Core.Bool.{true, false}
+use Prim.Native.Nat.{◌+◌}
 use lib.ListN.{length}
+use Rattle.std.proofs.lemmas.List.{length-take-le}
 use Rattle.records.specs.Wire.{routes}
 use Rattle.records.proofs.Reading.{length-routes}
 use Rattle.planner.specs.Due.{is_due}
@@ -15,8 +17,16 @@ overflow_add-new c = omega (arith, c.count_due-takes.ensures, few_due (is_due fa
 pub overflow_add-puts : goal.overflow_add-puts
 overflow_add-puts c = omega (arith, c.count_due-puts.ensures, c.count_due-takes.ensures, few_due (is_due false (routes c.args.new.now)) c.requires.0, few_due (is_due true (routes c.args.installed.now)) c.requires.1)
 
-pub write_plan-requires-clause-fits : goal.write_plan-requires-clause-fits
-write_plan-requires-clause-fits c = omega (arith, plan-length c.args.installed.now c.args.new.now c.requires.0.table c.requires.1.table, c.count_due-puts.ensures, c.count_due-takes.ensures)
+pub write_plan-requires-clause-as_many : goal.write_plan-requires-clause-as_many
+write_plan-requires-clause-as_many c =
+    let n = c.count_due-puts.result + c.count_due-takes.result in
+    omega (
+      arith,
+      length-take-le n c.args.steps.now (omega arith),
+      plan-length c.args.installed.now c.args.new.now c.requires.0.table c.requires.1.table,
+      c.count_due-puts.ensures,
+      c.count_due-takes.ensures,
+    )
 
 pub returns-then-new-takes-gt-MOST-clause-answer : goal.returns-then-new-takes-gt-MOST-clause-answer
 returns-then-new-takes-gt-MOST-clause-answer c =

@@ -1,11 +1,13 @@
 -- The text of each call's answer, and of the reply to a rewrite.
-use Rattle.std.specs.Prelude.{ℕ, ◌*◌, Bool, true, false, List, [], ◌∷◌, ◌++◌, pos, ◌-ℤ◌, length, take, Option, None, Some, Result, Ok, Err}
-use Rattle.theory.specs.Routes.{Route}
+use Rattle.std.specs.Prelude.{ℕ, ◌*◌, Bool, true, false, List, [], ◌∷◌, ◌++◌, pos, ◌-ℤ◌, length, take, Option, Result, Ok, Err}
+use Rattle.theory.specs.Routes.{Route, Match, miss, hit}
 use Rattle.refusals.specs.Rules.{Reply, gives, refuses}
 use Rattle.refusals.specs.declared.Refusal.{Refusal}
 use Rattle.records.specs.Sized.{routes_in}
-use Rattle.lookup.specs.declared.answers.Match.{Match}
+use Rattle.lookup.specs.Calls.{lookup_says, held_says}
+use Rattle.lookup.specs.declared.answers.Match.{Match as Found}
 use Rattle.calls.specs.Rewriting.{Outcome}
+use Rattle.calls.specs.Covering.{covers_says}
 use Rattle.text.specs.Text.{lines_in, change_line, refused_line, refusal_line, found_line, addresses_line, total_end}
 
 -- Of a rewrite that left the output o, of records of so many bytes: the records' lines, then the change; or the refusal. The addresses are in hex digits
@@ -19,22 +21,30 @@ unfoldable pub reply_text : ℕ → Bool → Bool → ℕ → Reply (List Route)
 reply_text size hex hops before (gives rs) = lines_in size hex hops rs ++ change_line (pos (length rs) -ℤ pos before)
 reply_text size hex hops before (refuses number index) = refused_line number index
 
+-- Of a reply: that of the value that it gives, or the refusal.
+abbrev pub said : {A : Type 0} → (A → List ℕ) → Reply A → List ℕ
+said text (gives a) = text a
+said text (refuses number index) = refused_line number index
+
 -- Of the cover query: `covered`, `uncovered` or the refusal.
+abbrev pub cover_line : Bool → List ℕ
+cover_line true = 99 ∷ 111 ∷ 118 ∷ 101 ∷ 114 ∷ 101 ∷ 100 ∷ 10 ∷ []
+cover_line false = 117 ∷ 110 ∷ 99 ∷ 111 ∷ 118 ∷ 101 ∷ 114 ∷ 101 ∷ 100 ∷ 10 ∷ []
+
 unfoldable pub covers_text : Result Bool Refusal → List ℕ
-covers_text (Ok true) = 99 ∷ 111 ∷ 118 ∷ 101 ∷ 114 ∷ 101 ∷ 100 ∷ 10 ∷ []
-covers_text (Ok false) = 117 ∷ 110 ∷ 99 ∷ 111 ∷ 118 ∷ 101 ∷ 114 ∷ 101 ∷ 100 ∷ 10 ∷ []
-covers_text (Err refusal) = refusal_line refusal
+covers_text r = said cover_line (covers_says r)
 
 -- Of a lookup: the match, `no route` or the refusal.
-unfoldable pub lookup_text : Result (Option Match) Refusal → List ℕ
-lookup_text (Ok (Some found)) = found_line found.hop found.length
-lookup_text (Ok None) = 110 ∷ 111 ∷ 32 ∷ 114 ∷ 111 ∷ 117 ∷ 116 ∷ 101 ∷ 10 ∷ []
-lookup_text (Err refusal) = refusal_line refusal
+abbrev pub match_line : Match → List ℕ
+match_line (hit len hop) = found_line hop len
+match_line miss = 110 ∷ 111 ∷ 32 ∷ 114 ∷ 111 ∷ 117 ∷ 116 ∷ 101 ∷ 10 ∷ []
+
+unfoldable pub lookup_text : Result (Option Found) Refusal → List ℕ
+lookup_text r = said match_line (lookup_says r)
 
 -- Of addresses held: their number or the refusal.
 unfoldable pub held_text : Result ℕ Refusal → List ℕ
-held_text (Ok n) = addresses_line n
-held_text (Err refusal) = refusal_line refusal
+held_text r = said addresses_line (held_says r)
 
 -- Of a list of what has no route, in the output o: a prefix a line, then the total, if it is wanted; or the refusal.
 unfoldable pub listed_text : ℕ → Bool → Bool → Result ℕ Refusal → List ℕ → List ℕ

@@ -1,4 +1,5 @@
 // The records of a live map in its room: reading one, and its place among the others.
+#![tactic(auto, unfolding(crate::specs::Rooms::route_in))]
 
 ghost use Rattle.std.specs.Prelude.{◌≡◌, ◌||◌, ◌&&◌, ◌+◌, ◌*◌, ◌<◌, ltb, eqb};
 ghost use Rattle.liveroom.specs.Rooms.{route_in};

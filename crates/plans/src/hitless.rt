@@ -47,8 +47,6 @@ fn last_left(steps: &[Step], x: u32, len: u8) -> Option<u8>
     found
 }
 
-// ---- A class.
-
 // The length of the shortest prefix above `len` that holds y and that a step puts.
 fn shortest_put(steps: &[Step], y: u32, len: u8) -> Option<u8>
     requires { (j : ℕ) → j < length steps.now → (step_at steps.now j).len ≤ 32 }
@@ -63,107 +61,6 @@ fn shortest_put(steps: &[Step], y: u32, len: u8) -> Option<u8>
     found
 }
 
-// The length of a prefix above `len` that holds y, of the installed table, of the new one, or put.
-fn longer_at(installed: &[u8], new: &[u8], steps: &[Step], y: u32, len: u8) -> Option<u8>
-    requires may { MayFollow installed.now new.now steps.now }
-    requires len_bound { len ≤ 32 }
-    ensures { MatchOption result (InClass installed.now new.now steps.now y len) (λ l. (len < l) × (l ≤ 32) × Known installed.now new.now steps.now y l) }
-{
-    if let Some(longer) = longer_in(installed, y, len) {
-        return Some(longer);
-    }
-    if let Some(longer) = longer_in(new, y, len) {
-        return Some(longer);
-    }
-    shortest_put(steps, y, len)
-}
-
-// Has the class of the prefix that starts at x no address?
-fn is_class_empty(installed: &[u8], new: &[u8], steps: &[Step], x: u32, len: u8) -> bool
-    requires may { MayFollow installed.now new.now steps.now }
-    requires prefix { (len ≤ 32) × (start_of (32 - len) x ≡ x) }
-    ensures yes { result ≡ true → NoClass installed.now new.now steps.now x len }
-    ensures no { result ≡ false → (y : ℕ) × (y < 2 ^ 32) × (start_of (32 - len) y ≡ x) × InClass installed.now new.now steps.now y len }
-{
-    let end = behind(x, len);
-    let mut y = x as u64;
-    while y < end {
-        match longer_at(installed, new, steps, y as u32, len) {
-            Some(longer) => y = behind(masked(y as u32, longer), longer),
-            None => return false,
-        }
-    }
-    true
-}
-
-// Has the prefix that starts at x in the end what the new table has there, and its class, where it is not empty, the old or the new answer after each step?
-fn is_kept(installed: &[u8], new: &[u8], steps: &[Step], x: u32, len: u8) -> bool
-    requires may { MayFollow installed.now new.now steps.now }
-    requires prefix { (len ≤ 32) × (start_of (32 - len) x ≡ x) }
-    ensures yes { result ≡ true → Kept installed.now new.now steps.now x len }
-    ensures no { result ≡ false → Accepts installed.now new.now steps.now → ⊥ }
-{
-    let old = climb(installed, x);
-    let goal = climb(new, x);
-    let mut class = class_before(&old.hops, &goal.hops, len);
-    for s in steps {
-        if s.len <= len && holds(s.addr, s.len, x) {
-            class = answered(class, len, s.put, s.len, s.hop);
-        }
-    }
-    class.own == goal.hops[len as usize]
-        && (class.good || is_class_empty(installed, new, steps, x, len))
-}
-
-// ---- The installed records.
-
-// Has the prefix of a record in the end what the new table has there, and itself an old or a new answer after each step? Yes only then.
-fn is_own_kept(installed: &[u8], new: &[u8], steps: &[Step], place: usize) -> bool
-    requires may { MayFollow installed.now new.now steps.now }
-    requires in_records { place < records installed.now }
-    ensures { result ≡ true → Kept installed.now new.now steps.now (route_at installed.now place).addr (route_at installed.now place).len }
-{
-    let x = addr_at(installed, place);
-    let len = len_at(installed, place);
-    let hop = hop_at(installed, place);
-    let goal = climb(new, x);
-    let fine = fine_of(hop, best_hop(&goal.hops, len));
-    let mut own = hop;
-    for s in steps {
-        if is_for(s, x, len) {
-            own = left(s.put, s.hop);
-            if !is_fine(fine, own) {
-                return false;
-            }
-        }
-    }
-    own == goal.hops[len as usize]
-}
-
-// Are the prefixes of all installed records kept?
-fn are_records_kept(installed: &[u8], new: &[u8], steps: &[Step]) -> bool
-    requires { MayFollow installed.now new.now steps.now }
-    ensures yes { result ≡ true → (i : ℕ) → i < records installed.now → Kept installed.now new.now steps.now (route_at installed.now i).addr (route_at installed.now i).len }
-    ensures no { result ≡ false → Accepts installed.now new.now steps.now → ⊥ }
-{
-    for place in 0..installed.len() / 8 {
-        if !is_own_kept(installed, new, steps, place)
-            && !is_kept(
-                installed,
-                new,
-                steps,
-                addr_at(installed, place),
-                len_at(installed, place),
-            )
-        {
-            return false;
-        }
-    }
-    true
-}
-
-// ---- The steps.
-
 // What stands at the prefix that starts at x: what a step left there, or else what the installed table has.
 fn standing(installed: &[u8], x: u32, len: u8, left: Option<u8>) -> u8
     requires table { Table 32 (routes installed.now) }
@@ -176,35 +73,133 @@ fn standing(installed: &[u8], x: u32, len: u8, left: Option<u8>) -> u8
     }
 }
 
-// The routes after the steps, each of which can be done, leaves no more than 1,024 and is for a prefix that is kept. None where there is no such number.
-fn count_after(installed: &[u8], new: &[u8], steps: &[Step]) -> Option<usize>
-    requires { MayFollow installed.now new.now steps.now }
-    ensures { MatchOption result (Accepts installed.now new.now steps.now → ⊥) (λ k. Done installed.now new.now steps.now (length steps.now) × (k ≡ length (table_after installed.now steps.now (length steps.now)))) }
-{
-    let mut count = installed.len() / 8;
-    for (index, s) in steps.iter().enumerate() {
-        let x = masked(s.addr, s.len);
-        let left = last_left(&steps[..index], x, s.len);
-        let stands = standing(installed, x, s.len, left);
-        count = counted(s.put != 0, stands != NO_HOP, count)?;
-        // A prefix is put that the installed table lacks and no earlier step was for.
-        if s.put != 0
-            && left.is_none()
-            && stands == NO_HOP
-            && !is_kept(installed, new, steps, x, s.len)
-        {
-            return None;
-        }
-    }
-    Some(count)
+// Two accepted tables, and steps from the one to the other that each keep their rule.
+#[derive(Clone, Copy)]
+pub struct Change<'a> {
+    pub installed: &'a [u8],
+    pub new: &'a [u8],
+    pub steps: &'a [Step],
 }
 
-// Do the steps change the installed table to the new one without a detour?
-pub fn is_hitless(installed: &[u8], new: &[u8], steps: &[Step]) -> bool
-    requires { MayFollow installed.now new.now steps.now }
-    ensures yes { result ≡ true → Accepts installed.now new.now steps.now }
-    ensures no { result ≡ false → Accepts installed.now new.now steps.now → ⊥ }
-{
-    count_after(installed, new, steps) == Some(new.len() / 8)
-        && are_records_kept(installed, new, steps)
+impl Change<'_> {
+    // The length of a prefix above `len` that holds y, of the installed table, of the new one, or put.
+    fn longer_at(&self, y: u32, len: u8) -> Option<u8>
+        requires may { MayFollow self.now.installed.now self.now.new.now self.now.steps.now }
+        requires len_bound { len ≤ 32 }
+        ensures { MatchOption result (InClass self.now.installed.now self.now.new.now self.now.steps.now y len) (λ l. (len < l) × (l ≤ 32) × Known self.now.installed.now self.now.new.now self.now.steps.now y l) }
+    {
+        if let Some(longer) = longer_in(self.installed, y, len) {
+            return Some(longer);
+        }
+        if let Some(longer) = longer_in(self.new, y, len) {
+            return Some(longer);
+        }
+        shortest_put(self.steps, y, len)
+    }
+
+    // Has the class of the prefix that starts at x no address?
+    fn is_class_empty(&self, x: u32, len: u8) -> bool
+        requires may { MayFollow self.now.installed.now self.now.new.now self.now.steps.now }
+        requires prefix { (len ≤ 32) × (start_of (32 - len) x ≡ x) }
+        ensures yes { result ≡ true → NoClass self.now.installed.now self.now.new.now self.now.steps.now x len }
+        ensures no { result ≡ false → (y : ℕ) × (y < 2 ^ 32) × (start_of (32 - len) y ≡ x) × InClass self.now.installed.now self.now.new.now self.now.steps.now y len }
+    {
+        let end = behind(x, len);
+        let mut y = x as u64;
+        while y < end {
+            match self.longer_at(y as u32, len) {
+                Some(longer) => y = behind(masked(y as u32, longer), longer),
+                None => return false,
+            }
+        }
+        true
+    }
+
+    // Has the prefix that starts at x in the end what the new table has there, and its class, where it is not empty, the old or the new answer after each step?
+    fn is_kept(&self, x: u32, len: u8) -> bool
+        requires may { MayFollow self.now.installed.now self.now.new.now self.now.steps.now }
+        requires prefix { (len ≤ 32) × (start_of (32 - len) x ≡ x) }
+        ensures yes { result ≡ true → Kept self.now.installed.now self.now.new.now self.now.steps.now x len }
+        ensures no { result ≡ false → Accepts self.now.installed.now self.now.new.now self.now.steps.now → ⊥ }
+    {
+        let old = climb(self.installed, x);
+        let goal = climb(self.new, x);
+        let mut class = class_before(&old.hops, &goal.hops, len);
+        for s in self.steps {
+            if s.len <= len && holds(s.addr, s.len, x) {
+                class = answered(class, len, s.put, s.len, s.hop);
+            }
+        }
+        class.own == goal.hops[len as usize] && (class.good || self.is_class_empty(x, len))
+    }
+
+    // Has the prefix of a record in the end what the new table has there, and itself an old or a new answer after each step? Yes only then.
+    fn is_own_kept(&self, place: usize) -> bool
+        requires may { MayFollow self.now.installed.now self.now.new.now self.now.steps.now }
+        requires in_records { place < records self.now.installed.now }
+        ensures { result ≡ true → Kept self.now.installed.now self.now.new.now self.now.steps.now (route_at self.now.installed.now place).addr (route_at self.now.installed.now place).len }
+    {
+        let x = addr_at(self.installed, place);
+        let len = len_at(self.installed, place);
+        let hop = hop_at(self.installed, place);
+        let goal = climb(self.new, x);
+        let fine = fine_of(hop, best_hop(&goal.hops, len));
+        let mut own = hop;
+        for s in self.steps {
+            if is_for(s, x, len) {
+                own = left(s.put, s.hop);
+                if !is_fine(fine, own) {
+                    return false;
+                }
+            }
+        }
+        own == goal.hops[len as usize]
+    }
+
+    // Are the prefixes of all installed records kept?
+    fn are_records_kept(&self) -> bool
+        requires { MayFollow self.now.installed.now self.now.new.now self.now.steps.now }
+        ensures yes { result ≡ true → (i : ℕ) → i < records self.now.installed.now → Kept self.now.installed.now self.now.new.now self.now.steps.now (route_at self.now.installed.now i).addr (route_at self.now.installed.now i).len }
+        ensures no { result ≡ false → Accepts self.now.installed.now self.now.new.now self.now.steps.now → ⊥ }
+    {
+        for place in 0..self.installed.len() / 8 {
+            if !self.is_own_kept(place)
+                && !self.is_kept(
+                    addr_at(self.installed, place),
+                    len_at(self.installed, place),
+                )
+            {
+                return false;
+            }
+        }
+        true
+    }
+
+    // The routes after the steps, each of which can be done, leaves no more than 1,024 and is for a prefix that is kept. None where there is no such number.
+    fn count_after(&self) -> Option<usize>
+        requires { MayFollow self.now.installed.now self.now.new.now self.now.steps.now }
+        ensures { MatchOption result (Accepts self.now.installed.now self.now.new.now self.now.steps.now → ⊥) (λ k. Done self.now.installed.now self.now.new.now self.now.steps.now (length self.now.steps.now) × (k ≡ length (table_after self.now.installed.now self.now.steps.now (length self.now.steps.now)))) }
+    {
+        let mut count = self.installed.len() / 8;
+        for (index, s) in self.steps.iter().enumerate() {
+            let x = masked(s.addr, s.len);
+            let left = last_left(&self.steps[..index], x, s.len);
+            let stands = standing(self.installed, x, s.len, left);
+            count = counted(s.put != 0, stands != NO_HOP, count)?;
+            // A prefix is put that the installed table lacks and no earlier step was for.
+            if s.put != 0 && left.is_none() && stands == NO_HOP && !self.is_kept(x, s.len) {
+                return None;
+            }
+        }
+        Some(count)
+    }
+
+    // Do the steps change the installed table to the new one without a detour?
+    pub fn is_hitless(&self) -> bool
+        requires { MayFollow self.now.installed.now self.now.new.now self.now.steps.now }
+        ensures yes { result ≡ true → Accepts self.now.installed.now self.now.new.now self.now.steps.now }
+        ensures no { result ≡ false → Accepts self.now.installed.now self.now.new.now self.now.steps.now → ⊥ }
+    {
+        self.count_after() == Some(self.new.len() / 8) && self.are_records_kept()
+    }
 }

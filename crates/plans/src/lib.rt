@@ -10,7 +10,7 @@ ghost use Rattle.plans.specs.Judging.{tables_rules, tables_says, Judges};
 
 use answers::Step;
 use checking::step_kept;
-use hitless::is_hitless;
+use hitless::Change;
 use records::Form;
 use refusals::{Cause, Refusal};
 use table::check_table;
@@ -36,5 +36,10 @@ pub fn check_plan(installed: &[u8], new: &[u8], form: Form, steps: &[Step]) -> R
             return Err(Cause::Step.at(index));
         }
     }
-    Ok(is_hitless(installed, new, steps))
+    let change = Change {
+        installed,
+        new,
+        steps,
+    };
+    Ok(change.is_hitless())
 }

@@ -5,13 +5,16 @@
 
 ghost use Rattle.std.specs.Prelude.{◌+◌, ◌*◌, ◌≤◌, length, IfOk};
 ghost use Rattle.records.specs.Forms.{size_of};
+ghost use Rattle.calls.specs.Modes.{mode_number};
 ghost use Rattle.text.specs.Text.{Put};
 ghost use Rattle.program.specs.Printed.{printed, printed_in};
 
+pub use calls::engine::Mode;
 use records::{Form, size_of};
 use std::io;
 use std::io::Read;
 use streams::read_full;
+use text::Style;
 use text::answers::put_rewritten;
 
 // Lays what is printed for a table into the buffer, from its start, and says where it ends. The output and the room are lent, and no ranks.
@@ -27,9 +30,12 @@ fn answer_on(
     requires { 3 * length output.old + 36 ≤ length out.old }
     ensures { Put (printed_in form mode default (length output.old) (length work.old) table.now) 0 result out.old out.new }
 {
-    let ranks = [0u16; 0];
-    let answered = aggregate::rewrite(table, form, mode, default, &ranks, output, work);
-    put_rewritten(answered, output, size_of(form), false, 1 < mode, 0, out)
+    let answered = aggregate::rewrite(table, form, mode, default, &[], output, work);
+    let style = Style {
+        hex: false,
+        hops: 1 < mode,
+    };
+    put_rewritten(answered, output, size_of(form), style, 0, out)
 }
 
 // The same with as much of the output as 1,025 records have.
@@ -66,22 +72,17 @@ pub fn answer_in(
 }
 
 // The same in the mode's program.
-fn answer(table: &[u8], long: bool, mode: u32, out: &mut [u8]) -> usize
+#[tactic(auto, unfolding(crate::specs::Printed::printed))]
+fn answer(table: &[u8], long: bool, mode: Mode, out: &mut [u8]) -> usize
     requires { 49236 ≤ length out.old }
-    ensures { Put (printed long mode table.now) 0 result out.old out.new }
+    ensures { Put (printed long (mode_number mode) table.now) 0 result out.old out.new }
 {
+    let form = Form {
+        strict: false,
+        long,
+    };
     let mut work = [0u32; 16384];
-    answer_in(
-        table,
-        Form {
-            strict: false,
-            long: long,
-        },
-        mode,
-        0,
-        &mut work,
-        out,
-    )
+    answer_in(table, form, mode as u32, 0, &mut work, out)
 }
 
 // The bytes of 1,025 records.
@@ -101,7 +102,7 @@ fn read_table(input: &mut impl Read, table: &mut [u8], long: bool) -> io::Result
 }
 
 // Reads a table and prints the answer in the mode. It fails only where a read or the write fails; where a read fails, no answer is printed.
-pub fn run(rt: &impl Print, input: &mut impl Read, long: bool, mode: u32) -> io::Result<()> {
+pub fn run(rt: &impl Print, input: &mut impl Read, long: bool, mode: Mode) -> io::Result<()> {
     let mut table = [0u8; 16400];
     let mut out = [0u8; 49236];
     let size = read_table(input, &mut table, long)?;

@@ -110,17 +110,11 @@ fn answer(table: &[u8], mode: u32, default: u32, work: &mut [u32; 824480], out: 
     requires { 49236 ≤ length out.old }
     ensures { Put (printed_in by_default mode default 8200 824480 table.now) 0 result out.old out.new }
 {
-    answer_in(
-        table,
-        Form {
-            strict: false,
-            long: false,
-        },
-        mode,
-        default,
-        work,
-        out,
-    )
+    let form = Form {
+        strict: false,
+        long: false,
+    };
+    answer_in(table, form, mode, default, work, out)
 }
 
 // Reads the input and prints the answer. It fails only where a read or the write fails; where a read fails, no answer is printed. The work room keeps its

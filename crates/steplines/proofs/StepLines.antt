@@ -1,8 +1,7 @@
 -- Laws of the lines of steps. Assumes nothing.
-use mathlib.Core.Path.{◌≡◌, refl, sym, ap, ◌∙◌}
-use native.Mathlib.Omega.{arith}
+use mathlib.Core.Path.{◌≡◌, sym, ap, ◌∙◌}
 use mathlib.Core.List.{List, [], ◌∷◌, ◌++◌, append_assoc, append-nil}
-use Prim.Native.Nat.{ℕ, zero, suc, ◌+◌, ◌≤◌, ◌<◌}
+use Prim.Native.Nat.{ℕ, ◌+◌, ◌≤◌, ◌<◌}
 use native.Mathlib.Numerals.{add-one}
 use lib.ListN.{length, take, get_or}
 use lib.Seq.{take-suc}
@@ -30,13 +29,6 @@ steps_none room at o fits = put_none at o fits
 pub steps_more : (room : List Step) (i : ℕ) (d : Step) → i < length room → step_lines (take i room) ++ step_line (get_or room i d) ≡ step_lines (take (i + 1) room)
 steps_more room i d lt =
     sym (ap (λ (k : ℕ). step_lines (take k room)) (add-one i) ∙ ap step_lines (take-suc room i d lt) ∙ lines-behind (take i room) (get_or room i d))
-
--- The first of two lists joined.
-pub take_front : {A : Type 0} (ys zs : List A) (k : ℕ) → length ys ≡ k → take k (ys ++ zs) ≡ ys
-take_front [] zs zero e = refl
-take_front [] zs (suc k) e = absurd (omega arith)
-take_front (y ∷ ys) zs zero e = absurd (omega arith)
-take_front {A} (y ∷ ys) zs (suc k) e = ap (λ (l : List A). y ∷ l) (take_front ys zs k (omega arith))
 
 -- A plan's text.
 pub planned_long : (total : Bool) (k : ℕ) (room : List Step) → 2048 < k → planned_text total (Steps k) room ≡ []

@@ -34,7 +34,8 @@ unblank (x ∷ s) = cond (is 32 x) (unblank s) (x ∷ s)
 abbrev pub none : List ℕ → Bool
 none s = eqb (length s) 0
 
--- ---- What is read of a word: a number below a limit, where there is one. Here what is none counts as the limit or more.
+-- ---- What a function answers: a number, if it is below a limit. What is no number counts as the limit or more.
+
 abbrev pub Below : ℕ → Option ℕ → ℕ → Type 0
 Below limit None n = limit ≤ n
 Below limit (Some m) n = (m ≡ n) × (n < limit)

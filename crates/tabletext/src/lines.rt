@@ -4,7 +4,7 @@ ghost use Rattle.std.specs.Prelude.{◌≡◌};
 ghost use Rattle.tabletext.specs.Pieces.{prefix_address, prefix_length};
 ghost use Rattle.tabletext.specs.Lines.{as_said, unreturned, end_of_set, end_of_map, of_prefix, of_words, of_body, of_line, said};
 
-use crate::pieces::{behind, has, number, prefix_address, prefix_length, unblank, up_to};
+use crate::pieces::{behind, has, number_below, prefix_address, prefix_length, unblank, up_to};
 use crate::{Reason, Record};
 
 // A line without a carriage return at its end.
@@ -40,7 +40,7 @@ fn end_of_map(addr: u32, len: u8, rest: &[u8]) -> Result<Record, Reason>
     if !unblank(behind(rest, b' ')).is_empty() {
         return Err(Reason::MoreWords);
     }
-    let hop = number(up_to(rest, b' '), 64).ok_or(Reason::NotHop)?;
+    let hop = number_below(up_to(rest, b' '), 64).ok_or(Reason::NotHop)?;
     Ok(Record { addr, len, hop })
 }
 

@@ -22,7 +22,7 @@ fn find(s: &[u8], b: u8) -> Option<usize>
 
 // Is there a b?
 #[tactic(auto, using(crate::proofs::PieceLaws::has_found))]
-pub fn has(s: &[u8], b: u8) -> bool
+pub(crate) fn has(s: &[u8], b: u8) -> bool
     ensures { result ≡ has b s.now }
 {
     find(s, b).is_some()
@@ -77,9 +77,9 @@ fn digit(low: u8, x: u8) -> Option<u16>
     Some(u16::from(x - b'0'))
 }
 
-// The number that one to three digits are, without a leading zero.
+// The number that a word is: one to three digits, without a leading zero.
 #[tactic(auto, unfolding(crate::specs::Pieces::number))]
-fn digits(s: &[u8]) -> Option<u16>
+pub fn number(s: &[u8]) -> Option<u16>
     ensures { Below 1000 result (number s.now) }
 {
     match s {
@@ -90,12 +90,12 @@ fn digits(s: &[u8]) -> Option<u16>
     }
 }
 
-// The number that a word is, if it is one below the limit.
-pub fn number(s: &[u8], limit: u16) -> Option<u8>
+// The same, if it is below a limit.
+pub(crate) fn number_below(s: &[u8], limit: u16) -> Option<u8>
     requires { limit ≤ 256 }
     ensures { Below limit result (number s.now) }
 {
-    let n = digits(s)?;
+    let n = number(s)?;
     if limit <= n {
         return None;
     }
@@ -109,10 +109,10 @@ fn address(s: &[u8]) -> Option<u32>
 {
     let second = behind(s, b'.');
     let third = behind(second, b'.');
-    let a = number(up_to(s, b'.'), 256)?;
-    let b = number(up_to(second, b'.'), 256)?;
-    let c = number(up_to(third, b'.'), 256)?;
-    let d = number(behind(third, b'.'), 256)?;
+    let a = number_below(up_to(s, b'.'), 256)?;
+    let b = number_below(up_to(second, b'.'), 256)?;
+    let c = number_below(up_to(third, b'.'), 256)?;
+    let d = number_below(behind(third, b'.'), 256)?;
     Some(join4(a, b, c, d))
 }
 
@@ -143,7 +143,7 @@ pub fn prefix_length(w: &[u8]) -> Option<u8>
     if is_default(w) {
         Some(0)
     } else if has(w, b'/') {
-        number(behind(w, b'/'), 33)
+        number_below(behind(w, b'/'), 33)
     } else {
         Some(32)
     }

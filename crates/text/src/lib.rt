@@ -8,9 +8,19 @@ pub mod answers;
 ghost use Rattle.std.specs.Prelude.{◌≡◌, [], ◌∷◌, ◌++◌, ◌+◌, ◌-◌, ◌*◌, ◌/◌, ◌^◌, ◌≤◌, ◌<◌, length};
 ghost use Rattle.records.specs.Sized.{IsSize, width_in, records_in, route_in, routes_in};
 ghost use Rattle.text.specs.Ipv6.{hex16, ipv6, group_part};
-ghost use Rattle.text.specs.Text.{Put, decimal, signed, dotted, hop_end, address_in, line_in, lines_in, change_line, refused_line, found_line, addresses_line, unrouted_line, total_end};
+ghost use Rattle.text.specs.Text.{Put, decimal, signed, dotted, hop_end, address_in, line_in, lines_in, change_line, refusal_line, found_line, addresses_line, unrouted_line, total_end};
 
 use records::sized::{hop_of, key_at, length_at};
+use refusals::Refusal;
+
+// How records are written as lines.
+#[derive(Clone, Copy, Debug, PartialEq, Eq)]
+pub struct Style {
+    // An address of 64 bits in hex digits, not as an IPv6 address.
+    pub hex: bool,
+    // A record's hop behind its length.
+    pub hops: bool,
+}
 
 // One byte.
 fn put_byte(b: u8, at: usize, out: &mut [u8]) -> usize
@@ -151,47 +161,32 @@ fn put_address(key: u64, size: usize, hex: bool, at: usize, out: &mut [u8]) -> u
 }
 
 // The line of record i. It has at most three times the record's bytes.
-fn put_record(
-    table: &[u8],
-    size: usize,
-    i: usize,
-    hex: bool,
-    hops: bool,
-    at: usize,
-    out: &mut [u8],
-) -> usize
+fn put_record(table: &[u8], size: usize, i: usize, style: Style, at: usize, out: &mut [u8]) -> usize
     requires size { IsSize size × (i < records_in size table.now) }
     requires size_in_bounds { at + 3 * size ≤ length out.old }
-    ensures put { Put (line_in size hex hops (route_in size table.now i)) at result out.old out.new }
+    ensures put { Put (line_in size style.hex style.hops (route_in size table.now i)) at result out.old out.new }
     ensures upper_bound { result ≤ at + 3 * size }
 {
-    let end = put_address(key_at(table, size, i), size, hex, at, out);
+    let end = put_address(key_at(table, size, i), size, style.hex, at, out);
     put_ending(
         length_at(table, size, i),
         hop_of(table, size, i),
-        hops,
+        style.hops,
         end,
         out,
     )
 }
 
 // The lines of a table's records.
-pub fn put_records(
-    table: &[u8],
-    size: usize,
-    hex: bool,
-    hops: bool,
-    at: usize,
-    out: &mut [u8],
-) -> usize
+pub fn put_records(table: &[u8], size: usize, style: Style, at: usize, out: &mut [u8]) -> usize
     requires size { IsSize size }
     requires table_in_bounds { at + 3 * length table.now ≤ length out.old }
-    ensures put { Put (lines_in size hex hops (routes_in size table.now)) at result out.old out.new }
+    ensures put { Put (lines_in size style.hex style.hops (routes_in size table.now)) at result out.old out.new }
     ensures upper_bound { result ≤ at + 3 * length table.now }
 {
     let mut end = at;
     for i in 0..table.len() / size {
-        end = put_record(table, size, i, hex, hops, end, out);
+        end = put_record(table, size, i, style, end, out);
     }
     end
 }
@@ -221,14 +216,14 @@ pub fn put_change(change: i64, at: usize, out: &mut [u8]) -> usize
 }
 
 // The line `refused N at I`.
-pub fn put_refused(number: u8, index: usize, at: usize, out: &mut [u8]) -> usize
+pub fn put_refused(refusal: Refusal, at: usize, out: &mut [u8]) -> usize
     requires { at + 36 ≤ length out.old }
-    ensures { Put (refused_line number index) at result out.old out.new }
+    ensures { Put (refusal_line refusal) at result out.old out.new }
 {
     let word = put_bytes(b"refused ", at, out);
-    let end = put_octet(number, b' ', word, out);
+    let end = put_octet(refusal.cause.number(), b' ', word, out);
     let place = put_bytes(b"at ", end, out);
-    put_last(index as u64, place, out)
+    put_last(refusal.index as u64, place, out)
 }
 
 // The line `hop H length L`.
@@ -261,6 +256,7 @@ fn put_unrouted(n: u64, at: usize, out: &mut [u8]) -> usize
 }
 
 // The same where `total` says so, else nothing.
+#[tactic(auto, using(crate::proofs::Puts::put_none), unfolding(crate::specs::Text::total_end))]
 pub fn put_total(n: u64, total: bool, at: usize, out: &mut [u8]) -> usize
     requires { at + 30 ≤ length out.old }
     ensures { Put (total_end total n) at result out.old out.new }

@@ -29,10 +29,10 @@ loop-i-preserved c =
     let i = c.loop-i.i in
     let inv = c.loop-i.invariant in
     let line = c.put_record-end.ensures in
-    (omega (arith, inv.0, line.upper_bound, next c.args.size i), put_as (lines_more c.args.size c.args.hex c.args.hops c.args.table.now i) (put_then inv.1 line.put))
+    (omega (arith, inv.0, line.upper_bound, next c.args.size i), put_as (lines_more c.args.size c.args.style.hex c.args.style.hops c.args.table.now i) (put_then inv.1 line.put))
 
 pub returns : goal.returns
 returns c =
     let inv = c.loop-i.invariant in
     let all : c.loop-i.i ≡ records_in c.args.size c.args.table.now = omega (arith, c.loop-i.auto.i-end, c.loop-i-test.false) in
-    let whole = subst (λ (k : ℕ). c.args.size * k ≤ length c.args.table.now) (sym all) (mul-div-le (length c.args.table.now) c.args.size) in record { put = put_as (lines_all c.args.size c.args.hex c.args.hops c.args.table.now c.loop-i.i all) inv.1; upper_bound = omega (arith, inv.0, whole) }
+    let whole = subst (λ (k : ℕ). c.args.size * k ≤ length c.args.table.now) (sym all) (mul-div-le (length c.args.table.now) c.args.size) in record { put = put_as (lines_all c.args.size c.args.style.hex c.args.style.hops c.args.table.now c.loop-i.i all) inv.1; upper_bound = omega (arith, inv.0, whole) }

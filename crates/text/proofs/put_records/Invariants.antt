@@ -6,4 +6,4 @@ use Rattle.text.proofs.put_records.Given as goal
 
 abbrev pub invariant-loop-i : goal.invariant-loop-i
 invariant-loop-i l =
-    (l.end ≤ l.at + 3 * (l.size * l.i)) × Put (lines_in l.size l.hex l.hops (routes_from_in l.size l.table 0 l.i)) l.at l.end l.initial.out l.out
+    (l.end ≤ l.at + 3 * (l.size * l.i)) × Put (lines_in l.size l.style.hex l.style.hops (routes_from_in l.size l.table 0 l.i)) l.at l.end l.initial.out l.out

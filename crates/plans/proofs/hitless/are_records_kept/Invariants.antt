@@ -1,8 +1,0 @@
--- The records so far are kept.
-use Rattle.std.specs.Prelude.{ℕ, ◌<◌}
-use Rattle.records.specs.Wire.{route_at}
-use Rattle.plans.specs.Deciding.{Kept}
-use Rattle.plans.proofs.hitless.are_records_kept.Given as goal
-
-abbrev pub invariant-loop-place : goal.invariant-loop-place
-invariant-loop-place l = (i : ℕ) → i < l.place → Kept l.installed l.new l.steps (route_at l.installed i).addr (route_at l.installed i).len

@@ -1,7 +1,0 @@
--- The steps so far are done with, and this is the number of routes then.
-use Rattle.std.specs.Prelude.{◌≡◌, length}
-use Rattle.plans.specs.Deciding.{table_after, Done}
-use Rattle.plans.proofs.hitless.count_after.Given as goal
-
-abbrev pub invariant-loop-index : goal.invariant-loop-index
-invariant-loop-index l = Done l.installed l.new l.steps l.index × (l.count ≡ length (table_after l.installed l.steps l.index))

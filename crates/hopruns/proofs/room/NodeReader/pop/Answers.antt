@@ -24,16 +24,6 @@ bounds-work-top c =
     let r = read_some _ _ a.self.mask a.self.top a.work.now h.masked h.begins c.if-mask-eq0.false in
     omega (arith, r.word)
 
-pub overflow_cast-to : goal.overflow_cast-to
-overflow_cast-to c = omega (arith, c.type_inv.work c.args.self.top)
-
-pub overflow_add-to-2 : goal.overflow_add-to-2
-overflow_add-to-2 c =
-    let a = c.args in
-    let h = c.requires.2 in
-    let r = read_some _ _ a.self.mask a.self.top a.work.now h.masked h.begins c.if-mask-eq0.false in
-    omega (arith, r.within)
-
 pub returns : goal.returns
 returns c =
     let a = c.args in

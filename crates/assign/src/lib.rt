@@ -145,7 +145,7 @@ pub fn assign_nodes(work: &[u32], top: usize, above: u8, ranks: &[u16]) -> Assig
 }
 
 // Is what answers a slot with no record in it, wherever it stands, the hop assigned above it? All are asked: to leave at the first that differs, as
-// `all` does, made the second walk's instructions up to 9 % more.
+// `all` does, made the second walk's instructions up to 9 % more (x86-64).
 fn leaves_same(covering: &[u8; 31], hops: &[u8; 31], fill: u8) -> bool
     ensures { result ≡ true → LeafSlots covering.now hops.now fill 0 }
 {

@@ -122,26 +122,23 @@ impl NodeReader {
         requires { (runs : ℕ → List ℕ) × (k : ℕ) × Ahead runs (suc k) self work.now }
         ensures { (runs : ℕ → List ℕ) (k : ℕ) → Ahead runs (suc k) self work.now → Popping runs k result work.now }
     {
-        let top = self.top;
-        let mask = self.mask;
-        if mask % 2 == 0 {
+        let mask = self.mask / 2;
+        if self.mask % 2 == 0 {
             return Popped {
-                from: top,
-                to: top,
+                from: self.top,
+                to: self.top,
                 reader: NodeReader {
-                    mask: mask / 2,
-                    top,
+                    mask,
+                    top: self.top,
                 },
             };
         }
-        let to = top + 1 + (work[top] as usize);
+        let from = self.top + 1;
+        let to = from + (work[self.top] as usize);
         Popped {
-            from: top + 1,
+            from,
             to,
-            reader: NodeReader {
-                mask: mask / 2,
-                top: to,
-            },
+            reader: NodeReader { mask, top: to },
         }
     }
 }

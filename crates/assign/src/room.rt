@@ -4,7 +4,7 @@ ghost use Rattle.std.specs.Prelude.{◌≡◌, ◌+◌, ◌*◌, ◌/◌, ◌%�
 ghost use Rattle.nodes.specs.Room.{Pushed};
 ghost use Rattle.assign.specs.Packed.{packed};
 
-use writer::{NodeWriter, pushed};
+use writer::{NodeWriter, push};
 
 // Lays a node's own words below `top`, its positions from the last to the first, then the mask, and says where they begin. The positions under
 // one go by pairs; the first is always stored.
@@ -14,16 +14,14 @@ pub fn push_sets(sets: &[u64; 63], work: &mut [u32], top: usize) -> usize
     ensures pushed { Pushed (packed sets.now) top result work.old work.new }
 {
     let mut node = NodeWriter { mask: 0, top };
-    let mut p: usize = 15;
-    while 0 < p {
-        p -= 1;
+    for p in (0..15).rev() {
         let own = sets[p];
         let right = sets[2 * p + 2];
-        node = pushed(node, work, right != own, right);
+        push(&mut node, work, right != own, right);
         let left = sets[2 * p + 1];
-        node = pushed(node, work, left != own, left);
+        push(&mut node, work, left != own, left);
     }
-    node = pushed(node, work, true, sets[0]);
+    push(&mut node, work, true, sets[0]);
     work[node.top - 1] = node.mask;
     node.top - 1
 }

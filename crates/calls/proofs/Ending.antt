@@ -14,7 +14,7 @@ use lib.Signed.{mag}
 use mir.Syntax.{w64}
 use mir.Val.{SFits, to_z, of_z}
 use mir.ValLaws.{to_z_pos, to_z-of_z}
-use borrow.Author.Tests.{eqb-true, eqb-false, leb-true, leb-false, le-leb, lt-leb, le-ltb, lt-ltb, eq-eqb, ne_eqb}
+use borrow.Author.Tests.{eqb-true, eqb-false, leb-true, le-leb, lt-leb, eq-eqb, ne_eqb}
 use Rattle.std.specs.Prelude.{Err}
 use Rattle.refusals.specs.Numbers.{number_of}
 use Rattle.refusals.specs.declared.Cause.TheVariants.{OutputRoom}
@@ -127,14 +127,6 @@ pub same_last : (size : ℕ) (t : List ℕ) (mode fill default : ℕ) (ranks : L
     → last_reply size t mode default ranks room ≡ last_reply size t mode fill ranks room
 unfolding result_of
 same_last size t mode fill default ranks room used same = rw (same_mode mode fill default used same)
-
--- Above is not at most.
-pub above_not : (m n : ℕ) → ltb m n ≡ not (leb n m)
-above_not m n = go (leb n m) refl
-  where
-    go : (b : Bool) → leb n m ≡ b → ltb m n ≡ not b
-    go true e = le-ltb m n (leb-true n m e)
-    go false e = lt-ltb m n (leb-false n m e)
 
 -- Rule 2 says that the default of mode 5 is a hop.
 pub default_hop : (mode default : ℕ) → (not (eqb mode 5) || leb default 63) ≡ true → mode ≡ 5 → default ≤ 63

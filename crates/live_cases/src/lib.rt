@@ -10,8 +10,8 @@ ghost use Rattle.live_cases.specs.Lines.{kept_line, look_line};
 ghost use Rattle.live_cases.specs.Commands.{command_at, flipped, change_reply, change_left, stays, line_of, left_of, lines_of};
 
 use lines::{put_kept, put_looked, put_touched};
-use live::answers::Kept;
 use records::{Form, join4};
+use refusals::Refusal;
 use text::put_bytes;
 
 // A command: what is to be done, how a prefix is read, and its numbers.
@@ -58,31 +58,31 @@ fn flip(room: &mut [u32], place: u32, bit: u8)
     }
 }
 
-// A call that may change the map: make, put or take.
-fn change(command: Command, room: &mut [u32]) -> Kept
+// A call that may change the map: make, put or take. It answers whether it does: a take of an absent prefix does not.
+fn change(command: Command, room: &mut [u32]) -> Result<bool, Refusal>
     ensures { (kept_says result ≡ change_reply command room.old) × (room.new ≡ change_left command room.old) }
 {
     match command.order {
-        0 => live::make_empty(room),
+        0 => live::make_empty(room).and(Ok(true)),
         1 => live::put(
             room,
             command.form,
             command.address,
             command.len as u32,
             command.hop,
-        ),
+        )
+        .and(Ok(true)),
         _ => live::take(room, command.form, command.address, command.len as u32),
     }
 }
 
 // Does a call leave the room as it was, by its answer?
-fn room_stays(answer: Kept) -> bool
+fn room_stays(answer: Result<bool, Refusal>) -> bool
     ensures { result ≡ stays answer }
 {
     match answer {
-        Kept::Done => false,
-        Kept::Absent => true,
-        Kept::Refused { .. } => true,
+        Ok(changed) => !changed,
+        Err(_) => true,
     }
 }
 

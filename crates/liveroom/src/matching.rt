@@ -50,6 +50,7 @@ pub fn longest_in(room: &[u32], n: usize, address: u32) -> Option<Match>
     ensures { match_of result ≡ lookup 32 (shown_from room.now 0 n) address }
 {
     let mut i = place(room, n, address, 33);
+    // A search finds the next place, so no range goes through them.
     while 0 < i {
         i -= 1;
         let addr = addr_in(room, i);

@@ -15,11 +15,8 @@ fn is_shared(key: u64, last_key: u64, last_len: u8, m: u8) -> bool
     ensures { (w a b : ℕ) → w ≤ 64 → 5 * m ≤ w → key ≡ key_of w a → last_key ≡ key_of w b → result ≡ node_at w m a (bare b last_len) }
 {
     let depth = 5 * m;
-    if last_len < depth {
-        return false;
-    }
     let rest = 64 - depth;
-    last_key >> rest == key >> rest
+    depth <= last_len && last_key >> rest == key >> rest
 }
 
 // The nodes that a record brings beside those of the record before it: those below the deepest that both have.

@@ -41,12 +41,12 @@ fn main(rt: HostRuntime) -> io::Result<()> {
         strict: false,
         long: false,
     };
+    let mut room = empty_room();
     let end = plan_text(
         &installed[..a],
         &new[..b],
         form,
-        empty_room(),
-        65535,
+        &mut room,
         false,
         0,
         &mut out,

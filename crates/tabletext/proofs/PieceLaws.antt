@@ -4,14 +4,13 @@ use borrow.Author.Tests.{ltb-false}
 use lib.Dec.{ltb}
 use Rattle.std.specs.Prelude.{not, Some, None}
 use Rattle.std.specs.List.{position, position_or_len}
-use Rattle.std.specs.Option.{unwrap_or}
+use Rattle.std.specs.Option.{is_some, unwrap_or}
 use mathlib.Core.Bool.{Bool, true, false, cond}
 use mathlib.Core.List.{List, [], ◌∷◌}
-use Prim.Native.Nat.{ℕ, suc, ◌+◌, ◌-◌, ◌*◌, ◌≤◌}
+use Prim.Native.Nat.{ℕ, suc, ◌+◌, ◌*◌, ◌≤◌}
 use native.Mathlib.Omega.{arith}
-use lib.ListN.{length, get_or, take, drop, length-drop}
-use lib.Seq.{take_all}
-use Rattle.tabletext.specs.Pieces.{is, place, digit_from, number}
+use lib.ListN.{length, get_or}
+use Rattle.tabletext.specs.Pieces.{is, has, place, digit_from, number}
 
 -- ---- The place of a byte.
 
@@ -42,11 +41,13 @@ place_found b s = rw (place_first b s) (go (ltb (place b s) (length s)) refl)
     go true e = refl
     go false e = let h = ltb-false (place b s) (length s) e in let most = place-most b s in omega arith
 
--- ---- Parts of a list.
-
--- All that stands from place i on.
-pub whole : (s : List ℕ) (i : ℕ) → take (length s - i) (drop i s) ≡ drop i s
-whole s i = take_all (length s - i) (drop i s) (rw (length-drop i s) (omega arith))
+-- It is found where the list has it.
+pub has_found : (b : ℕ) (s : List ℕ) → is_some (position (is b) s) ≡ has b s
+has_found b s = rw (place_first b s) (go (ltb (place b s) (length s)))
+  where
+    go : (t : Bool) → is_some (cond t (Some (place b s)) None) ≡ t
+    go true = refl
+    go false = refl
 
 -- ---- Words of given lengths.
 

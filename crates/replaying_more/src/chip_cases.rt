@@ -7,13 +7,13 @@ ghost use Rattle.text.specs.Text.{Put};
 ghost use Rattle.kept.specs.Kept.{begin_of};
 ghost use Rattle.replaying_more.specs.ChipKept.{used_of, slots_text, loaded_text, is_as_said, chip_answer, chip_case};
 
-use chip::Loaded;
 use kept::counted::put_counted;
 use kept::{FILLED_BYTE, form_of, join2, keep_line, room_for};
 use records::Form;
+use refusals::Refusal;
 use std::io::Stdout;
 use streams::outlet::Outlet;
-use text::{put_records, put_refused};
+use text::{Style, put_records, put_refused};
 
 // The lines of an image's first slots, and how many they are.
 fn put_slots(image: &[u8], used: usize, at: usize, out: &mut [u8]) -> usize
@@ -22,19 +22,24 @@ fn put_slots(image: &[u8], used: usize, at: usize, out: &mut [u8]) -> usize
     ensures { Put (slots_text used image.now) at result out.old out.new }
 {
     let size = 8 * used;
-    let end = put_records(&image[..size], 8, false, true, at, out);
+    let style = Style {
+        hex: false,
+        hops: true,
+    };
+    let end = put_records(&image[..size], 8, style, at, out);
     put_counted(b"slots ", used as u64, end, out)
 }
 
 // The text of an answer, from the image that it left.
-fn put_loaded(answer: Loaded, image: &[u8], at: usize, out: &mut [u8]) -> usize
+#[tactic(auto, unfolding(crate::specs::ChipKept::loaded_text))]
+fn put_loaded(answer: Result<usize, Refusal>, image: &[u8], at: usize, out: &mut [u8]) -> usize
     requires answer_in_bounds { 8 * used_of answer ≤ length image.now }
     requires answer_in_bounds_2 { at + 24 * used_of answer + 36 ≤ length out.old }
     ensures { Put (loaded_text answer image.now) at result out.old out.new }
 {
     match answer {
-        Loaded::Slots(used) => put_slots(image, used, at, out),
-        Loaded::Refused { number, index } => put_refused(number, index, at, out),
+        Ok(used) => put_slots(image, used, at, out),
+        Err(refusal) => put_refused(refusal, at, out),
     }
 }
 
@@ -62,7 +67,7 @@ fn keep_unless(
 // Keeps `slots not clear`, if after an answer a byte of an unused slot is not 255, and `image touched`, if after a refusal a byte is not as it was filled.
 fn keep_image(
     outlet: &mut Outlet<Stdout>,
-    answer: Loaded,
+    answer: Result<usize, Refusal>,
     image: &[u8],
     at: usize,
     kept: &mut [u8],
@@ -73,12 +78,8 @@ fn keep_image(
     ensures { is_as_said answer image.now ≡ true → (result ≡ at) × (kept.new ≡ kept.old) }
 {
     match answer {
-        Loaded::Slots(used) => {
-            keep_unless(outlet, image, 8 * used, 255, b"slots not clear\n", at, kept)
-        }
-        Loaded::Refused { .. } => {
-            keep_unless(outlet, image, 0, FILLED_BYTE, b"image touched\n", at, kept)
-        }
+        Ok(used) => { keep_unless(outlet, image, 8 * used, 255, b"slots not clear\n", at, kept) }
+        Err(_) => keep_unless(outlet, image, 0, FILLED_BYTE, b"image touched\n", at, kept),
     }
 }
 

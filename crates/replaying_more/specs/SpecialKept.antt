@@ -14,6 +14,7 @@ abbrev pub place_line : Place → List ℕ
 place_line (at i) = counted_line (115 ∷ 112 ∷ 101 ∷ 99 ∷ 105 ∷ 97 ∷ 108 ∷ 32 ∷ 97 ∷ 116 ∷ 32 ∷ []) i
 place_line nowhere = 110 ∷ 111 ∷ 110 ∷ 101 ∷ 32 ∷ 115 ∷ 112 ∷ 101 ∷ 99 ∷ 105 ∷ 97 ∷ 108 ∷ 10 ∷ []
 
+-- Of what the call answered.
 unfoldable pub special_text : Result (Option ℕ) Refusal → List ℕ
 special_text r = said place_line (special_says r)
 

@@ -444,9 +444,6 @@ module _ {t u : List ℕ} {ss : List Step} (may : MayFollow t u ss) {a d : ℕ} 
   pub in_prefix : (y : ℕ) → a ≤ y → y < a + 2 ^ (32 - d) → start_of (32 - d) y ≡ a
   in_prefix y ge lt = start_is (32 - d) a y (subst (Aligned (32 - d)) own (aligned-start (32 - d) a)) (ge, lt)
 
-  pub covered_start : Covered t u ss a d a
-  covered_start x lt e = let z = (in_start (32 - d) x).0 in absurd (omega arith)
-
   -- Up to the end of the longer prefix.
   pub covered_next : {y l : ℕ} → d < l → l ≤ 32 → Known t u ss y l → Covered t u ss a d y → Covered t u ss a d (start_of (32 - l) y + 2 ^ (32 - l))
   covered_next {y} {l} gt up known cov x h q = pick (dec_lt x y)
@@ -456,9 +453,6 @@ module _ {t u : List ℕ} {ss : List Step} (may : MayFollow t u ss) {a d : ℕ} 
       pick (no g) =
           let z = (in_start (32 - l) y).0 in
           (l, gt, up, known_moves may (start_is (32 - l) (start_of (32 - l) y) x (aligned-start (32 - l) y) (omega arith, h)) known)
-
-  pub covered_end : {y : ℕ} → a + 2 ^ (32 - d) ≤ y → Covered t u ss a d y → NoClass t u ss a d
-  covered_end {y} ge cov x lt q = let z = (in_start (32 - d) x).1 in cov x (omega arith) q
 
 -- ---- A record's prefix by itself.
 

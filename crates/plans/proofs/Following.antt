@@ -174,13 +174,6 @@ module _ {t u : List ℕ} {ss : List Step} (may : MayFollow t u ss) where
   pub small_at : (k a l : ℕ) → Small (entry (table_after t ss k) a l)
   small_at k a l = small-entry (hopped k) a l
 
-  pub number-low : (k a l : ℕ) → number_of (entry (table_after t ss k) a l) < 65
-  number-low k a l = go (entry (table_after t ss k) a l) (small_at k a l)
-    where
-      go : (v : Answer) → Small v → number_of v < 65
-      go none s = omega arith
-      go (via h) s = omega arith
-
 -- ---- A class on its way.
 
 -- The class has its old or its new answer after j steps.

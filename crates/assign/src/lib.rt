@@ -56,10 +56,7 @@ pub fn with_entry(entries: u32, b: u32, hop: u8, over: u8) -> u32
     requires { b < 31 }
     ensures { (i : ℕ) → i < 32 → bit result i ≡ ((eqb i b && is_entry hop over) || bit entries i) }
 {
-    if hop == over {
-        return entries;
-    }
-    if hop < NO_HOP {
+    if hop != over && hop < NO_HOP {
         with_bit(entries, b)
     } else {
         entries
@@ -148,7 +145,7 @@ pub fn assign_nodes(work: &[u32], top: usize, above: u8, ranks: &[u16]) -> Assig
 }
 
 // Is what answers a slot with no record in it, wherever it stands, the hop assigned above it? All are asked: to leave at the first that differs, as
-// `all` does, made the second walk's instructions up to 9 % more.
+// `all` does, made the second walk's instructions up to 9 % more (x86-64).
 fn leaves_same(covering: &[u8; 31], hops: &[u8; 31], fill: u8) -> bool
     ensures { result ≡ true → LeafSlots covering.now hops.now fill 0 }
 {
@@ -180,12 +177,10 @@ pub fn emit(size: usize, out: &mut [u8], addr: u64, len: usize, hop: u8, above: 
     requires { (len < 256) × IsSize size }
     ensures { (a : ℕ) → a / 2 ≡ addr → Wrote size (entry_over a len hop above) 0 result out.old out.new }
 {
-    if hop == above {
-        return 0;
-    }
-    if hop < NO_HOP {
+    if hop != above && hop < NO_HOP {
         put(size, out, addr, len, hop);
-        return 1;
+        1
+    } else {
+        0
     }
-    0
 }

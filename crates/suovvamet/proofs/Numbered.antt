@@ -8,7 +8,7 @@ use Prim.Native.Nat.{ℕ, ◌≤◌, ◌<◌}
 use native.Mathlib.Omega.{arith}
 use lib.IntN.{ℤ}
 use lib.ListN.{length}
-use Rattle.std.specs.Prelude.{Result, Ok, Err}
+use Rattle.std.specs.Prelude.{Option, Result, Ok, Err}
 use Rattle.lookup.specs.Calls.{lookup_says, held_says}
 use Rattle.refusals.specs.declared.Refusal.{Refusal}
 use Rattle.refusals.proofs.Replies.{number_some}
@@ -379,10 +379,10 @@ module _ (t u : List ℕ) (flags : ℕ) (ss : List Step) {number yes index : ℕ
 
 -- ---- The planner.
 module _ (t u : List ℕ) (flags : ℕ) (room : List Step) {number given count index : ℕ} {room' : List Step} (ok : PlanInC t u flags room number given count index room') where
-  abbrev right : Planned
+  abbrev right : Option ℕ
   right = chosen t u (length room)
 
-  given_plan : ((p : Planned) × (planned_says ok.answer ≡ gives p)) ↔ None (TablesCondition (form_by flags) t u)
+  given_plan : ((p : Option ℕ) × (planned_says ok.answer ≡ gives p)) ↔ None (TablesCondition (form_by flags) t u)
   given_plan = (
     λ (p, e). ((gives-exactly (tables_rules (form_by flags) t u) (tables_tests (form_by flags) t u) right {b = p}).0 (sym ok.plans.answer ∙ e)).0,
     λ none. (right, ok.plans.answer ∙ (gives-exactly (tables_rules (form_by flags) t u) (tables_tests (form_by flags) t u) right {b = right}).1 (none, refl)),

@@ -14,6 +14,7 @@ use records::Form;
 use refusals::Refusal;
 
 // How a table is read: strictly where the lowest bit of the flags is set, and as one of records of 16 bytes where the next is. The others are ignored.
+#[tactic(auto, using(crate::proofs::Flags::low_bit, crate::proofs::Flags::next_bit))]
 fn form_of(flags: u32) -> Form
     ensures { result ≡ form_by flags }
 {

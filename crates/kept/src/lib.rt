@@ -9,6 +9,7 @@ pub mod ending;
 pub mod ranks;
 
 ghost use Rattle.std.specs.Prelude.{◌≡◌, true, ◌+◌, ◌*◌, ◌≤◌, ◌<◌, length, drop};
+ghost use Rattle.std.specs.List.{list_all};
 ghost use Rattle.rooms.specs.Rooms.{all_are};
 ghost use Rattle.text.specs.Text.{Put};
 ghost use Rattle.kept.specs.Kept.{CalledBy, is_long, form_by, address_of, begin_of};
@@ -124,16 +125,34 @@ pub fn keep_line(outlet: &mut Outlet<Stdout>, line: &[u8], at: usize, kept: &mut
     put_bytes(line, begin, kept)
 }
 
+// Keeps a line, if an element of the room from a place on is not the value.
+pub fn keep_unless<T: Copy + PartialEq>(
+    outlet: &mut Outlet<Stdout>,
+    room: &[T],
+    from: usize,
+    value: T,
+    line: &[u8],
+    at: usize,
+    kept: &mut [u8],
+) -> usize
+    requires line_len_bound { length line.now ≤ 20 }
+    requires at_in_bounds { at ≤ length kept.old }
+    requires in_bounds { 262144 ≤ length kept.old }
+    ensures { list_all (λ x. T.eq x value) (drop from room.now) ≡ true → (result ≡ at) × (kept.new ≡ kept.old) }
+{
+    if rooms::are(room, from, value) {
+        return at;
+    }
+    keep_line(outlet, line, at, kept)
+}
+
 // Keeps `work not zero`, if a word of the room is not.
 pub fn keep_work(outlet: &mut Outlet<Stdout>, work: &[u32], at: usize, kept: &mut [u8]) -> usize
     requires at_in_bounds { at ≤ length kept.old }
     requires in_bounds { 262144 ≤ length kept.old }
     ensures { all_are 0 work.now ≡ true → (result ≡ at) × (kept.new ≡ kept.old) }
 {
-    if rooms::are(work, 0, 0) {
-        return at;
-    }
-    keep_line(outlet, b"work not zero\n", at, kept)
+    keep_unless(outlet, work, 0, 0, b"work not zero\n", at, kept)
 }
 
 // Keeps `output touched`, if a byte of the output from a place on is not as it was filled.
@@ -148,8 +167,13 @@ pub fn keep_output(
     requires in_bounds { 262144 ≤ length kept.old }
     ensures { all_are 165 (drop from output.now) ≡ true → (result ≡ at) × (kept.new ≡ kept.old) }
 {
-    if rooms::are(output, from, FILLED_BYTE) {
-        return at;
-    }
-    keep_line(outlet, b"output touched\n", at, kept)
+    keep_unless(
+        outlet,
+        output,
+        from,
+        FILLED_BYTE,
+        b"output touched\n",
+        at,
+        kept,
+    )
 }

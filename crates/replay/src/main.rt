@@ -28,33 +28,9 @@ use std::io::{Read, Stdout};
 use streams::outlet::Outlet;
 use streams::read_full;
 
-// Rooms of zeros. Made by a call, each is to the caller an array of that length and no list of that many zeros.
-fn table_room() -> [u8; 65535] {
-    [0; 65535]
-}
-
-fn kept_room() -> [u8; 262144] {
-    [0; 262144]
-}
-
-fn live_room() -> [u8; 524288] {
-    [0; 524288]
-}
-
-fn list_room() -> [u8; 1048576] {
-    [0; 1048576]
-}
-
-fn list_text_room() -> [u8; 3145764] {
-    [0; 3145764]
-}
-
-fn small_work() -> [u32; 32768] {
-    [0; 32768]
-}
-
-fn large_work() -> [u32; 1807520] {
-    [0; 1807520]
+// A room of so many zeros. Made by a call, it is to the caller an array of that length and no list of that many zeros.
+fn bytes_room<const N: usize>() -> [u8; N] {
+    [0; N]
 }
 
 // Reads what stands behind the installed table in a case with a plan, the new table and so many bytes of steps, and keeps its answer.
@@ -75,8 +51,8 @@ fn steps_turn(
     ensures bound { IfOk result (λ next. next ≤ length kept.old) }
     ensures unchanged { OnErr result (kept.new ≡ kept.old) }
 {
-    let mut new_room = table_room();
-    let mut steps_room = kept_room();
+    let mut new_room = bytes_room::<65535>();
+    let mut steps_room = bytes_room::<262144>();
     let new = &mut new_room[..join2(head[8], head[9])];
     let steps = &mut steps_room[..size];
     read_whole(input, new)?;
@@ -94,7 +70,7 @@ fn live_out(outlet: &mut Outlet<Stdout>, words: usize, commands: &[u8])
     requires words_bound { words ≤ 412240 }
     requires commands_len_bound { length commands.now ≤ 65535 }
 {
-    let mut text = live_room();
+    let mut text = bytes_room::<524288>();
     let end = live_text(commands, words, &mut text);
     send(outlet, &text, end);
 }
@@ -124,8 +100,8 @@ fn live_turn(
 fn list_out(outlet: &mut Outlet<Stdout>, first: u8, bytes: usize, table: &[u8])
     requires { bytes ≤ 1048576 }
 {
-    let mut output = list_room();
-    let mut text = list_text_room();
+    let mut output = bytes_room::<1048576>();
+    let mut text = bytes_room::<3145764>();
     let end = list_text(
         outlet,
         table,
@@ -163,9 +139,9 @@ fn list_turn(
     Ok(0)
 }
 
-// Keeps the answer of a case with call 0 to 3, with a work room that holds what it asks for.
+// Keeps the answer of a case with call 0 to 3, with a work room of N words.
 #[inline(never)]
-fn small_turn(
+fn sized_turn<const N: usize>(
     outlet: &mut Outlet<Stdout>,
     head: &[u8; 16],
     query: &[u8],
@@ -177,37 +153,13 @@ fn small_turn(
 ) -> usize
     requires value { 8 ≡ length query.now }
     requires value_2 { 65535 ≡ length output.old }
-    requires head_bound { words_of head.now ≤ 32768 }
+    requires size_bound { N ≤ 1807520 }
+    requires head_bound { words_of head.now ≤ N }
     requires at_in_bounds { at ≤ length kept.old }
     requires in_bounds { 262144 ≤ length kept.old }
     ensures { result ≤ length kept.old }
 {
-    let mut work = small_work();
-    keep_answer(
-        outlet, head, query, table, ranks, output, &mut work, at, kept,
-    )
-}
-
-// The same with a work room of any size that is lent.
-#[inline(never)]
-fn large_turn(
-    outlet: &mut Outlet<Stdout>,
-    head: &[u8; 16],
-    query: &[u8],
-    table: &[u8],
-    ranks: &[u16],
-    output: &mut [u8],
-    at: usize,
-    kept: &mut [u8],
-) -> usize
-    requires value { 8 ≡ length query.now }
-    requires value_2 { 65535 ≡ length output.old }
-    requires head_bound { words_of head.now ≤ 1807520 }
-    requires at_in_bounds { at ≤ length kept.old }
-    requires in_bounds { 262144 ≤ length kept.old }
-    ensures { result ≤ length kept.old }
-{
-    let mut work = large_work();
+    let mut work = [0u32; N];
     keep_answer(
         outlet, head, query, table, ranks, output, &mut work, at, kept,
     )
@@ -247,9 +199,9 @@ fn work_turn(
 {
     let words = asked(head);
     if words <= 32768 {
-        Ok(small_turn(outlet, head, query, table, ranks, output, at, kept))
+        Ok(sized_turn::<32768>(outlet, head, query, table, ranks, output, at, kept))
     } else if words <= most_words(head[0]) {
-        Ok(large_turn(outlet, head, query, table, ranks, output, at, kept))
+        Ok(sized_turn::<1807520>(outlet, head, query, table, ranks, output, at, kept))
     } else {
         Err(Ending::At(Fault::WorkRoomTooLarge))
     }
@@ -272,7 +224,7 @@ fn output_turn(
     ensures bound { IfOk result (λ next. next ≤ length kept.old) }
     ensures unchanged { OnErr result (kept.new ≡ kept.old) }
 {
-    let mut output = table_room();
+    let mut output = bytes_room::<65535>();
     match call {
         Call::Plain => Ok(plain_turn(outlet, head, table, ranks, &mut output, at, kept)),
         Call::Load => Ok(chip_turn(outlet, head, table, &mut output, at, kept)),
@@ -404,8 +356,8 @@ fn all_turns(
 
 fn main(rt: HostRuntime) -> io::Result<()> {
     let mut outlet = Outlet::new(rt.stdout());
-    let mut table = table_room();
-    let mut kept = kept_room();
+    let mut table = bytes_room::<65535>();
+    let mut kept = bytes_room::<262144>();
     all_turns(&mut rt.stdin(), &mut outlet, &mut table, &mut kept)?;
     outlet.finish()
 }

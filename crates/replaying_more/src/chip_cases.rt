@@ -1,14 +1,13 @@
 // The cases of call 6, the chip loader: the text of the answer is kept. The image is filled before the call and looked at after it: by the call's
 // statement no line about it is ever kept.
 
-ghost use Rattle.std.specs.Prelude.{◌≡◌, true, ◌+◌, ◌*◌, ◌≤◌, length, drop};
-ghost use Rattle.rooms.specs.Rooms.{all_are};
+ghost use Rattle.std.specs.Prelude.{◌≡◌, true, ◌+◌, ◌*◌, ◌≤◌, length};
 ghost use Rattle.text.specs.Text.{Put};
 ghost use Rattle.kept.specs.Kept.{begin_of};
 ghost use Rattle.replaying_more.specs.ChipKept.{used_of, slots_text, loaded_text, is_as_said, chip_answer, chip_case};
 
 use kept::counted::put_counted;
-use kept::{FILLED_BYTE, form_of, join2, keep_line, room_for};
+use kept::{FILLED_BYTE, form_of, join2, keep_unless, room_for};
 use records::Form;
 use refusals::Refusal;
 use std::io::Stdout;
@@ -41,27 +40,6 @@ fn put_loaded(answer: Result<usize, Refusal>, image: &[u8], at: usize, out: &mut
         Ok(used) => put_slots(image, used, at, out),
         Err(refusal) => put_refused(refusal, at, out),
     }
-}
-
-// Keeps a line, if a byte of the image from a place on is not the value.
-fn keep_unless(
-    outlet: &mut Outlet<Stdout>,
-    image: &[u8],
-    from: usize,
-    value: u8,
-    line: &[u8],
-    at: usize,
-    kept: &mut [u8],
-) -> usize
-    requires line_len_bound { length line.now ≤ 20 }
-    requires at_in_bounds { at ≤ length kept.old }
-    requires in_bounds { 262144 ≤ length kept.old }
-    ensures { all_are value (drop from image.now) ≡ true → (result ≡ at) × (kept.new ≡ kept.old) }
-{
-    if rooms::are(image, from, value) {
-        return at;
-    }
-    keep_line(outlet, line, at, kept)
 }
 
 // Keeps `slots not clear`, if after an answer a byte of an unused slot is not 255, and `image touched`, if after a refusal a byte is not as it was filled.

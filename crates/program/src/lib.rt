@@ -38,24 +38,7 @@ fn answer_on(
     put_rewritten(answered, output, size_of(form), style, 0, out)
 }
 
-// The same with as much of the output as 1,025 records have.
-fn answer_part(
-    table: &[u8],
-    form: Form,
-    mode: u32,
-    default: u32,
-    output: &mut [u8],
-    work: &mut [u32],
-    out: &mut [u8],
-) -> usize
-    requires { (16400 ≤ length output.old) × (49236 ≤ length out.old) }
-    ensures { Put (printed_in form mode default (1025 * size_of form) (length work.old) table.now) 0 result out.old out.new }
-{
-    let room = 1025 * size_of(form);
-    answer_on(table, form, mode, default, &mut output[..room], work, out)
-}
-
-// The same, with an output of its own.
+// The same, with an output of its own that has room for 1,025 records.
 pub fn answer_in(
     table: &[u8],
     form: Form,
@@ -68,7 +51,8 @@ pub fn answer_in(
     ensures { Put (printed_in form mode default (1025 * size_of form) (length work.old) table.now) 0 result out.old out.new }
 {
     let mut output = [0u8; 16400];
-    answer_part(table, form, mode, default, &mut output, work, out)
+    let room = 1025 * size_of(form);
+    answer_on(table, form, mode, default, &mut output[..room], work, out)
 }
 
 // The same in the mode's program.

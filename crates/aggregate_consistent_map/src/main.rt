@@ -5,5 +5,5 @@ use program::Mode;
 use std::io;
 
 fn main(rt: HostRuntime) -> io::Result<()> {
-    program::run(&rt, &mut rt.stdin(), false, Mode::ConsistentMap)
+    program::run(&rt, &mut rt.stdin(), false, Mode::ConsistentMap as u32)
 }

@@ -5,5 +5,5 @@ use program::Mode;
 use std::io;
 
 fn main(rt: HostRuntime) -> io::Result<()> {
-    program::run(&rt, &mut rt.stdin(), true, Mode::MapDrop)
+    program::run(&rt, &mut rt.stdin(), true, Mode::MapDrop as u32)
 }

@@ -5,5 +5,5 @@ use program::Mode;
 use std::io;
 
 fn main(rt: HostRuntime) -> io::Result<()> {
-    program::run(&rt, &mut rt.stdin(), false, Mode::Set)
+    program::run(&rt, &mut rt.stdin(), false, Mode::Set as u32)
 }

@@ -1,5 +1,5 @@
 -- What a case of the program replay says in its first bytes (docs/CASES.md), and where the text of its answer is kept in the buffer.
-use Rattle.std.specs.Prelude.{ℕ, ◌+◌, ◌*◌, ◌%◌, ◌<◌, ◌≡◌, Bool, cond, List, leb, get_or, Result, MatchResult}
+use Rattle.std.specs.Prelude.{ℕ, ◌+◌, ◌*◌, ◌%◌, ◌<◌, ◌≡◌, Bool, cond, List, leb, ltb, eqb, not, ◌&&◌, get_or, Result, MatchResult}
 use Rattle.records.specs.Wire.{join}
 use Rattle.records.specs.Sized.{number}
 use Rattle.records.specs.declared.Form.{Form}
@@ -41,6 +41,11 @@ Calls number r = MatchResult r (λ call. call_number call ≡ number) (λ fault.
 abbrev pub CalledBy : ℕ → Result Call Fault → Type 0
 CalledBy first r = Calls (call_by first) r
 
+-- Does the call take addresses of 64 bits?
+abbrev pub takes_long : ℕ → Bool
+takes_long call = ltb call 6 && not (eqb call 3)
+
+-- Have the addresses of a case 64 bits?
 abbrev pub is_long : ℕ → Bool
 is_long first = leb 32 (first % 64)
 

@@ -1,6 +1,7 @@
 // The calls that a case can name.
 
-ghost use Rattle.kept.specs.Kept.{Calls};
+ghost use Rattle.std.specs.Prelude.{◌≡◌};
+ghost use Rattle.kept.specs.Kept.{Calls, call_number, takes_long};
 
 use crate::ending::Fault;
 
@@ -56,7 +57,9 @@ impl TryFrom<u8> for Call {
 
 impl Call {
     // Does the call take addresses of 64 bits?
-    pub fn takes_long(self) -> bool {
+    pub fn takes_long(self) -> bool
+        ensures { result ≡ takes_long (call_number self) }
+    {
         matches!(
             self,
             Call::Rewrite | Call::Covers | Call::Lookup | Call::Unrouted | Call::Plain

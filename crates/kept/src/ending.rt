@@ -1,6 +1,7 @@
 // How a run ends (docs/CASES.md).
 
-ghost use Rattle.std.specs.Prelude.{◌≤◌, length};
+ghost use Rattle.std.specs.Prelude.{◌≤◌, length, IfOk};
+ghost use Rattle.std.specs.Io.KnownBytes.{Consumes};
 
 use std::io;
 use std::io::Read;
@@ -62,8 +63,10 @@ impl From<io::Error> for Ending {
     }
 }
 
-// Reads until the buffer is full. Where the input ends before that, the case is cut short.
-pub fn read_whole(input: &mut impl Read, buf: &mut [u8]) -> Result<(), Ending> {
+// Reads until the buffer is full: it has what stood next in the input. Where the input ends before that, the case is cut short.
+pub fn read_whole<R: Read>(input: &mut R, buf: &mut [u8]) -> Result<(), Ending>
+    ensures { IfOk result (λ u. Consumes (R.remaining input.old) (R.remaining input.new) buf.new) }
+{
     if read_full(input, buf)? < buf.len() {
         return Err(Ending::At(Fault::CutShort));
     }

@@ -12,7 +12,7 @@ ghost use Rattle.std.specs.Prelude.{◌≡◌, true, ◌+◌, ◌*◌, ◌≤◌
 ghost use Rattle.std.specs.List.{list_all};
 ghost use Rattle.rooms.specs.Rooms.{all_are};
 ghost use Rattle.text.specs.Text.{Put};
-ghost use Rattle.kept.specs.Kept.{CalledBy, is_long, form_by, address_of, begin_of};
+ghost use Rattle.kept.specs.Kept.{CalledBy, call_by, is_long, form_by, address_of, begin_of};
 
 use call::Call;
 use ending::Fault;
@@ -27,11 +27,18 @@ pub const FILLED_BYTE: u8 = 165;
 
 pub const FILLED_WORD: u32 = 2779096485;
 
-// The call that a case's first byte names, with or without 32, 64 and 128 added.
-pub fn call_of(first: u8) -> Result<Call, Fault>
+// The number of the call that a case's first byte names, with or without 32, 64 and 128 added.
+pub fn call_of(first: u8) -> u8
+    ensures { result ≡ call_by first }
+{
+    first % 32
+}
+
+// The call of that number.
+pub fn named_call(first: u8) -> Result<Call, Fault>
     ensures { CalledBy first result }
 {
-    Call::try_from(first % 32)
+    Call::try_from(call_of(first))
 }
 
 // Have addresses 64 bits? They have where the first byte has 32 added.
@@ -76,7 +83,7 @@ pub fn join2(a: u8, b: u8) -> usize
 pub fn bytes_behind(head: &[u8; 16]) -> usize
     ensures { result ≤ 524280 }
 {
-    match call_of(head[0]) {
+    match named_call(head[0]) {
         Ok(Call::Live) => 8 * join2(head[12], head[13]),
         _ => join2(head[14], head[15]),
     }
@@ -86,7 +93,7 @@ pub fn bytes_behind(head: &[u8; 16]) -> usize
 pub fn steps_behind(head: &[u8; 16]) -> usize
     ensures { result ≤ 524280 }
 {
-    match call_of(head[0]) {
+    match named_call(head[0]) {
         Ok(Call::CheckPlan) => 8 * join2(head[10], head[11]),
         _ => 0,
     }

@@ -5,7 +5,6 @@
 
 ghost use Rattle.std.specs.Prelude.{◌+◌, ◌*◌, ◌≤◌, length, IfOk};
 ghost use Rattle.records.specs.Forms.{size_of};
-ghost use Rattle.calls.specs.Modes.{mode_number};
 ghost use Rattle.text.specs.Text.{Put};
 ghost use Rattle.program.specs.Printed.{printed, printed_in};
 
@@ -57,16 +56,16 @@ pub fn answer_in(
 
 // The same in the mode's program.
 #[tactic(auto, unfolding(crate::specs::Printed::printed))]
-fn answer(table: &[u8], long: bool, mode: Mode, out: &mut [u8]) -> usize
+fn answer(table: &[u8], long: bool, mode: u32, out: &mut [u8]) -> usize
     requires { 49236 ≤ length out.old }
-    ensures { Put (printed long (mode_number mode) table.now) 0 result out.old out.new }
+    ensures { Put (printed long mode table.now) 0 result out.old out.new }
 {
     let form = Form {
         strict: false,
         long,
     };
     let mut work = [0u32; 16384];
-    answer_in(table, form, mode as u32, 0, &mut work, out)
+    answer_in(table, form, mode, 0, &mut work, out)
 }
 
 // The bytes of 1,025 records.
@@ -86,7 +85,7 @@ fn read_table(input: &mut impl Read, table: &mut [u8], long: bool) -> io::Result
 }
 
 // Reads a table and prints the answer in the mode. It fails only where a read or the write fails; where a read fails, no answer is printed.
-pub fn run(rt: &impl Print, input: &mut impl Read, long: bool, mode: Mode) -> io::Result<()> {
+pub fn run(rt: &impl Print, input: &mut impl Read, long: bool, mode: u32) -> io::Result<()> {
     let mut table = [0u8; 16400];
     let mut out = [0u8; 49236];
     let size = read_table(input, &mut table, long)?;

@@ -16,7 +16,7 @@ ghost use Rattle.kept.specs.Kept.{words_of};
 use kept::call::Call;
 use kept::ending::{Ending, Fault, read_whole};
 use kept::ranks::{as_ranks, read_ranks};
-use kept::{bytes_behind, call_of, form_of, is_long, join2, keep_line, send, steps_behind};
+use kept::{bytes_behind, form_of, is_long, join2, keep_line, named_call, send, steps_behind};
 use records::join4;
 use replaying::{keep_answer, list_text, plain_turn};
 use replaying_more::chip_cases::chip_turn;
@@ -139,7 +139,7 @@ fn list_turn(
     Ok(0)
 }
 
-// Keeps the answer of a case with call 0 to 3, with a work room of N words.
+// Keeps the answer of a rewrite, a cover query, a lookup or addresses held, with a work room of N words.
 #[inline(never)]
 fn sized_turn<const N: usize>(
     outlet: &mut Outlet<Stdout>,
@@ -306,7 +306,7 @@ fn turn(
         return Err(Ending::At(Fault::TooManySteps));
     }
     read_whole(input, &mut table[..size])?;
-    let call = call_of(head[0])?;
+    let call = named_call(head[0])?;
     if is_long(head[0]) && !call.takes_long() {
         return Err(Ending::At(Fault::NoSuchCall));
     }

@@ -16,7 +16,7 @@ use calls::Rewritten;
 use holes::unrouted;
 use kept::call::Call;
 use kept::{
-    FILLED_BYTE, FILLED_WORD, address_of, call_of, form_of, join2, keep_output, keep_work, room_for,
+    FILLED_BYTE, FILLED_WORD, address_of, form_of, join2, keep_output, keep_work, named_call, room_for,
 };
 use lookup::{addresses_held, lookup};
 use records::{Form, join4, size_of};
@@ -244,7 +244,7 @@ pub fn keep_answer(
     let form = form_of(head[0]);
     let address = address_of(head, query);
     let words = join4(head[8], head[9], head[10], head[11]) as usize;
-    match call_of(head[0]) {
+    match named_call(head[0]) {
         Ok(Call::Rewrite) => {
             let room = join2(head[12], head[13]);
             keep_rewritten(

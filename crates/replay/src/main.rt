@@ -179,7 +179,7 @@ fn asked(head: &[u8; 16]) -> usize
     join4(head[8], head[9], head[10], head[11]) as usize
 }
 
-// Keeps the answer of a case with call 0 to 3.
+// Keeps the answer of a rewrite, a cover query, a lookup or addresses held.
 fn work_turn(
     outlet: &mut Outlet<Stdout>,
     head: &[u8; 16],
@@ -207,7 +207,7 @@ fn work_turn(
     }
 }
 
-// Keeps the answer of a case that is lent an output, its image with the chip loader.
+// Keeps the answer of any other case, with a room for its output, which is the image with the chip loader.
 fn output_turn(
     outlet: &mut Outlet<Stdout>,
     call: Call,

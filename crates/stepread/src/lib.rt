@@ -17,7 +17,7 @@ use text::{put_bytes, put_last};
 fn line_feeds(text: &[u8]) -> usize
     ensures { result ≤ length text.now }
 {
-    text.iter().filter(|byte| **byte == 10).count()
+    text.iter().filter(|byte| **byte == b'\n').count()
 }
 
 // The step of a line so far, and a digit more: the number that is being read stands in the hop.

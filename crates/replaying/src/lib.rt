@@ -16,7 +16,8 @@ use calls::Rewritten;
 use holes::unrouted;
 use kept::call::Call;
 use kept::{
-    FILLED_BYTE, FILLED_WORD, address_of, form_of, join2, keep_output, keep_work, named_call, room_for,
+    FILLED_BYTE, FILLED_WORD, address_of, form_of, join2, keep_output, keep_work, named_call,
+    room_for,
 };
 use lookup::{addresses_held, lookup};
 use records::{Form, join4, size_of};

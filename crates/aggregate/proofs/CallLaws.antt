@@ -1,14 +1,20 @@
 -- Laws of the calls: the replies that refuse, what the walks can begin with, and the cover query at wide addresses. Assumes nothing.
 use Prim.Native.Nat.{ℕ, ◌+◌, ◌-◌, ◌*◌, ◌/◌, ◌%◌, ◌^◌, ◌≤◌, ◌<◌}
 use mathlib.Core.Path.{◌≡◌, refl, sym, ap, ◌∙◌, subst}
-use mathlib.Core.Bool.{Bool, true, false, not, ◌||◌, ◌&&◌, and-eq-true_iff}
+use mathlib.Core.Bool.{Bool, true, false, not, ◌||◌, ◌&&◌}
 use mathlib.Core.List.{List, [], ◌∷◌}
-use native.Mathlib.Nat.{div-mul-le_self, mod-lt, mul-lt-mul_of_pos_right}
+use native.Mathlib.Nat.{mod-lt, mul-lt-mul_of_pos_right}
 use native.Mathlib.Omega.{arith}
 use lib.Dec.{eqb, leb}
 use lib.ListN.{length}
 use lib.Pow.{pow_pos, pow-add}
-use borrow.Author.Tests.{leb-true, le-leb, lt-leb}
+use borrow.Author.Tests.{le-leb, lt-leb}
+use mathlib.Core.Logic.{inl, inr}
+use Rattle.std.specs.Prelude.{◌⊎◌}
+use Rattle.calls.specs.Modes.{mode_known}
+use Rattle.refusals.specs.Numbers.{number_of}
+use Rattle.refusals.specs.declared.Cause.{Cause}
+use Rattle.refusals.specs.declared.Cause.TheVariants.{RetiredMode, Mode as NoMode}
 use Rattle.theory.specs.Ranks.{is_ranking}
 use Rattle.theory.specs.Results.{start_of, throughout}
 use Rattle.theory.specs.Routes.{held, All, Aligned, Valid}
@@ -31,7 +37,7 @@ use Rattle.nodes.specs.Node.{wide, spare, Node}
 use Rattle.nodes.proofs.OutputLaws.{width_spare}
 use Rattle.gather.proofs.GatherLaws.{root-run, root-node}
 use Rattle.calls.specs.Covering.{cover_rules, covered_by, cover_reply}
-use Rattle.calls.specs.Rewriting.{InUse, result_of, takes_set, rewrite_rules, reply_by, rewrite_reply}
+use Rattle.calls.specs.Rewriting.{result_of, takes_set, rewrite_rules, reply_by, rewrite_reply}
 use Rattle.calls.specs.Ending.{last_reply}
 use Rattle.calls.proofs.Ending.{refused_mode, refused_retired, refused_default, refused_ranks, refused_table, last_decide, checked_lawful}
 use Rattle.aggregate.specs.Walks.{whole, Ready}
@@ -90,9 +96,11 @@ module _ (form : Form) (t : List ℕ) (mode default : ℕ) (ranks : List ℕ) (r
             pub only_output : 160 * nodes (width_in (size_of form)) (routes_in (size_of form) t) ≤ words → rewrite_reply form t mode default ranks room words ≡ last_reply (size_of form) t mode default ranks room
             only_output h = past-table ∙ kept_next _ 10 0 _ (le-leb (160 * nodes (width_in (size_of form)) (routes_in (size_of form) t)) words h)
 
--- The rules 1 and 16 say that the mode is in use.
-pub mode_used : (mode : ℕ) → (leb 1 mode && leb mode 5) ≡ true → (mode ≡ 2 → ⊥) → InUse mode
-mode_used mode e used = let p = (and-eq-true_iff (leb 1 mode) (leb mode 5)).0 e in (leb-true 1 mode p.0, leb-true mode 5 p.1, used)
+-- A number that names no mode is refused by what it is.
+pub named_by : (form : Form) (t : List ℕ) (mode default : ℕ) (ranks : List ℕ) (room words : ℕ) (c : Cause)
+    → ((c ≡ RetiredMode) × (mode ≡ 2)) ⊎ ((c ≡ NoMode) × (mode_known mode ≡ false)) → rewrite_reply form t mode default ranks room words ≡ refuses (number_of c) 0
+named_by form t mode default ranks room words c (inl (e, two)) = rw e (retired_mode form t mode default ranks room words (ap mode_known two) two)
+named_by form t mode default ranks room words c (inr (e, none)) = rw e (not_a_mode form t mode default ranks room words none)
 
 -- ---- What a table that keeps the rules is good for.
 

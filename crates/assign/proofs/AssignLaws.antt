@@ -91,11 +91,6 @@ folded_next {xs₀} {xs} {b} p small v combined = record {
         level_lt k (inr h) u = h
     go f m a n s l j le lt (inr h) = rw (get_or-set_other xs b (position l j) v 0 (λ e. omega arith)) (p.each f m a n s l j le lt h)
 
--- Once all are, they show the node's candidates.
-pub folded_node : {xs₀ xs : List ℕ} {b : ℕ} → Folded xs₀ xs b → b ≡ 0 → (f : ℕ → Answer) (m a : ℕ) → length xs₀ ≡ 63 → ShowsSlots f m a xs₀
-    → ShowsNode f m a xs
-folded_node p z f m a n s = record { count = p.sized ∙ n; places = λ l j le lt. p.each f m a n s l j le lt (omega arith) }
-
 -- ---- What the positions are assigned.
 
 -- What is assigned is assigned again under itself.
@@ -381,15 +376,6 @@ same_entry v w over q = go (ltb w no_hop) refl
 -- At the positions of the last level before p, what answers the slots under them is what they are assigned.
 abbrev pub LeavesSame : List ℕ → List ℕ → ℕ → ℕ → Type 0
 LeavesSame covering hops fill p = (i : ℕ) → 15 ≤ i → i < p → hop_of (get_or hops i 0) ≡ or_else (hop_of (get_or covering i 0)) (hop_of fill)
-
--- One position more.
-pub same_next : (covering hops : List ℕ) (fill p : ℕ) → LeavesSame covering hops fill p → (v : ℕ)
-    → hop_of v ≡ or_else (hop_of (get_or covering p 0)) (hop_of fill) → v ≡ get_or hops p 0 → LeavesSame covering hops fill (p + 1)
-same_next covering hops fill p h v is e = λ i le lt. go i le (eq-or-lt_of_le lt)
-  where
-    go : (i : ℕ) → 15 ≤ i → (suc i ≡ p + 1) ⊎ (suc i < p + 1) → hop_of (get_or hops i 0) ≡ or_else (hop_of (get_or covering i 0)) (hop_of fill)
-    go i le (inl z) = let q : i ≡ p = omega arith in rw (q, ← e) is
-    go i le (inr less) = h i le (omega arith)
 
 -- Where it is so at all of them, no slot has an entry.
 pub same_unmarked : (covering hops : List ℕ) (fill : ℕ) → LeavesSame covering hops fill 31 → LeafSlots covering hops fill 0

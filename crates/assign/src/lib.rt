@@ -33,12 +33,10 @@ pub fn leaf_sets(covering: &[u8; 31], fill: u8) -> [u64; 63]
     ensures by_index { (c : ℕ) → c < 32 → ShowsSet (get_or result (31 + c) 0) (leaf (or_else (hop_of (get_or covering.now (15 + c / 2) 0)) (hop_of fill))) }
 {
     let mut slots = [0u64; 63];
-    let mut p: usize = 0;
-    while p < 16 {
+    for p in 0..16 {
         let s = leaf_set(covering[15 + p], fill);
         slots[31 + 2 * p] = s;
         slots[32 + 2 * p] = s;
-        p += 1;
     }
     slots
 }
@@ -48,9 +46,7 @@ pub fn fold_sets(slots: &mut [u64; 63])
     ensures slots_len_unchanged { length slots.new ≡ length slots.old }
     ensures by_index { (f : ℕ → Answer) (m a : ℕ) → length slots.old ≡ 63 → ((c : ℕ) → c < 32 → ShowsSet (get_or slots.old (31 + c) 0) (sets f m (place_at m a 5 c))) → ShowsNode f m a slots.new }
 {
-    let mut b: usize = 31;
-    while 0 < b {
-        b -= 1;
+    for b in (0..31).rev() {
         slots[b] = combine(slots[2 * b + 1], slots[2 * b + 2]);
     }
 }
@@ -60,10 +56,7 @@ pub fn with_entry(entries: u32, b: u32, hop: u8, over: u8) -> u32
     requires { b < 31 }
     ensures { (i : ℕ) → i < 32 → bit result i ≡ ((eqb i b && is_entry hop over) || bit entries i) }
 {
-    if hop == over {
-        return entries;
-    }
-    if hop < NO_HOP {
+    if hop != over && hop < NO_HOP {
         with_bit(entries, b)
     } else {
         entries
@@ -95,11 +88,10 @@ pub fn step_at(
     if reader.stored() {
         let p = reader.pop(work);
         let hop = assign(p.set, over, ranks);
-        let next = p.reader;
         return Step {
             hop,
             entries: with_entry(entries, b, hop, over),
-            reader: next,
+            reader: p.reader,
         };
     }
     Step {
@@ -138,15 +130,12 @@ pub fn assign_nodes(work: &[u32], top: usize, above: u8, ranks: &[u16]) -> Assig
             top: reader.top,
         };
     }
-    let mut b: u32 = 1;
-    while b < 31 {
-        let over = over_at(&hops, b as usize, above);
-        let s = step_at(work, reader, over, entries, b, ranks);
-        hops[b as usize] = s.hop;
+    for b in 1..31 {
+        let over = over_at(&hops, b, above);
+        let s = step_at(work, reader, over, entries, b as u32, ranks);
+        hops[b] = s.hop;
         entries = s.entries;
-        let next = s.reader;
-        reader = next;
-        b += 1;
+        reader = s.reader;
     }
     Assigned {
         hops,
@@ -155,22 +144,14 @@ pub fn assign_nodes(work: &[u32], top: usize, above: u8, ranks: &[u16]) -> Assig
     }
 }
 
-// Is it the same still, once v answers the slots under one position more, and `over` is what this is assigned?
-fn still_same(same: bool, v: u8, over: u8) -> bool
-    ensures { result ≡ (eqb v over && same) }
-{
-    if v == over { same } else { false }
-}
-
-// Is what answers a slot with no record in it, wherever it stands, the hop assigned above it?
+// Is what answers a slot with no record in it, wherever it stands, the hop assigned above it? All are asked: to leave at the first that differs, as
+// `all` does, made the second walk's instructions up to 9 % more (x86-64).
 fn leaves_same(covering: &[u8; 31], hops: &[u8; 31], fill: u8) -> bool
     ensures { result ≡ true → LeafSlots covering.now hops.now fill 0 }
 {
     let mut same = true;
-    let mut p: usize = 15;
-    while p < 31 {
-        same = still_same(same, leaf_value(covering[p], fill), hops[p]);
-        p += 1;
+    for p in 15..31 {
+        same &= leaf_value(covering[p], fill) == hops[p];
     }
     same
 }
@@ -184,11 +165,9 @@ pub fn leaf_slots(covering: &[u8; 31], hops: &[u8; 31], fill: u8) -> u32
         return 0;
     }
     let mut other: u32 = 0;
-    let mut p: usize = 15;
-    while p < 31 {
+    for p in 15..31 {
         let v = leaf_value(covering[p], fill);
         other = with_entry(other, p as u32, v, hops[p]);
-        p += 1;
     }
     push_l4(other)
 }
@@ -198,12 +177,10 @@ pub fn emit(size: usize, out: &mut [u8], addr: u64, len: usize, hop: u8, above: 
     requires { (len < 256) × IsSize size }
     ensures { (a : ℕ) → a / 2 ≡ addr → Wrote size (entry_over a len hop above) 0 result out.old out.new }
 {
-    if hop == above {
-        return 0;
-    }
-    if hop < NO_HOP {
+    if hop != above && hop < NO_HOP {
         put(size, out, addr, len, hop);
-        return 1;
+        1
+    } else {
+        0
     }
-    0
 }

@@ -4,7 +4,7 @@ ghost use Rattle.std.specs.Prelude.{◌≡◌, ◌+◌, ◌*◌, ◌/◌, ◌%�
 ghost use Rattle.nodes.specs.Room.{Pushed};
 ghost use Rattle.assign.specs.Packed.{packed};
 
-use writer::{NodeWriter, pushed};
+use writer::{NodeWriter, push};
 
 // Lays a node's own words below `top`, its positions from the last to the first, then the mask, and says where they begin. The positions under
 // one go by pairs; the first is always stored.
@@ -14,16 +14,14 @@ pub fn push_sets(sets: &[u64; 63], work: &mut [u32], top: usize) -> usize
     ensures pushed { Pushed (packed sets.now) top result work.old work.new }
 {
     let mut node = NodeWriter { mask: 0, top };
-    let mut p: usize = 15;
-    while 0 < p {
-        p -= 1;
+    for p in (0..15).rev() {
         let own = sets[p];
         let right = sets[2 * p + 2];
-        node = pushed(node, work, right != own, right);
+        push(&mut node, work, right != own, right);
         let left = sets[2 * p + 1];
-        node = pushed(node, work, left != own, left);
+        push(&mut node, work, left != own, left);
     }
-    node = pushed(node, work, true, sets[0]);
+    push(&mut node, work, true, sets[0]);
     work[node.top - 1] = node.mask;
     node.top - 1
 }
@@ -72,11 +70,9 @@ impl NodeReader {
     pub fn skip(self) -> NodeReader
         ensures { (result.mask ≡ self.mask / 2) × (result.top ≡ self.top) }
     {
-        let mask = self.mask;
-        let top = self.top;
         NodeReader {
-            mask: mask / 2,
-            top,
+            mask: self.mask / 2,
+            top: self.top,
         }
     }
 
@@ -86,11 +82,10 @@ impl NodeReader {
         ensures { (result.set ≡ get_or work.now self.top 0 + get_or work.now (self.top + 1) 0 * 4294967296) × ((result.reader.mask ≡ self.mask / 2) × (result.reader.top ≡ self.top + 2)) }
     {
         let top = self.top;
-        let mask = self.mask;
         Popped {
             set: joined(work[top], work[top + 1]),
             reader: NodeReader {
-                mask: mask / 2,
+                mask: self.mask / 2,
                 top: top + 2,
             },
         }

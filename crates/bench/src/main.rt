@@ -12,191 +12,48 @@
 // `not run` where the number of times is 0.
 #![tactic(auto)]
 
-ghost use Rattle.std.specs.Prelude.{◌≤◌};
-
 use aggregate::rewrite;
 use calls::Rewritten;
-use holes::{Listed, unrouted};
+use holes::unrouted;
 use records::Form;
+use refusals::Refusal;
 use std::io;
 use streams::read_full;
 
 // The number of three bytes.
 fn join3(a: u8, b: u8, c: u8) -> u32 {
-    (a as u32) * 65536 + (b as u32) * 256 + (c as u32)
+    u32::from_be_bytes([0, a, b, c])
 }
 
-// Writes bytes to standard output.
-fn print(rt: &impl Print, text: &[u8]) -> io::Result<()> {
-    rt.write_all(text)
+// Writes a refusal as a line.
+fn print_refused(rt: &impl Print, refusal: Refusal) -> io::Result<()> {
+    println!(rt; "refused {} at {}", refusal.cause.number(), refusal.index)
 }
 
-// Writes how many more `count` is than `before`, with a sign only if it is fewer.
-fn print_change(rt: &impl Print, count: usize, before: usize) -> io::Result<()> {
-    if count < before {
-        print!(rt; "-{}", before - count)
-    } else {
-        print!(rt; "{}", count - before)
-    }
-}
-
-// Writes a refusal.
-fn print_refused(rt: &impl Print, number: u8, index: usize) -> io::Result<()> {
-    print!(rt; "refused {number} at {index}")
-}
-
-// Writes an answer for a table of so many records as a line. Its change is had from the two counts, whose difference it is by contract.
-fn print_answer(rt: &impl Print, answer: Rewritten, before: usize) -> io::Result<()> {
+// Writes the answer of a rewrite as a line.
+fn print_rewritten(rt: &impl Print, answer: Result<Rewritten, Refusal>) -> io::Result<()> {
     match answer {
-        Rewritten::Records { count, change } => {
-            print!(rt; "records {count} change ")?;
-            print_change(rt, count, before)?;
-        }
-        Rewritten::Refused { number, index } => print_refused(rt, number, index)?,
+        Ok(written) => println!(rt; "records {} change {}", written.count, written.change),
+        Err(refusal) => print_refused(rt, refusal),
     }
-    print(rt, b"\n")
 }
 
-// Rewrites the table so many times and once more, and says the last answer.
-fn repeat(
-    more: u32,
-    table: &[u8],
-    mode: u32,
-    default: u32,
-    ranks: &[u16],
-    output: &mut [u8],
-    work: &mut [u32],
-) -> Rewritten {
-    let mut left = more;
-    while 0 < left {
-        rewrite(
-            table,
-            Form {
-                strict: false,
-                long: false,
-            },
-            mode,
-            default,
-            ranks,
-            output,
-            work,
-        );
-        left -= 1;
+// Writes the answer of a list as a line.
+fn print_listed(rt: &impl Print, answer: Result<usize, Refusal>) -> io::Result<()> {
+    match answer {
+        Ok(count) => println!(rt; "unrouted {count}"),
+        Err(refusal) => print_refused(rt, refusal),
     }
-    rewrite(
-        table,
-        Form {
-            strict: false,
-            long: false,
-        },
-        mode,
-        default,
-        ranks,
-        output,
-        work,
-    )
 }
 
-// The same by the plain engine.
-fn repeat_plain(
-    more: u32,
-    table: &[u8],
-    mode: u32,
-    default: u32,
-    ranks: &[u16],
-    output: &mut [u8],
-) -> Rewritten {
-    let mut left = more;
-    while 0 < left {
-        plain::rewrite(
-            table,
-            Form {
-                strict: false,
-                long: false,
-            },
-            mode,
-            default,
-            ranks,
-            output,
-        );
-        left -= 1;
-    }
-    plain::rewrite(
-        table,
-        Form {
-            strict: false,
-            long: false,
-        },
-        mode,
-        default,
-        ranks,
-        output,
-    )
-}
-
-// How many words are lent of those asked for, where there are so many.
-fn lent(asked: u32, all: usize) -> usize
-    ensures { result ≤ all }
+// Makes a call so many times and once more, and says the last answer.
+fn repeat<T: Drop, F: FnMut() -> T>(more: u32, mut call: F) -> T
+    requires { F.IsAlwaysCallable call }
 {
-    let words = asked as usize;
-    if words < all { words } else { all }
-}
-
-// The same in as much of the room as is asked for.
-fn repeat_in(
-    more: u32,
-    table: &[u8],
-    mode: u32,
-    default: u32,
-    ranks: &[u16],
-    output: &mut [u8],
-    asked: u32,
-    work: &mut [u32],
-) -> Rewritten {
-    let words = lent(asked, work.len());
-    repeat(
-        more,
-        table,
-        mode,
-        default,
-        ranks,
-        output,
-        &mut work[..words],
-    )
-}
-
-// Lists what has no route so many times and once more, and says the last answer.
-fn repeat_list(more: u32, table: &[u8], output: &mut [u8]) -> Listed {
-    let mut left = more;
-    while 0 < left {
-        unrouted(
-            table,
-            Form {
-                strict: false,
-                long: false,
-            },
-            output,
-        );
-        left -= 1;
+    for _ in 0..more {
+        call();
     }
-    unrouted(
-        table,
-        Form {
-            strict: false,
-            long: false,
-        },
-        output,
-    )
-}
-
-// The same in an output of its own, and the last answer as a line.
-fn run_list(rt: &impl Print, more: u32, table: &[u8]) -> io::Result<()> {
-    let mut output = [0u8; 180224];
-    match repeat_list(more, table, &mut output) {
-        Listed::Records(count) => print!(rt; "unrouted {count}")?,
-        Listed::Refused { number, index } => print_refused(rt, number, index)?,
-    }
-    print(rt, b"\n")
+    call()
 }
 
 // The work room. Made by a call, it is to the caller an array of that length and no list of that many zeros. Compiled without optimisation,
@@ -214,37 +71,47 @@ fn run(
     asked: u32,
     table: &[u8],
 ) -> io::Result<()> {
+    let Some(more) = times.checked_sub(1) else {
+        return println!(rt; "not run");
+    };
+    let form = Form {
+        strict: false,
+        long: false,
+    };
+    let default = u32::from(default);
+    if mode == 0 {
+        let mut output = [0u8; 180224];
+        return print_listed(rt, repeat(more, || unrouted(table, form, &mut output)));
+    }
     let mut output = [0u8; 8200];
     let mut work = room();
-    let ranks = [0u16; 0];
-    if times == 0 {
-        return print(rt, b"not run\n");
-    }
-    if mode == 0 {
-        return run_list(rt, times - 1, table);
-    }
-    if 128 <= mode {
-        let answer = repeat_plain(
-            times - 1,
-            table,
-            (mode - 128) as u32,
-            default as u32,
-            &ranks,
-            &mut output,
-        );
-        return print_answer(rt, answer, table.len() / 8);
-    }
-    let answer = repeat_in(
-        times - 1,
-        table,
-        mode as u32,
-        default as u32,
-        &ranks,
-        &mut output,
-        asked,
-        &mut work,
-    );
-    print_answer(rt, answer, table.len() / 8)
+    let words = work.len().min(asked as usize);
+    let work = &mut work[..words];
+    let answer = if mode < 128 {
+        repeat(more, || {
+            rewrite(
+                table,
+                form,
+                u32::from(mode),
+                default,
+                &[],
+                &mut output,
+                work,
+            )
+        })
+    } else {
+        repeat(more, || {
+            plain::rewrite(
+                table,
+                form,
+                u32::from(mode - 128),
+                default,
+                &[],
+                &mut output,
+            )
+        })
+    };
+    print_rewritten(rt, answer)
 }
 
 fn main(rt: HostRuntime) -> io::Result<()> {

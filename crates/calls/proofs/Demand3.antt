@@ -16,10 +16,8 @@ use Rattle.records.specs.declared.Form.{Form}
 use Rattle.records.specs.Forms.{size_of}
 use Rattle.table.specs.SizedConditions.{AcceptedIn}
 use Rattle.nodecount.specs.Nodes.{nodes}
-use Rattle.calls.specs.declared.Rewritten.{Rewritten}
-use Rattle.calls.specs.declared.Rewritten.TheVariants.{Records}
 use Rattle.calls.specs.Conditions.{RewriteCondition, Guarded}
-use Rattle.calls.specs.Rewriting.{takes_set, rewrite_rules, Rewrites}
+use Rattle.calls.specs.Rewriting.{takes_set, rewrite_rules, Rewrites, Outcome, records_out}
 use Rattle.calls.proofs.Engines.{by_output_bytes, by_output_accepted, again_by, again_answerable, drop_by, fill_by, set_by}
 use Rattle.calls.proofs.Refusals.{rewrite_guarded, answerable_exactly}
 
@@ -34,7 +32,7 @@ module _ (form : Form) (ranks : List ℕ) (t : List ℕ) (bytes : Bytes t) (o : 
   two mode e = rewrite_rules form s mode e ranks (length p) space
 
   -- Mode 4: exactly when they send all addresses the same way, no route included.
-  pub same_bytes_drop : (d e : ℕ) → Rewrites form t 4 d ranks o words (Records count change) o' w' → Rewrites form s 4 e ranks p space (Records number other) p' v'
+  pub same_bytes_drop : (d e : ℕ) → Rewrites form t 4 d ranks o words (records_out count change) o' w' → Rewrites form s 4 e ranks p space (records_out number other) p' v'
       → take (size_of form * count) o' ≡ take (size_of form * number) p'
       ↔ Alike (width_in (size_of form)) (answer (width_in (size_of form)) (routes_in (size_of form) t)) (answer (width_in (size_of form)) (routes_in (size_of form) s))
   same_bytes_drop d e a b =
@@ -42,7 +40,7 @@ module _ (form : Form) (ranks : List ℕ) (t : List ℕ) (bytes : Bytes t) (o : 
       (rewrite_guarded form t 4 d ranks (length o) words) a.inner (rewrite_guarded form s 4 e ranks (length p) space) b.inner
 
   -- Mode 5, at one default: exactly when they do once unrouted addresses have the default.
-  pub same_bytes_fill : (d : ℕ) → Rewrites form t 5 d ranks o words (Records count change) o' w' → Rewrites form s 5 d ranks p space (Records number other) p' v'
+  pub same_bytes_fill : (d : ℕ) → Rewrites form t 5 d ranks o words (records_out count change) o' w' → Rewrites form s 5 d ranks p space (records_out number other) p' v'
       → take (size_of form * count) o' ≡ take (size_of form * number) p'
       ↔ Alike (width_in (size_of form)) (filled d (answer (width_in (size_of form)) (routes_in (size_of form) t))) (filled d (answer (width_in (size_of form)) (routes_in (size_of form) s)))
   same_bytes_fill d a b =
@@ -50,7 +48,7 @@ module _ (form : Form) (ranks : List ℕ) (t : List ℕ) (bytes : Bytes t) (o : 
       (rewrite_guarded form t 5 d ranks (length o) words) a.inner (rewrite_guarded form s 5 d ranks (length p) space) b.inner
 
   -- Mode 1: exactly when they hold the same addresses.
-  pub same_bytes_set : (d e : ℕ) → Rewrites form t 1 d ranks o words (Records count change) o' w' → Rewrites form s 1 e ranks p space (Records number other) p' v'
+  pub same_bytes_set : (d e : ℕ) → Rewrites form t 1 d ranks o words (records_out count change) o' w' → Rewrites form s 1 e ranks p space (records_out number other) p' v'
       → take (size_of form * count) o' ≡ take (size_of form * number) p'
       ↔ ((x : ℕ) → x < 2 ^ width_in (size_of form) → held (width_in (size_of form)) (routes_in (size_of form) t) x ≡ held (width_in (size_of form)) (routes_in (size_of form) s) x)
   same_bytes_set d e a b =
@@ -59,7 +57,7 @@ module _ (form : Form) (ranks : List ℕ) (t : List ℕ) (bytes : Bytes t) (o : 
 
 -- ---- A table t, rewritten without refusal.
 module _ (form : Form) (t : List ℕ) (bytes : Bytes t) (mode default : ℕ) (ranks o : List ℕ) (words count : ℕ) (change : ℤ) (o' w' : List ℕ)
-    (ok : Rewrites form t mode default ranks o words (Records count change) o' w') where
+    (ok : Rewrites form t mode default ranks o words (records_out count change) o' w') where
   abbrev rules : List Rule
   rules = rewrite_rules form t mode default ranks (length o) words
 
@@ -68,15 +66,15 @@ module _ (form : Form) (t : List ℕ) (bytes : Bytes t) (mode default : ℕ) (ra
 
   -- The written records are bytes.
   pub output-bytes : Bytes (take (size_of form * count) o')
-  output-bytes = by_output_bytes form rules t mode default ranks o guarded (Records count change) o' ok.inner count change refl bytes
+  output-bytes = by_output_bytes form rules t mode default ranks o guarded (records_out count change) o' ok.inner count change refl bytes
 
   -- They are an accepted table again, under either choice on host bits, where they are at most 1,024.
   pub output-accepted : count ≤ 1024 → (strict : Bool) → AcceptedIn (size_of form) strict (takes_set mode) (take (size_of form * count) o')
-  output-accepted = by_output_accepted form rules t mode default ranks o guarded (Records count change) o' ok.inner count change refl bytes
+  output-accepted = by_output_accepted form rules t mode default ranks o guarded (records_out count change) o' ok.inner count change refl bytes
 
   -- Rewritten again without refusal, they are given back with change 0: as many records, and the same bytes from the output's start.
-  pub rewrite_again : (p : List ℕ) (space : ℕ) (r : Rewritten) (p' v' : List ℕ) → Rewrites form (take (size_of form * count) o') mode default ranks p space r p' v'
-      → (number : ℕ) (other : ℤ) → r ≡ Records number other → (r ≡ Records count (pos 0)) × (take (size_of form * count) p' ≡ take (size_of form * count) o')
+  pub rewrite_again : (p : List ℕ) (space : ℕ) (r : Outcome) (p' v' : List ℕ) → Rewrites form (take (size_of form * count) o') mode default ranks p space r p' v'
+      → (number : ℕ) (other : ℤ) → r ≡ records_out number other → (r ≡ records_out count (pos 0)) × (take (size_of form * count) p' ≡ take (size_of form * count) o')
   rewrite_again p space r p' v' b =
       again_by form rules t mode default ranks o guarded count change o' ok.inner bytes
       (rewrite_rules form (take (size_of form * count) o') mode default ranks (length p) space) p (rewrite_guarded form (take (size_of form * count) o') mode default ranks (length p) space) r p' b.inner
@@ -87,4 +85,4 @@ module _ (form : Form) (t : List ℕ) (bytes : Bytes t) (mode default : ℕ) (ra
       → None (RewriteCondition form (take (size_of form * count) o') mode default ranks (length p) space)
   again_answered few p space fits room =
       (answerable_exactly form (take (size_of form * count) o') mode default ranks (length p) space).1
-      (again_answerable form rules t mode default ranks o guarded (Records count change) o' ok.inner count change refl bytes few (length p) fits, room)
+      (again_answerable form rules t mode default ranks o guarded (records_out count change) o' ok.inner count change refl bytes few (length p) fits, room)

@@ -14,7 +14,11 @@ use lib.Signed.{mag}
 use mir.Syntax.{w64}
 use mir.Val.{SFits, to_z, of_z}
 use mir.ValLaws.{to_z_pos, to_z-of_z}
-use borrow.Author.Tests.{eqb-true, eqb-false, leb-true, leb-false, le-leb, lt-leb, le-ltb, lt-ltb, eq-eqb, ne_eqb}
+use borrow.Author.Tests.{eqb-true, eqb-false, leb-true, le-leb, lt-leb, eq-eqb, ne_eqb}
+use Rattle.std.specs.Prelude.{Err}
+use Rattle.refusals.specs.Numbers.{number_of}
+use Rattle.refusals.specs.declared.Cause.TheVariants.{OutputRoom}
+use Rattle.refusals.specs.declared.Refusal.{Refusal}
 use Rattle.theory.specs.Results.{Mode, aggregate_set, aggregate_consistent_map, aggregate_map_drop, aggregate_map_fill}
 use Rattle.theory.specs.Ranks.{lowest, is_ranking}
 use Rattle.theory.specs.Routes.{Route, Table}
@@ -31,10 +35,8 @@ use Rattle.table.specs.Checking.{check_reply_in}
 use Rattle.table.specs.SizedConditions.{LawfulIn}
 use Rattle.table.specs.TableRules.{form_rules}
 use Rattle.table.proofs.SizedTables.{in_accepted_table}
-use Rattle.calls.specs.declared.Rewritten.{Rewritten}
-use Rattle.calls.specs.declared.Rewritten.TheVariants.{Records, Refused}
 use Rattle.calls.specs.Ending.{last_reply, Finished}
-use Rattle.calls.specs.Rewriting.{InUse, mode_of, result_of, takes_set, reply_by, written_of, output_of, RewritesBy}
+use Rattle.calls.specs.Rewriting.{InUse, mode_of, result_of, takes_set, reply_by, written_of, output_of, RewritesBy, Outcome, records_out}
 use Rattle.calls.proofs.Tested.{rules_with}
 
 -- ---- The rules 1, 16, 2, 15 and 3 to 8, where `known` says whether the engine has the mode, or the mode is 2, and `last` are the rules past the table's.
@@ -82,17 +84,17 @@ module _ (known : Bool) (form : Form) (t : List ℕ) (mode default : ℕ) (ranks
 
 module _ (size : ℕ) (rules : List Rule) (t : List ℕ) (mode default : ℕ) (ranks o : List ℕ) where
   -- A refusal leaves the output.
-  pub refused_by : {n i : ℕ} → reply_by size rules t mode default ranks ≡ refuses n i → RewritesBy size rules t mode default ranks o (Refused n i) o
+  pub refused_by : {r : Refusal} → reply_by size rules t mode default ranks ≡ refuses (number_of r.cause) r.index → RewritesBy size rules t mode default ranks o (Err r) o
   refused_by e = record { answer = sym (ap (written_of (records_in size t)) e); output = sym (ap (output_of size o) e) }
 
   -- What is finished by the last rule is what the whole statement asks.
-  pub finished_by : {fill : ℕ} {r : Rewritten} {o' : List ℕ} → reply_by size rules t mode default ranks ≡ last_reply size t mode fill ranks (length o)
+  pub finished_by : {fill : ℕ} {r : Outcome} {o' : List ℕ} → reply_by size rules t mode default ranks ≡ last_reply size t mode fill ranks (length o)
       → Finished size t mode fill ranks o r o' → RewritesBy size rules t mode default ranks o r o'
   finished_by e f =
       record { answer = f.answer ∙ sym (ap (written_of (records_in size t)) e); output = f.output ∙ sym (ap (output_of size o) e) }
 
 -- What is finished at a size that is the form's is finished at the form's.
-pub finished_in : {size n : ℕ} {t : List ℕ} {mode fill : ℕ} {ranks o : List ℕ} {r : Rewritten} {o' : List ℕ} → size ≡ n → Finished size t mode fill ranks o r o'
+pub finished_in : {size n : ℕ} {t : List ℕ} {mode fill : ℕ} {ranks o : List ℕ} {r : Outcome} {o' : List ℕ} → size ≡ n → Finished size t mode fill ranks o r o'
     → Finished n t mode fill ranks o r o'
 finished_in {t = t} {mode} {fill} {ranks} {o} {r} {o'} e = subst (λ (k : ℕ). Finished k t mode fill ranks o r o') e
 
@@ -125,14 +127,6 @@ pub same_last : (size : ℕ) (t : List ℕ) (mode fill default : ℕ) (ranks : L
     → last_reply size t mode default ranks room ≡ last_reply size t mode fill ranks room
 unfolding result_of
 same_last size t mode fill default ranks room used same = rw (same_mode mode fill default used same)
-
--- Above is not at most.
-pub above_not : (m n : ℕ) → ltb m n ≡ not (leb n m)
-above_not m n = go (leb n m) refl
-  where
-    go : (b : Bool) → leb n m ≡ b → ltb m n ≡ not b
-    go true e = le-ltb m n (leb-true n m e)
-    go false e = lt-ltb m n (leb-false n m e)
 
 -- Rule 2 says that the default of mode 5 is a hop.
 pub default_hop : (mode default : ℕ) → (not (eqb mode 5) || leb default 63) ≡ true → mode ≡ 5 → default ≤ 63
@@ -205,7 +199,7 @@ long_enough size (inr e) room n h = let g : n ≤ room / 16 = rw e at h in rw e 
 
 module _ (size : ℕ) (is : IsSize size) (t : List ℕ) (mode fill : ℕ) (ranks o : List ℕ) where
   -- Number 11: the output has no room for so many records.
-  pub finished_refused : length o / size < length (result_of size t mode fill ranks) → Finished size t mode fill ranks o (Refused 11 0) o
+  pub finished_refused : length o / size < length (result_of size t mode fill ranks) → Finished size t mode fill ranks o (Err (record { cause = OutputRoom; index = 0 })) o
   finished_refused h =
       let e : last_reply size t mode fill ranks (length o) ≡ refuses 11 0 =
       broken-here _ 11 0 _
@@ -215,12 +209,12 @@ module _ (size : ℕ) (is : IsSize size) (t : List ℕ) (mode fill : ℕ) (ranks
   -- It has, and they are written.
   pub finished_written : {k : ℕ} {change : ℤ} {o' : List ℕ} → k ≡ length (result_of size t mode fill ranks) → k ≤ length o / size
       → change ≡ pos k -ℤ pos (records_in size t)
-      → o' ≡ bytes_in size (result_of size t mode fill ranks) ++ drop (size * k) o → Finished size t mode fill ranks o (Records k change) o'
+      → o' ≡ bytes_in size (result_of size t mode fill ranks) ++ drop (size * k) o → Finished size t mode fill ranks o (records_out k change) o'
   unfolding judge
-  finished_written {k} {change} {o'} count fits differ wrote =
+  finished_written {k} {change} {o'} count fits differ records_out =
       let e : last_reply size t mode fill ranks (length o) ≡ gives (result_of size t mode fill ranks) =
       rw (le-leb (size * length (result_of size t mode fill ranks)) (length o) (long_enough size is (length o) (length (result_of size t mode fill ranks)) (omega arith))) in
       record {
         answer = rw (differ, count) (sym (ap (written_of (records_in size t)) e));
-        output = wrote ∙ rw count (sym (ap (output_of size o) e));
+        output = records_out ∙ rw count (sym (ap (output_of size o) e));
       }

@@ -10,6 +10,8 @@ use native.Mathlib.Omega.{arith}
 use lib.IntN.{ℤ, pos, ◌-ℤ◌, +ℤ_invr}
 use lib.ListN.{length, take, drop, length-append, length-drop}
 use lib.Seq.{take_at}
+use Rattle.refusals.specs.Numbers.{number_of}
+use Rattle.std.specs.Prelude.{Ok, Err}
 use Rattle.theory.specs.Routes.{Route, All, Table, held, answer, filled, Alike}
 use Rattle.theory.specs.Results.{result}
 use Rattle.theory.specs.Ranks.{lowest}
@@ -28,10 +30,8 @@ use Rattle.records.proofs.SizedWritten.{in_length_bytes, in_records_bytes, in_ro
 use Rattle.table.specs.SizedRules.{top_hop}
 use Rattle.table.specs.SizedConditions.{AcceptedIn, LawfulIn}
 use Rattle.table.proofs.SizedTables.{in_lawful, in_accepted_written}
-use Rattle.calls.specs.declared.Rewritten.{Rewritten}
-use Rattle.calls.specs.declared.Rewritten.TheVariants.{Records, Refused}
 use Rattle.calls.specs.Conditions.{Answerable, Guarded}
-use Rattle.calls.specs.Rewriting.{InUse, mode_of, result_of, takes_set, Written, reply_by, written_of, output_of, rewritten_says, count_of, change_of, RewritesBy}
+use Rattle.calls.specs.Rewriting.{InUse, mode_of, result_of, takes_set, Written, reply_by, written_of, output_of, rewritten_says, count_of, change_of, RewritesBy, Outcome, records_out}
 use Rattle.calls.proofs.Settled.{rewritten_same}
 
 -- A reply that is said with records gives the result.
@@ -67,16 +67,16 @@ module _ {Holds : ℕ → ℕ → Type 0} (size : ℕ) (rules : List Rule) (test
   unfolding reply_by
   by_refuses order = refuses-exactly rules tests (result_of size t mode default ranks) order
 
-  module _ (o : List ℕ) (r : Rewritten) (o' : List ℕ) (ok : RewritesBy size rules t mode default ranks o r o') where
+  module _ (o : List ℕ) (r : Outcome) (o' : List ℕ) (ok : RewritesBy size rules t mode default ranks o r o') where
     -- It is refused with a number and an index exactly when their condition holds and none before it in the order of the checks does.
-    pub by_refused : InOrder rules → (number index : ℕ) → r ≡ Refused number index ↔ First Holds number index
+    pub by_refused : InOrder rules → (number index : ℕ) → rewritten_says r ≡ refuses number index ↔ First Holds number index
     by_refused order number index = (
-      λ e. (by_refuses order number index).0 (says-refuses (records_in size t) (reply_by size rules t mode default ranks) (sym ok.answer ∙ ap rewritten_says e)),
-      λ f. rewritten_same r (Refused number index) (ok.answer ∙ ap (written_of (records_in size t)) ((by_refuses order number index).1 f)),
+      λ e. (by_refuses order number index).0 (says-refuses (records_in size t) (reply_by size rules t mode default ranks) (sym ok.answer ∙ e)),
+      λ f. ok.answer ∙ ap (written_of (records_in size t)) ((by_refuses order number index).1 f),
     )
 
     -- It is answered with records exactly when no condition holds.
-    pub by_accepted : ((count : ℕ) × ((change : ℤ) × (r ≡ Records count change))) ↔ None Holds
+    pub by_accepted : ((count : ℕ) × ((change : ℤ) × (r ≡ records_out count change))) ↔ None Holds
     by_accepted = (
       λ (count, (change, e)).
           let g = says-gives (records_in size t) (reply_by size rules t mode default ranks) (sym ok.answer ∙ ap rewritten_says e) in
@@ -84,17 +84,22 @@ module _ {Holds : ℕ → ℕ → Type 0} (size : ℕ) (rules : List Rule) (test
       λ none.
           let e = by_gives.1 (none, refl) in (
             length (result_of size t mode default ranks),
-            (_, rewritten_same r (Records _ _) (ok.answer ∙ ap (written_of (records_in size t)) e)),
+            (_, rewritten_same r (records_out _ _) (ok.answer ∙ ap (written_of (records_in size t)) e)),
           ),
     )
 
 -- A refusal leaves the output as it was, and has count 0 and change 0.
-pub by_untouched : (size : ℕ) (rules : List Rule) (t : List ℕ) (mode default : ℕ) (ranks o : List ℕ) (r : Rewritten) (o' : List ℕ)
+pub by_untouched : (size : ℕ) (rules : List Rule) (t : List ℕ) (mode default : ℕ) (ranks o : List ℕ) (r : Outcome) (o' : List ℕ)
     → RewritesBy size rules t mode default ranks o r o'
-    → (number index : ℕ) → r ≡ Refused number index → (o' ≡ o) × (count_of r ≡ 0) × (change_of r ≡ pos 0)
+    → (number index : ℕ) → rewritten_says r ≡ refuses number index → (o' ≡ o) × (count_of r ≡ 0) × (change_of r ≡ pos 0)
 by_untouched size rules t mode default ranks o r o' ok number index e =
-    let f = says-refuses (records_in size t) (reply_by size rules t mode default ranks) (sym ok.answer ∙ ap rewritten_says e) in
-    (ok.output ∙ ap (output_of size o) f, ap count_of e, ap change_of e)
+    let f = says-refuses (records_in size t) (reply_by size rules t mode default ranks) (sym ok.answer ∙ e) in
+    let n = none r e in
+    (ok.output ∙ ap (output_of size o) f, n.0, n.1)
+  where
+    none : (a : Outcome) → rewritten_says a ≡ refuses number index → (count_of a ≡ 0) × (change_of a ≡ pos 0)
+    none (Ok w) h = let z : ◌≡◌ {A = ℕ} 0 1 = cc in absurd (omega arith)
+    none (Err refusal) h = (refl, refl)
 
 -- ---- The hops that a mode may write are in range for it.
 hop_of : (s : Bool) {t : List Route} → All (λ r. r.hop ≤ top_hop s) t → {h : ℕ} → HopIn t h → h ≤ top_hop s
@@ -112,42 +117,42 @@ hop_kept (suc (suc (suc (suc (suc zero))))) d m f hops h (inr from) = hop_of (ta
 hop_kept (suc (suc (suc (suc (suc (suc n)))))) d m f hops h from = absurd (omega arith)
 
 -- ---- A table t, rewritten by an engine.
-module _ (form : Form) (rules : List Rule) (t : List ℕ) (mode default : ℕ) (ranks o : List ℕ) (guarded : Guarded form rules t mode default ranks (length o)) (r : Rewritten) (o' : List ℕ)
+module _ (form : Form) (rules : List Rule) (t : List ℕ) (mode default : ℕ) (ranks o : List ℕ) (guarded : Guarded form rules t mode default ranks (length o)) (r : Outcome) (o' : List ℕ)
     (ok : RewritesBy (size_of form) rules t mode default ranks o r o') where
   -- ---- Demand 2.
   -- An answer with records says that the reply is the result.
-  pub by_reply : (count : ℕ) (change : ℤ) → r ≡ Records count change
+  pub by_reply : (count : ℕ) (change : ℤ) → r ≡ records_out count change
       → reply_by (size_of form) rules t mode default ranks ≡ gives (result_of (size_of form) t mode default ranks)
   by_reply count change e = reply-result (size_of form) rules t mode default ranks (records_in (size_of form) t) (sym ok.answer ∙ ap rewritten_says e)
 
   -- It is the number of the result's records and the change, and the output has them from its start.
-  pub by_records : (count : ℕ) (change : ℤ) → r ≡ Records count change
+  pub by_records : (count : ℕ) (change : ℤ) → r ≡ records_out count change
       → Answerable form t mode default ranks (length o) × (count ≡ length (result_of (size_of form) t mode default ranks))
       × (change ≡ pos (length (result_of (size_of form) t mode default ranks)) -ℤ pos (records_in (size_of form) t))
       × (o' ≡ bytes_in (size_of form) (result_of (size_of form) t mode default ranks) ++ drop (size_of form * length (result_of (size_of form) t mode default ranks)) o)
   by_records count change e =
       let f = by_reply count change e in
-      let said : r ≡ Records (length (result_of (size_of form) t mode default ranks)) (pos (length (result_of (size_of form) t mode default ranks)) -ℤ pos (records_in (size_of form) t)) =
-      rewritten_same r (Records _ _) (ok.answer ∙ ap (written_of (records_in (size_of form) t)) f) in
-      let same : Records count change ≡ Records (length (result_of (size_of form) t mode default ranks)) (pos (length (result_of (size_of form) t mode default ranks)) -ℤ pos (records_in (size_of form) t)) = sym e ∙ said in
-      (guarded (result_of (size_of form) t mode default ranks) f, cc, cc, ok.output ∙ ap (output_of (size_of form) o) f)
+      let said : r ≡ records_out (length (result_of (size_of form) t mode default ranks)) (pos (length (result_of (size_of form) t mode default ranks)) -ℤ pos (records_in (size_of form) t)) =
+      rewritten_same r (records_out _ _) (ok.answer ∙ ap (written_of (records_in (size_of form) t)) f) in
+      let same : records_out count change ≡ records_out (length (result_of (size_of form) t mode default ranks)) (pos (length (result_of (size_of form) t mode default ranks)) -ℤ pos (records_in (size_of form) t)) = sym e ∙ said in
+      (guarded (result_of (size_of form) t mode default ranks) f, ap count_of same, ap change_of same, ok.output ∙ ap (output_of (size_of form) o) f)
 
-  -- Answered or refused, the output keeps its length.
+  -- Outcome or refused, the output keeps its length.
   pub by_length : length o' ≡ length o
   by_length = go r refl
     where
-      go : (q : Rewritten) → r ≡ q → length o' ≡ length o
-      go (Records count change) e =
-          let f = by_records count change e in
+      go : (q : Outcome) → r ≡ q → length o' ≡ length o
+      go (Ok w) e =
+          let f = by_records w.count w.change e in
           let fits = f.0.enough_output in
           ap (λ (l : List ℕ). length l) f.3 ∙ simp (length-append, length-drop, in_length_bytes (size_of form) (form_size form)) (omega arith)
-      go (Refused n i) e = ap (λ (l : List ℕ). length l) ok.output ∙ kept (reply_by (size_of form) rules t mode default ranks) (sym ok.answer ∙ ap rewritten_says e)
+      go (Err x) e = ap (λ (l : List ℕ). length l) ok.output ∙ kept (reply_by (size_of form) rules t mode default ranks) (sym ok.answer ∙ ap rewritten_says e)
         where
-          kept : (q : Reply (List Route)) → written_of (records_in (size_of form) t) q ≡ refuses n i → length (output_of (size_of form) o q) ≡ length o
+          kept : (q : Reply (List Route)) → written_of (records_in (size_of form) t) q ≡ refuses (number_of x.cause) x.index → length (output_of (size_of form) o q) ≡ length o
           kept (refuses m j) h = refl
           kept (gives rs) h = let z : ◌≡◌ {A = ℕ} 0 1 = cc in absurd (omega arith)
 
-  module _ (count : ℕ) (change : ℤ) (answered : r ≡ Records count change) where
+  module _ (count : ℕ) (change : ℤ) (answered : r ≡ records_out count change) where
     pub by_answerable : Answerable form t mode default ranks (length o)
     by_answerable = (by_records count change answered).0
 
@@ -241,24 +246,24 @@ module _ (form : Form) (rules : List Rule) (t : List ℕ) (mode default : ℕ) (
 -- and the same bytes from the output's start.
 pub again_by : (form : Form) (rules : List Rule) (t : List ℕ) (mode default : ℕ) (ranks o : List ℕ) → Guarded form rules t mode default ranks (length o)
     → (count : ℕ) (change : ℤ) (o' : List ℕ)
-    → RewritesBy (size_of form) rules t mode default ranks o (Records count change) o' → Bytes t
-    → (more : List Rule) (p : List ℕ) → Guarded form more (take (size_of form * count) o') mode default ranks (length p) → (q : Rewritten) (p' : List ℕ)
+    → RewritesBy (size_of form) rules t mode default ranks o (records_out count change) o' → Bytes t
+    → (more : List Rule) (p : List ℕ) → Guarded form more (take (size_of form * count) o') mode default ranks (length p) → (q : Outcome) (p' : List ℕ)
     → RewritesBy (size_of form) more (take (size_of form * count) o') mode default ranks p q p'
-    → (number : ℕ) (other : ℤ) → q ≡ Records number other → (q ≡ Records count (pos 0)) × (take (size_of form * count) p' ≡ take (size_of form * count) o')
+    → (number : ℕ) (other : ℤ) → q ≡ records_out number other → (q ≡ records_out count (pos 0)) × (take (size_of form * count) p' ≡ take (size_of form * count) o')
 again_by form rules t mode default ranks o guarded count change o' ok bytes more p guards q p' b number other e =
     let f = by_records form more (take (size_of form * count) o') mode default ranks p guards q p' b number other e in
-    let counted : count ≡ length (result_of (size_of form) t mode default ranks) = by_counted form rules t mode default ranks o guarded (Records count change) o' ok count change refl in
+    let counted : count ≡ length (result_of (size_of form) t mode default ranks) = by_counted form rules t mode default ranks o guarded (records_out count change) o' ok count change refl in
     let written : take (size_of form * count) o' ≡ bytes_in (size_of form) (result_of (size_of form) t mode default ranks) =
-    by_written form rules t mode default ranks o guarded (Records count change) o' ok count change refl in
+    by_written form rules t mode default ranks o guarded (records_out count change) o' ok count change refl in
     let again : result_of (size_of form) (take (size_of form * count) o') mode default ranks ≡ result_of (size_of form) t mode default ranks =
-    by_again form rules t mode default ranks o guarded (Records count change) o' ok count change refl bytes in
+    by_again form rules t mode default ranks o guarded (records_out count change) o' ok count change refl bytes in
     let size : length (result_of (size_of form) (take (size_of form * count) o') mode default ranks) ≡ length (result_of (size_of form) t mode default ranks) = ap (λ (l : List Route). length l) again in
     let before : records_in (size_of form) (take (size_of form * count) o') ≡ length (result_of (size_of form) t mode default ranks) =
     ap (λ (l : List ℕ). records_in (size_of form) l) written ∙ in_records_bytes (size_of form) (form_size form) (result_of (size_of form) t mode default ranks) in
     let en : number ≡ count = f.1 ∙ size ∙ sym counted in
     let ec : other ≡ pos 0 =
     f.2 ∙ ap₂ (λ (a b : ℕ). pos a -ℤ pos b) size before ∙ +ℤ_invr (pos (length (result_of (size_of form) t mode default ranks))) in (
-      e ∙ ap₂ Records en ec,
+      e ∙ ap₂ records_out en ec,
       ap (λ (n : ℕ). take (size_of form * n) p') (sym en)
           ∙ by_written form more (take (size_of form * count) o') mode default ranks p guards q p' b number other e ∙ ap (bytes_in (size_of form)) again ∙ sym written,
     )
@@ -267,14 +272,14 @@ again_by form rules t mode default ranks o guarded count change o' ok bytes more
 module _ (form : Form) (ranks : List ℕ) (rules : List Rule) (t : List ℕ) (bytes : Bytes t) (o : List ℕ) (count : ℕ) (change : ℤ) (o' : List ℕ)
     (more : List Rule) (s : List ℕ) (small : Bytes s) (p : List ℕ) (number : ℕ) (other : ℤ) (p' : List ℕ) where
   -- The same bytes are written exactly when the results are the same.
-  same_results_by : (mode d e : ℕ) → Guarded form rules t mode d ranks (length o) → RewritesBy (size_of form) rules t mode d ranks o (Records count change) o'
-      → Guarded form more s mode e ranks (length p) → RewritesBy (size_of form) more s mode e ranks p (Records number other) p'
+  same_results_by : (mode d e : ℕ) → Guarded form rules t mode d ranks (length o) → RewritesBy (size_of form) rules t mode d ranks o (records_out count change) o'
+      → Guarded form more s mode e ranks (length p) → RewritesBy (size_of form) more s mode e ranks p (records_out number other) p'
       → take (size_of form * count) o' ≡ take (size_of form * number) p' ↔ result_of (size_of form) t mode d ranks ≡ result_of (size_of form) s mode e ranks
   same_results_by mode d e g a h b =
-      let f = by_written form rules t mode d ranks o g (Records count change) o' a count change refl in
-      let k = by_written form more s mode e ranks p h (Records number other) p' b number other refl in
-      let u = (by_table form rules t mode d ranks o g (Records count change) o' a count change refl bytes).valid in
-      let v = (by_table form more s mode e ranks p h (Records number other) p' b number other refl small).valid in (
+      let f = by_written form rules t mode d ranks o g (records_out count change) o' a count change refl in
+      let k = by_written form more s mode e ranks p h (records_out number other) p' b number other refl in
+      let u = (by_table form rules t mode d ranks o g (records_out count change) o' a count change refl bytes).valid in
+      let v = (by_table form more s mode e ranks p h (records_out number other) p' b number other refl small).valid in (
         λ q.
             sym (in_routes_bytes (size_of form) (form_size form) (result_of (size_of form) t mode d ranks) u)
             ∙ ap (routes_in (size_of form)) (sym f ∙ q ∙ k) ∙ in_routes_bytes (size_of form) (form_size form) (result_of (size_of form) s mode e ranks) v,
@@ -282,24 +287,24 @@ module _ (form : Form) (ranks : List ℕ) (rules : List Rule) (t : List ℕ) (by
       )
 
   -- Mode 4: exactly when they send all addresses the same way, no route included.
-  pub drop_by : (d e : ℕ) → Guarded form rules t 4 d ranks (length o) → RewritesBy (size_of form) rules t 4 d ranks o (Records count change) o'
-      → Guarded form more s 4 e ranks (length p) → RewritesBy (size_of form) more s 4 e ranks p (Records number other) p'
+  pub drop_by : (d e : ℕ) → Guarded form rules t 4 d ranks (length o) → RewritesBy (size_of form) rules t 4 d ranks o (records_out count change) o'
+      → Guarded form more s 4 e ranks (length p) → RewritesBy (size_of form) more s 4 e ranks p (records_out number other) p'
       → take (size_of form * count) o' ≡ take (size_of form * number) p'
       ↔ Alike (width_in (size_of form)) (answer (width_in (size_of form)) (routes_in (size_of form) t)) (answer (width_in (size_of form)) (routes_in (size_of form) s))
   unfolding result_of
   drop_by d e g a h b = Iff.trans (same_results_by 4 d e g a h b) (drop_alike (lowest ranks) (lowest_chooses ranks) (width_in (size_of form)) (routes_in (size_of form) t) (routes_in (size_of form) s))
 
   -- Mode 5, at one default: exactly when they do once unrouted addresses have the default.
-  pub fill_by : (d : ℕ) → Guarded form rules t 5 d ranks (length o) → RewritesBy (size_of form) rules t 5 d ranks o (Records count change) o'
-      → Guarded form more s 5 d ranks (length p) → RewritesBy (size_of form) more s 5 d ranks p (Records number other) p'
+  pub fill_by : (d : ℕ) → Guarded form rules t 5 d ranks (length o) → RewritesBy (size_of form) rules t 5 d ranks o (records_out count change) o'
+      → Guarded form more s 5 d ranks (length p) → RewritesBy (size_of form) more s 5 d ranks p (records_out number other) p'
       → take (size_of form * count) o' ≡ take (size_of form * number) p'
       ↔ Alike (width_in (size_of form)) (filled d (answer (width_in (size_of form)) (routes_in (size_of form) t))) (filled d (answer (width_in (size_of form)) (routes_in (size_of form) s)))
   unfolding result_of
   fill_by d g a h b = Iff.trans (same_results_by 5 d d g a h b) (fill_alike (lowest ranks) (lowest_chooses ranks) (width_in (size_of form)) d (routes_in (size_of form) t) (routes_in (size_of form) s))
 
   -- Mode 1: exactly when they hold the same addresses.
-  pub set_by : (d e : ℕ) → Guarded form rules t 1 d ranks (length o) → RewritesBy (size_of form) rules t 1 d ranks o (Records count change) o'
-      → Guarded form more s 1 e ranks (length p) → RewritesBy (size_of form) more s 1 e ranks p (Records number other) p'
+  pub set_by : (d e : ℕ) → Guarded form rules t 1 d ranks (length o) → RewritesBy (size_of form) rules t 1 d ranks o (records_out count change) o'
+      → Guarded form more s 1 e ranks (length p) → RewritesBy (size_of form) more s 1 e ranks p (records_out number other) p'
       → take (size_of form * count) o' ≡ take (size_of form * number) p'
       ↔ ((x : ℕ) → x < 2 ^ width_in (size_of form) → held (width_in (size_of form)) (routes_in (size_of form) t) x ≡ held (width_in (size_of form)) (routes_in (size_of form) s) x)
   unfolding result_of

@@ -15,5 +15,6 @@ pub mod Ranks
 pub mod Retired
 pub mod Marked
 pub mod Wrong
+pub mod Modes
 pub mod Ending
 pub mod Masking

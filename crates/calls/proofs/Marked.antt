@@ -26,11 +26,9 @@ use Rattle.table.specs.TableRules.{form_rules}
 use Rattle.nodecount.specs.Nodes.{nodes, brought, fresh}
 use Rattle.records.proofs.Octets.{all_bytes}
 use Rattle.records.proofs.SizedWritten.{in_records_bytes}
-use Rattle.calls.specs.declared.Rewritten.{Rewritten}
-use Rattle.calls.specs.declared.Rewritten.TheVariants.{Records}
 use Rattle.calls.specs.Conditions.{RewriteCondition}
 use Rattle.refusals.specs.Order.{None}
-use Rattle.calls.specs.Rewriting.{InUse, mode_of, result_of, takes_set, Rewrites}
+use Rattle.calls.specs.Rewriting.{InUse, mode_of, result_of, takes_set, Rewrites, Outcome, records_out}
 use Rattle.table.proofs.SizedAccepted.{in_accepted, in_accepted_exactly}
 use Rattle.records.proofs.SizedReading.{form_size}
 use Rattle.table.proofs.SizedMasking.{in_accepted_any}
@@ -87,9 +85,9 @@ changes =
 -- the expected change, the rest of the output as it was.
 abbrev pub CaseAnswered : Bool → Case → ℤ → Type 0
 CaseAnswered long c change =
-    (strict : Bool) (o : List ℕ) (words : ℕ) (r : Rewritten) (o' w' : List ℕ) → 8200 ≤ length o → 16384 ≤ words
+    (strict : Bool) (o : List ℕ) (words : ℕ) (r : Outcome) (o' w' : List ℕ) → 8200 ≤ length o → 16384 ≤ words
     → Rewrites (choosing strict long) (bytes_in (size_of (masking long)) c.table) (number_of c.mode) (default_of c.mode) [] o words r o' w'
-    → (r ≡ Records (length c.expected) change) × (o' ≡ bytes_in (size_of (masking long)) c.expected ++ drop (size_of (masking long) * length c.expected) o)
+    → (r ≡ records_out (length c.expected) change) × (o' ≡ bytes_in (size_of (masking long)) c.expected ++ drop (size_of (masking long) * length c.expected) o)
 
 -- P holds of each case with its change, and there are as many.
 abbrev pub Each : (Case → ℤ → Type 0) → List Case → List ℤ → Type 0
@@ -115,7 +113,7 @@ case_answered : (long : Bool) (c : Case) (change : ℤ) → Ready long c change 
 unfolding result_of
 case_answered long c change k e strict o words r o' w' enough wide ok =
     let f = rewrite_result form t mode default [] o words r o' w' ok none in (
-      f.0 ∙ ap₂ Records as_many (ap₂ (λ (a b : ℕ). pos a -ℤ pos b) as_many (in_records_bytes size (form_size form) c.table) ∙ k.5),
+      f.0 ∙ ap₂ records_out as_many (ap₂ (λ (a b : ℕ). pos a -ℤ pos b) as_many (in_records_bytes size (form_size form) c.table) ∙ k.5),
       f.1 ∙ ap (λ (rs : List Route). bytes_in size rs ++ drop (size * length rs) o) made,
     )
   where
@@ -216,14 +214,14 @@ empty-result form mode default ranks used high =
     ∙ of_none (size_of form) (form_size form) mode default ranks used high
 
 -- It is answered with no record and change 0.
-pub empty-answered : (form : Form) (mode default : ℕ) (ranks o : List ℕ) (words : ℕ) (r : Rewritten) (o' w' : List ℕ) → InUse mode → mode ≤ 4
+pub empty-answered : (form : Form) (mode default : ℕ) (ranks o : List ℕ) (words : ℕ) (r : Outcome) (o' w' : List ℕ) → InUse mode → mode ≤ 4
     → (4 ≤ mode → Ranking 64 ranks) → 160 ≤ words
-    → Rewrites form [] mode default ranks o words r o' w' → (r ≡ Records 0 (pos 0)) × (o' ≡ o)
+    → Rewrites form [] mode default ranks o words r o' w' → (r ≡ records_out 0 (pos 0)) × (o' ≡ o)
 unfolding result_of bytes_in
 empty-answered form mode default ranks o words r o' w' used high ranked enough ok =
     let f = rewrite_result form [] mode default ranks o words r o' w' ok none in (
       f.0
-          ∙ ap₂ (λ (rs : List Route) (n : ℕ). Records (length rs) (pos (length rs) -ℤ pos n)) (empty-result form mode default ranks used high)
+          ∙ ap₂ (λ (rs : List Route) (n : ℕ). records_out (length rs) (pos (length rs) -ℤ pos n)) (empty-result form mode default ranks used high)
           (no_records (size_of form) (form_size form)),
       f.1
           ∙ ap (λ (rs : List Route). bytes_in (size_of form) rs ++ drop (size_of form * length rs) o) (empty-result form mode default ranks used high)

@@ -6,9 +6,11 @@ use mathlib.Core.List.{List, [], ◌∷◌, ◌++◌}
 use Prim.Native.Nat.{ℕ, ◌*◌, ◌/◌}
 use lib.Dec.{eqb, leb}
 use lib.ListN.{length}
+use Rattle.refusals.specs.declared.Refusal.{Refusal}
+use Rattle.std.specs.Prelude.{Result}
 use Rattle.theory.specs.Results.{result}
 use Rattle.theory.specs.Ranks.{lowest, is_ranking}
-use Rattle.refusals.specs.Rules.{Rule, rule, judge}
+use Rattle.refusals.specs.Rules.{Rule, rule, judge, refuses}
 use Rattle.refusals.proofs.Waived.{waived, waived_append, waived_judge, waived_answer}
 use Rattle.records.specs.Sized.{width_in, records_in, routes_in, masked_in, Bytes}
 use Rattle.records.specs.declared.Form.{Form}
@@ -18,29 +20,25 @@ use Rattle.table.specs.TableRules.{form_rules}
 use Rattle.table.specs.Conditions.{AcceptedBy}
 use Rattle.table.proofs.SizedMasking.{in_strict_waived, in_masked_routes, in_masked_length, in_masked_rules}
 use Rattle.nodecount.specs.Nodes.{nodes}
-use Rattle.calls.specs.declared.Rewritten.{Rewritten}
-use Rattle.calls.specs.declared.Rewritten.TheVariants.{Refused}
-use Rattle.calls.specs.declared.Covers.{Covers}
-use Rattle.calls.specs.declared.Covers.TheVariants.{Refused as NotAnswered}
 use Rattle.calls.specs.Covering.{cover_rules, covered_by, covers_says, cover_reply, Queried}
-use Rattle.calls.specs.Rewriting.{mode_of, result_of, takes_set, rewrite_rules, reply_by, rewrite_reply, written_of, output_of, RewritesBy, Rewrites}
-use Rattle.calls.proofs.Settled.{rewritten_same, covers_same, rewrite_settled}
+use Rattle.calls.specs.Rewriting.{mode_of, result_of, takes_set, rewrite_rules, reply_by, rewrite_reply, written_of, output_of, RewritesBy, Rewrites, Outcome, rewritten_says}
+use Rattle.calls.proofs.Settled.{covers_same, rewrite_settled}
 
 -- A form by its choice on host bits and its size.
 abbrev pub choosing : Bool → Bool → Form
 choosing strict long = record { strict = strict; long = long }
 
 -- ---- The strict choice. A rewrite by any engine's rules, and by the same with number 6 waived.
-module _ (size : ℕ) (rules : List Rule) (t : List ℕ) (mode default : ℕ) (ranks o : List ℕ) (r : Rewritten) (o' : List ℕ) (one : RewritesBy size rules t mode default ranks o r o') where
+module _ (size : ℕ) (rules : List Rule) (t : List ℕ) (mode default : ℕ) (ranks o : List ℕ) (r : Outcome) (o' : List ℕ) (one : RewritesBy size rules t mode default ranks o r o') where
   -- What is not refused by 6 satisfies the other's statement.
-  pub by_waived : ((i : ℕ) → r ≡ Refused 6 i → ⊥) → RewritesBy size (waived 6 rules) t mode default ranks o r o'
+  pub by_waived : ((i : ℕ) → rewritten_says r ≡ refuses 6 i → ⊥) → RewritesBy size (waived 6 rules) t mode default ranks o r o'
   unfolding reply_by
   by_waived h = record { answer = one.answer ∙ ap (written_of (records_in size t)) (sym same); output = one.output ∙ ap (output_of size o) (sym same) }
     where
       same : judge (waived 6 rules) (result_of size t mode default ranks) ≡ judge rules (result_of size t mode default ranks)
       same =
           waived_judge 6 rules (result_of size t mode default ranks)
-          (λ i e. h i (rewritten_same r (Refused 6 i) (one.answer ∙ ap (written_of (records_in size t)) e)))
+          (λ i e. h i (one.answer ∙ ap (written_of (records_in size t)) e))
 
 -- The default is the strict choice with number 6 waived.
 module _ (long : Bool) (t : List ℕ) where
@@ -69,9 +67,9 @@ module _ (long : Bool) (t : List ℕ) where
       last = rule 9 0 (leb len (width_in (size_of (masking long)))) ∷ rule 10 0 (leb (160 * nodes (width_in (size_of (masking long))) (routes_in (size_of (masking long)) t)) words) ∷ []
 
   -- A rewrite that is not refused by 6 under the strict choice is the default's: the answer, the output and the room.
-  pub rewrite_carried : (mode default : ℕ) (ranks o : List ℕ) (words : ℕ) (r q : Rewritten) (o' p' w' v' : List ℕ)
+  pub rewrite_carried : (mode default : ℕ) (ranks o : List ℕ) (words : ℕ) (r q : Outcome) (o' p' w' v' : List ℕ)
       → Rewrites (refusing long) t mode default ranks o words r o' w' → Rewrites (masking long) t mode default ranks o words q p' v'
-      → ((i : ℕ) → r ≡ Refused 6 i → ⊥) → (q ≡ r) × (p' ≡ o') × (v' ≡ w')
+      → ((i : ℕ) → rewritten_says r ≡ refuses 6 i → ⊥) → (q ≡ r) × (p' ≡ o') × (v' ≡ w')
   rewrite_carried mode default ranks o words r q o' p' w' v' one other h =
       rewrite_settled (masking long) t mode default ranks o words q r p' o' v' w' other
       (record {
@@ -82,13 +80,13 @@ module _ (long : Bool) (t : List ℕ) where
       })
 
   -- So is the cover query's.
-  pub covers_carried : (address len words : ℕ) (r q : Covers) (w' v' : List ℕ)
+  pub covers_carried : (address len words : ℕ) (r q : Result Bool Refusal) (w' v' : List ℕ)
       → Queried (refusing long) t address len words r w' → Queried (masking long) t address len words q v'
-      → ((i : ℕ) → r ≡ NotAnswered 6 i → ⊥) → (q ≡ r) × (v' ≡ w')
+      → ((i : ℕ) → covers_says r ≡ refuses 6 i → ⊥) → (q ≡ r) × (v' ≡ w')
   covers_carried address len words r q w' v' one other h = (
     waived_answer covers_says covers_same 6 (cover_rules (refusing long) t len words) (covered_by (size_of (masking long)) t address len) r q one.answer
         (other.answer ∙ ap (λ (l : List Rule). judge l (covered_by (size_of (masking long)) t address len)) (sym (cover_waived len words)))
-        (λ i e. h i (covers_same r (NotAnswered 6 i) e)),
+        h,
     other.zero ∙ sym one.zero,
   )
 
@@ -111,7 +109,7 @@ module _ (form : Form) (s : Bool) (t : List ℕ) (bytes : Bytes t) (ok : Accepte
       rw (in_masked_rules (size_of form) (form_size form) form.strict s t bytes ok other (takes_set mode), in_masked_routes (size_of form) (form_size form) form.strict s t bytes ok, same_result mode default ranks)
 
   -- and so satisfies its statement, and no other answer does: in every mode the same answer, output and room.
-  pub rewrites-masked : (mode default : ℕ) (ranks o : List ℕ) (words : ℕ) (r : Rewritten) (o' w' : List ℕ)
+  pub rewrites-masked : (mode default : ℕ) (ranks o : List ℕ) (words : ℕ) (r : Outcome) (o' w' : List ℕ)
       → Rewrites (choosing other form.long) (masked_in (size_of form) t) mode default ranks o words r o' w'
       → Rewrites (masking form.long) t mode default ranks o words r o' w'
   rewrites-masked mode default ranks o words r o' w' a =

@@ -17,9 +17,8 @@ use Rattle.refusals.specs.Rules.{Rule}
 use Rattle.records.specs.Sized.{width_in, routes_in, Bytes}
 use Rattle.records.specs.declared.Form.{Form}
 use Rattle.records.specs.Forms.{size_of}
-use Rattle.calls.specs.declared.Rewritten.TheVariants.{Records}
 use Rattle.calls.specs.Conditions.{Guarded}
-use Rattle.calls.specs.Rewriting.{InUse, mode_of, result_of, rewrite_rules, reply_by, rewrite_reply, RewritesBy}
+use Rattle.calls.specs.Rewriting.{InUse, mode_of, result_of, rewrite_rules, reply_by, rewrite_reply, RewritesBy, records_out}
 use Rattle.calls.proofs.Ending.{mode_is}
 use Rattle.calls.proofs.Engines.{by_counted, by_reads}
 
@@ -75,24 +74,24 @@ module _ (form : Form) (t : List ℕ) (mode default : ℕ) where
 -- ---- A table t, rewritten by an engine without refusal.
 module _ (form : Form) (rules : List Rule) (t : List ℕ) (bytes : Bytes t) (ranks o : List ℕ) (count : ℕ) (change : ℤ) (o' : List ℕ) where
   -- The hop of each record that is written is one of the candidates of its prefix, and none of them has a lower rank: in mode 4 where the table answers,
-  pub drop_by_first : (d : ℕ) → Guarded form rules t 4 d ranks (length o) → RewritesBy (size_of form) rules t 4 d ranks o (Records count change) o'
+  pub drop_by_first : (d : ℕ) → Guarded form rules t 4 d ranks (length o) → RewritesBy (size_of form) rules t 4 d ranks o (records_out count change) o'
       → All (RankedFirst ranks (width_in (size_of form)) (answer (width_in (size_of form)) (routes_in (size_of form) t))) (routes_in (size_of form) (take (size_of form * count) o'))
   drop_by_first d guarded ok =
-      rw (by_reads form rules t 4 d ranks o guarded (Records count change) o' ok count change refl bytes) (drop-first ranks (width_in (size_of form)) (routes_in (size_of form) t))
+      rw (by_reads form rules t 4 d ranks o guarded (records_out count change) o' ok count change refl bytes) (drop-first ranks (width_in (size_of form)) (routes_in (size_of form) t))
 
   -- in mode 5 where it answers or else the default does.
-  pub fill_by_first : (d : ℕ) → Guarded form rules t 5 d ranks (length o) → RewritesBy (size_of form) rules t 5 d ranks o (Records count change) o'
+  pub fill_by_first : (d : ℕ) → Guarded form rules t 5 d ranks (length o) → RewritesBy (size_of form) rules t 5 d ranks o (records_out count change) o'
       → All (RankedFirst ranks (width_in (size_of form)) (filled d (answer (width_in (size_of form)) (routes_in (size_of form) t)))) (routes_in (size_of form) (take (size_of form * count) o'))
   fill_by_first d guarded ok =
-      rw (by_reads form rules t 5 d ranks o guarded (Records count change) o' ok count change refl bytes) (fill_first ranks (width_in (size_of form)) d (routes_in (size_of form) t))
+      rw (by_reads form rules t 5 d ranks o guarded (records_out count change) o' ok count change refl bytes) (fill_first ranks (width_in (size_of form)) d (routes_in (size_of form) t))
 
 -- ---- The same table, rewritten in one mode under two lists of ranks, by one engine or by two, without refusal: as many records.
 pub by_count : (form : Form) (rules more : List Rule) (t : List ℕ) (mode default : ℕ) (ranks other o p : List ℕ)
     → Guarded form rules t mode default ranks (length o) → Guarded form more t mode default other (length p)
     → (count number : ℕ) (change differs : ℤ) (o' p' : List ℕ)
-    → RewritesBy (size_of form) rules t mode default ranks o (Records count change) o'
-    → RewritesBy (size_of form) more t mode default other p (Records number differs) p' → count ≡ number
+    → RewritesBy (size_of form) rules t mode default ranks o (records_out count change) o'
+    → RewritesBy (size_of form) more t mode default other p (records_out number differs) p' → count ≡ number
 by_count form rules more t mode default ranks other o p guarded guards count number change differs o' p' ok also =
-    by_counted form rules t mode default ranks o guarded (Records count change) o' ok count change refl
+    by_counted form rules t mode default ranks o guarded (records_out count change) o' ok count change refl
     ∙ ranks_count (size_of form) t mode default ranks other
-    ∙ sym (by_counted form more t mode default other p guards (Records number differs) p' also number differs refl)
+    ∙ sym (by_counted form more t mode default other p guards (records_out number differs) p' also number differs refl)

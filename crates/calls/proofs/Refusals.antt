@@ -9,13 +9,15 @@ use native.Mathlib.Decide.{dec_le}
 use native.Mathlib.Omega.{arith}
 use lib.IntN.{ℤ, pos}
 use lib.ListN.{length, replicate}
+use Rattle.refusals.specs.declared.Refusal.{Refusal}
+use Rattle.std.specs.Prelude.{Result}
 use Rattle.theory.specs.Ranks.{Ranking, is_ranking}
 use Rattle.theory.specs.Routes.{Route}
 use Rattle.theory.proofs.Ranks.{ranking_tested}
-use Rattle.refusals.specs.Rules.{Rule, gives}
+use Rattle.refusals.specs.Rules.{Rule, gives, refuses}
 use Rattle.refusals.specs.Order.{rank, Earlier, First, None}
 use Rattle.refusals.proofs.Judged.{Broken, earlier_not, gives-exactly}
-use Rattle.refusals.proofs.Answered.{refused_exactly}
+use Rattle.refusals.proofs.Answered.{says_refused}
 use Rattle.records.specs.Sized.{IsSize, width_in, routes_from_in, records_in, routes_in}
 use Rattle.records.specs.declared.Form.{Form}
 use Rattle.records.specs.Forms.{size_of}
@@ -25,13 +27,9 @@ use Rattle.table.specs.SizedConditions.{not_whole, too_many, of_record}
 use Rattle.table.proofs.SizedAccepted.{in_accepted_exactly}
 use Rattle.table.proofs.SizedTested.{in_table_numbers}
 use Rattle.nodecount.specs.Nodes.{nodes, brought}
-use Rattle.calls.specs.declared.Rewritten.{Rewritten}
-use Rattle.calls.specs.declared.Rewritten.TheVariants.{Records, Refused}
-use Rattle.calls.specs.declared.Covers.{Covers}
-use Rattle.calls.specs.declared.Covers.TheVariants.{Refused as NotAnswered}
 use Rattle.calls.specs.Conditions.{RewriteCondition, no_mode, retired, large_default, bad_ranks, of_table, short_work, short_output, CoverCondition, of_set, long_query, short_room, Answerable, Guarded}
 use Rattle.calls.specs.Covering.{cover_rules, covered_by, covers_says, Queried}
-use Rattle.calls.specs.Rewriting.{InUse, result_of, takes_set, rewrite_rules, reply_by, rewrite_reply, count_of, change_of, Rewrites}
+use Rattle.calls.specs.Rewriting.{InUse, result_of, takes_set, rewrite_rules, reply_by, rewrite_reply, count_of, change_of, Rewrites, Outcome, records_out, rewritten_says}
 use Rattle.calls.proofs.Engines.{by_gives, by_refused, by_accepted, by_untouched}
 use Rattle.calls.proofs.Settled.{covers_same}
 use Rattle.calls.proofs.Tested.{rewrite_ranked, rewrite_tests, cover_ranked, cover_tests}
@@ -103,24 +101,24 @@ module _ (form : Form) (t : List ℕ) (mode default : ℕ) (ranks o : List ℕ) 
       ↔ (None (RewriteCondition form t mode default ranks (length o) words) × (result_of (size_of form) t mode default ranks ≡ rs))
   reply-gives = by_gives (size_of form) rules tests t mode default ranks
 
-  module _ (r : Rewritten) (o' w' : List ℕ) (ok : Rewrites form t mode default ranks o words r o' w') where
+  module _ (r : Outcome) (o' w' : List ℕ) (ok : Rewrites form t mode default ranks o words r o' w') where
     -- It is refused with a number and an index exactly when their condition holds and none before it in document 01's order does.
-    pub rewrite_refused : (number index : ℕ) → r ≡ Refused number index ↔ First (RewriteCondition form t mode default ranks (length o) words) number index
+    pub rewrite_refused : (number index : ℕ) → rewritten_says r ≡ refuses number index ↔ First (RewriteCondition form t mode default ranks (length o) words) number index
     rewrite_refused = by_refused (size_of form) rules tests t mode default ranks o r o' ok.inner (rewrite_ranked form t mode default ranks (length o) words).order
 
     -- It is answered with records exactly when no condition holds.
-    pub rewrite_accepted : ((count : ℕ) × ((change : ℤ) × (r ≡ Records count change))) ↔ None (RewriteCondition form t mode default ranks (length o) words)
+    pub rewrite_accepted : ((count : ℕ) × ((change : ℤ) × (r ≡ records_out count change))) ↔ None (RewriteCondition form t mode default ranks (length o) words)
     rewrite_accepted = by_accepted (size_of form) rules tests t mode default ranks o r o' ok.inner
 
     -- A refusal leaves the output as it was, has count 0 and change 0, and the room is zero.
-    pub refusal_changes_nothing : (number index : ℕ) → r ≡ Refused number index
+    pub refusal_changes_nothing : (number index : ℕ) → rewritten_says r ≡ refuses number index
         → (o' ≡ o) × (count_of r ≡ 0) × (change_of r ≡ pos 0) × (w' ≡ replicate words 0)
     refusal_changes_nothing number index e =
         let same = by_untouched (size_of form) rules t mode default ranks o r o' ok.inner number index e in
         (same.0, same.1, same.2, ok.zero)
 
     -- It gives the numbers 1 to 8, 10, 11, 15 and 16 alone.
-    pub rewrite_numbers : (number index : ℕ) → r ≡ Refused number index
+    pub rewrite_numbers : (number index : ℕ) → rewritten_says r ≡ refuses number index
         → ((1 ≤ number) × (number ≤ 11) × (number ≡ 9 → ⊥)) ⊎ ((number ≡ 15) ⊎ (number ≡ 16))
     rewrite_numbers number index e = go number index ((rewrite_refused number index).0 e).0
       where
@@ -134,12 +132,12 @@ module _ (form : Form) (t : List ℕ) (mode default : ℕ) (ranks o : List ℕ) 
         go n i (short_output h) = inl (omega arith, omega arith, λ z. omega arith)
 
 -- ---- The cover query.
-module _ (form : Form) (t : List ℕ) (address len words : ℕ) (r : Covers) (w' : List ℕ) (ok : Queried form t address len words r w') where
+module _ (form : Form) (t : List ℕ) (address len words : ℕ) (r : Result Bool Refusal) (w' : List ℕ) (ok : Queried form t address len words r w') where
   -- It is refused with a number and an index exactly when their condition holds and none before it in document 01's order does.
-  pub covers_refused : (number index : ℕ) → r ≡ NotAnswered number index ↔ First (CoverCondition form t len words) number index
-  covers_refused number index =
-      refused_exactly covers_says covers_same (cover_rules form t len words) (cover_tests form t len words) (cover_ranked form t len words).order (covered_by (size_of form) t address len)
-      r ok.answer (NotAnswered number index) number index refl
+  pub covers_refused : (number index : ℕ) → covers_says r ≡ refuses number index ↔ First (CoverCondition form t len words) number index
+  covers_refused =
+      says_refused covers_says covers_same (cover_rules form t len words) (cover_tests form t len words) (cover_ranked form t len words).order (covered_by (size_of form) t address len)
+      r ok.answer
 
   -- It is answered exactly when no condition holds.
   pub covers_answered : (b : Bool) → covers_says r ≡ gives b ↔ (None (CoverCondition form t len words) × (covered_by (size_of form) t address len ≡ b))
@@ -148,7 +146,7 @@ module _ (form : Form) (t : List ℕ) (address len words : ℕ) (r : Covers) (w'
       (λ e. exactly.0 (sym ok.answer ∙ e), λ f. ok.answer ∙ exactly.1 f)
 
   -- It gives the numbers 3 to 10 alone.
-  pub covers_numbers : (number index : ℕ) → r ≡ NotAnswered number index → (3 ≤ number) × (number ≤ 10)
+  pub covers_numbers : (number index : ℕ) → covers_says r ≡ refuses number index → (3 ≤ number) × (number ≤ 10)
   covers_numbers number index e = go number index ((covers_refused number index).0 e).0
     where
       go : (n i : ℕ) → CoverCondition form t len words n i → (3 ≤ n) × (n ≤ 10)
@@ -183,9 +181,9 @@ pub empty-nodes : (form : Form) → nodes (width_in (size_of form)) (routes_in (
 unfolding nodes brought
 empty-nodes form = ap (nodes (width_in (size_of form))) (empty-routes (size_of form) (form_size form))
 
-module _ (form : Form) (mode default : ℕ) (ranks o : List ℕ) (words : ℕ) (r : Rewritten) (o' w' : List ℕ) (ok : Rewrites form [] mode default ranks o words r o' w') where
+module _ (form : Form) (mode default : ℕ) (ranks o : List ℕ) (words : ℕ) (r : Outcome) (o' w' : List ℕ) (ok : Rewrites form [] mode default ranks o words r o' w') where
   -- An empty table in any mode, with a hop for a default and lawful ranks where they are read, is refused by number 10 exactly when the room is below 160 words.
-  pub empty-room : InUse mode → (mode ≡ 5 → default ≤ 63) → (4 ≤ mode → Ranking 64 ranks) → r ≡ Refused 10 0 ↔ words < 160
+  pub empty-room : InUse mode → (mode ≡ 5 → default ≤ 63) → (4 ≤ mode → Ranking 64 ranks) → rewritten_says r ≡ refuses 10 0 ↔ words < 160
   unfolding rank
   empty-room known small ranked = (λ e. tenth 10 0 ((rewrite_refused form [] mode default ranks o words r o' w' ok 10 0).0 e).0 refl, λ h. (rewrite_refused form [] mode default ranks o words r o' w' ok 10 0).1 (short_work (rw (empty-nodes form) h), earlier))
     where

@@ -7,6 +7,8 @@ use mathlib.Core.Logic.{◌↔◌}
 use Prim.Native.Nat.{ℕ, ◌-◌, ◌*◌, ◌%◌, ◌^◌, ◌<◌}
 use lib.IntN.{ℤ, pos, ◌-ℤ◌}
 use lib.ListN.{length, take, drop}
+use Rattle.refusals.specs.declared.Refusal.{Refusal}
+use Rattle.std.specs.Prelude.{Result, Ok, Bool}
 use Rattle.theory.specs.Routes.{Table, held}
 use Rattle.theory.specs.Results.{result, In, start_of}
 use Rattle.theory.specs.Ranks.{lowest}
@@ -18,13 +20,9 @@ use Rattle.records.specs.Sized.{width_in, records_in, routes_in, bytes_in, Bytes
 use Rattle.records.specs.declared.Form.{Form}
 use Rattle.records.specs.Forms.{size_of}
 use Rattle.table.specs.SizedConditions.{LawfulIn}
-use Rattle.calls.specs.declared.Rewritten.{Rewritten}
-use Rattle.calls.specs.declared.Rewritten.TheVariants.{Records}
-use Rattle.calls.specs.declared.Covers.{Covers}
-use Rattle.calls.specs.declared.Covers.TheVariants.{Covered}
 use Rattle.calls.specs.Conditions.{RewriteCondition, CoverCondition, Guarded}
 use Rattle.calls.specs.Covering.{covered_by, covers_says, Queried}
-use Rattle.calls.specs.Rewriting.{mode_of, result_of, takes_set, rewrite_rules, written_of, output_of, Rewrites}
+use Rattle.calls.specs.Rewriting.{mode_of, result_of, takes_set, rewrite_rules, written_of, output_of, Rewrites, Outcome, records_out}
 use Rattle.calls.proofs.Engines.{by_records, by_length, by_written, by_lawful, by_table, by_reads, by_keeps}
 use Rattle.calls.proofs.Refusals.{rewrite_guarded, reply-gives, rewrite_accepted, covers_answered}
 use Rattle.calls.proofs.Settled.{rewritten_same, covers_same}
@@ -36,22 +34,22 @@ module _ (form : Form) (t : List ℕ) (mode default : ℕ) (ranks o : List ℕ) 
   guarded : Guarded form rules t mode default ranks (length o)
   guarded = rewrite_guarded form t mode default ranks (length o) words
 
-  module _ (r : Rewritten) (o' w' : List ℕ) (ok : Rewrites form t mode default ranks o words r o' w') where
+  module _ (r : Outcome) (o' w' : List ℕ) (ok : Rewrites form t mode default ranks o words r o' w') where
     -- Where no condition holds the answer is the number of the result's records and the change, and the output has them from its start.
     pub rewrite_result : None (RewriteCondition form t mode default ranks (length o) words)
-        → (r ≡ Records (length (result (lowest ranks) (width_in (size_of form)) (mode_of mode default) (routes_in (size_of form) t)))
+        → (r ≡ records_out (length (result (lowest ranks) (width_in (size_of form)) (mode_of mode default) (routes_in (size_of form) t)))
         (pos (length (result (lowest ranks) (width_in (size_of form)) (mode_of mode default) (routes_in (size_of form) t))) -ℤ pos (records_in (size_of form) t)))
         × (o' ≡ bytes_in (size_of form) (result (lowest ranks) (width_in (size_of form)) (mode_of mode default) (routes_in (size_of form) t))
         ++ drop (size_of form * length (result (lowest ranks) (width_in (size_of form)) (mode_of mode default) (routes_in (size_of form) t))) o)
     unfolding result_of
     rewrite_result none =
         let e = (reply-gives form t mode default ranks o words).1 (none, refl) in (
-          rewritten_same r (Records _ _) (ok.inner.answer ∙ ap (written_of (records_in (size_of form) t)) e),
+          rewritten_same r (records_out _ _) (ok.inner.answer ∙ ap (written_of (records_in (size_of form) t)) e),
           ok.inner.output ∙ ap (output_of (size_of form) o) e,
         )
 
     -- The same by the answer: it has records only where no condition holds, and then it is that one.
-    pub rewrite_records : (count : ℕ) (change : ℤ) → r ≡ Records count change
+    pub rewrite_records : (count : ℕ) (change : ℤ) → r ≡ records_out count change
         → None (RewriteCondition form t mode default ranks (length o) words) × (count ≡ length (result_of (size_of form) t mode default ranks))
         × (change ≡ pos (length (result_of (size_of form) t mode default ranks)) -ℤ pos (records_in (size_of form) t))
         × (o' ≡ bytes_in (size_of form) (result_of (size_of form) t mode default ranks) ++ drop (size_of form * length (result_of (size_of form) t mode default ranks)) o)
@@ -59,16 +57,16 @@ module _ (form : Form) (t : List ℕ) (mode default : ℕ) (ranks o : List ℕ) 
         let f = by_records form rules t mode default ranks o guarded r o' ok.inner count change e in
         ((rewrite_accepted form t mode default ranks o words r o' w' ok).0 (count, (change, e)), f.1, f.2, f.3)
 
-    -- Answered or refused, the output keeps its length.
+    -- Outcome or refused, the output keeps its length.
     pub rewrite_length : length o' ≡ length o
     rewrite_length = by_length form rules t mode default ranks o guarded r o' ok.inner
 
     -- The records are written from the output's start.
-    pub rewrite_written : (count : ℕ) (change : ℤ) → r ≡ Records count change
+    pub rewrite_written : (count : ℕ) (change : ℤ) → r ≡ records_out count change
         → take (size_of form * count) o' ≡ bytes_in (size_of form) (result_of (size_of form) t mode default ranks)
     rewrite_written = by_written form rules t mode default ranks o guarded r o' ok.inner
 
-    module _ (bytes : Bytes t) (count : ℕ) (change : ℤ) (answered : r ≡ Records count change) where
+    module _ (bytes : Bytes t) (count : ℕ) (change : ℤ) (answered : r ≡ records_out count change) where
       -- The table of bytes is one of routes, with hops in range.
       pub rewrite_lawful : LawfulIn (size_of form) (takes_set mode) (routes_in (size_of form) t)
       rewrite_lawful = by_lawful form rules t mode default ranks o guarded r o' ok.inner count change answered bytes
@@ -88,9 +86,9 @@ module _ (form : Form) (t : List ℕ) (mode default : ℕ) (ranks o : List ℕ) 
       rewrite_keeps = by_keeps form rules t mode default ranks o guarded r o' ok.inner count change answered bytes
 
 -- ---- The cover query.
-module _ (form : Form) (t : List ℕ) (address len words : ℕ) (r : Covers) (w' : List ℕ) (ok : Queried form t address len words r w') where
+module _ (form : Form) (t : List ℕ) (address len words : ℕ) (r : Result Bool Refusal) (w' : List ℕ) (ok : Queried form t address len words r w') where
   -- It answers that the prefix is covered exactly when no condition holds and each address of the prefix is under some member.
-  pub covers_exactly : r ≡ Covered
+  pub covers_exactly : r ≡ Ok true
       ↔ (None (CoverCondition form t len words)
       × ((x : ℕ) → In (width_in (size_of form) - len) (start_of (width_in (size_of form) - len) (address % 2 ^ width_in (size_of form))) x → held (width_in (size_of form)) (routes_in (size_of form) t) x ≡ true))
   unfolding covered_by
@@ -98,5 +96,5 @@ module _ (form : Form) (t : List ℕ) (address len words : ℕ) (r : Covers) (w'
       let answered = covers_answered form t address len words r w' ok true in
       let each = throughout-each (held (width_in (size_of form)) (routes_in (size_of form) t)) (width_in (size_of form) - len) (start_of (width_in (size_of form) - len) (address % 2 ^ width_in (size_of form))) in (
         λ e. let f = answered.0 (ap covers_says e) in (f.0, each.0 f.1),
-        λ f. covers_same r Covered (answered.1 (f.0, each.1 f.1)),
+        λ f. covers_same r (Ok true) (answered.1 (f.0, each.1 f.1)),
       )

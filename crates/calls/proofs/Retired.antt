@@ -21,10 +21,8 @@ use Rattle.records.proofs.SizedWritten.{in_records_bytes, in_routes_bytes}
 use Rattle.table.specs.SizedConditions.{AcceptedIn, LawfulIn}
 use Rattle.table.proofs.SizedTables.{in_lawful, in_accepted_written}
 use Rattle.nodecount.specs.Nodes.{nodes}
-use Rattle.calls.specs.declared.Rewritten.{Rewritten}
-use Rattle.calls.specs.declared.Rewritten.TheVariants.{Records}
 use Rattle.calls.specs.Conditions.{Guarded}
-use Rattle.calls.specs.Rewriting.{result_of, RewritesBy, Rewrites}
+use Rattle.calls.specs.Rewriting.{result_of, RewritesBy, Rewrites, Outcome, records_out}
 use Rattle.calls.proofs.Engines.{by_written}
 use Rattle.calls.proofs.Refusals.{answerable_exactly}
 use Rattle.calls.proofs.Results.{rewrite_result}
@@ -62,17 +60,17 @@ module _ (form : Form) (t : List ℕ) (bytes : Bytes t) (strict : Bool) (set : A
   pub retired_by : (rules : List Rule) (default d : ℕ) (ranks other o : List ℕ)
       → Guarded form rules (bytes_in (size_of form) (consistent_set (width_in (size_of form)) (routes_in (size_of form) t))) 1 default ranks (length o)
       → (count : ℕ) (change : ℤ) (o' : List ℕ)
-      → RewritesBy (size_of form) rules (bytes_in (size_of form) (consistent_set (width_in (size_of form)) (routes_in (size_of form) t))) 1 default ranks o (Records count change) o'
+      → RewritesBy (size_of form) rules (bytes_in (size_of form) (consistent_set (width_in (size_of form)) (routes_in (size_of form) t))) 1 default ranks o (records_out count change) o'
       → take (size_of form * count) o' ≡ bytes_in (size_of form) (result_of (size_of form) t 1 d other)
   retired_by rules default d ranks other o guarded count change o' ok =
-      by_written form rules wrote 1 default ranks o guarded (Records count change) o' ok count change refl ∙ ap (bytes_in (size_of form)) (retired-result default d ranks other)
+      by_written form rules wrote 1 default ranks o guarded (records_out count change) o' ok count change refl ∙ ap (bytes_in (size_of form)) (retired-result default d ranks other)
 
   -- With room enough the engine over nodes answers with them.
-  pub retired-answers : (default d : ℕ) (ranks other o : List ℕ) (words : ℕ) (r : Rewritten) (o' w' : List ℕ)
+  pub retired-answers : (default d : ℕ) (ranks other o : List ℕ) (words : ℕ) (r : Outcome) (o' w' : List ℕ)
       → size_of form * length (result_of (size_of form) t 1 d other) ≤ length o
       → 160 * nodes (width_in (size_of form)) (consistent_set (width_in (size_of form)) (routes_in (size_of form) t)) ≤ words
       → Rewrites form (bytes_in (size_of form) (consistent_set (width_in (size_of form)) (routes_in (size_of form) t))) 1 default ranks o words r o' w'
-      → (r ≡ Records (length (result_of (size_of form) t 1 d other)) (pos (length (result_of (size_of form) t 1 d other)) -ℤ pos (length (consistent_set (width_in (size_of form)) (routes_in (size_of form) t)))))
+      → (r ≡ records_out (length (result_of (size_of form) t 1 d other)) (pos (length (result_of (size_of form) t 1 d other)) -ℤ pos (length (consistent_set (width_in (size_of form)) (routes_in (size_of form) t)))))
       × (o' ≡ bytes_in (size_of form) (result_of (size_of form) t 1 d other) ++ drop (size_of form * length (result_of (size_of form) t 1 d other)) o)
   unfolding result_of
   retired-answers default d ranks other o words r o' w' fits enough ok =
@@ -90,6 +88,6 @@ module _ (form : Form) (t : List ℕ) (bytes : Bytes t) (strict : Bool) (set : A
         rw reads enough,
       ) in
       let f = rewrite_result form wrote 1 default ranks o words r o' w' ok none in (
-        f.0 ∙ ap₂ Records size (ap₂ (λ (a b : ℕ). pos a -ℤ pos b) size (in_records_bytes (size_of form) (form_size form) (consistent_set (width_in (size_of form)) (routes_in (size_of form) t)))),
+        f.0 ∙ ap₂ records_out size (ap₂ (λ (a b : ℕ). pos a -ℤ pos b) size (in_records_bytes (size_of form) (form_size form) (consistent_set (width_in (size_of form)) (routes_in (size_of form) t)))),
         f.1 ∙ ap (λ (rs : List Route). bytes_in (size_of form) rs ++ drop (size_of form * length rs) o) same,
       )

@@ -4,3 +4,4 @@ pub mod Covering
 pub mod Conditions
 pub mod Ending
 pub mod Shortest
+pub mod Modes

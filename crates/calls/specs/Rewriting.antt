@@ -1,6 +1,6 @@
 -- The statement of a rewrite: for every table, read by a form, mode, default, ranks, output and room, what it answers and what stands in the output and
 -- the room then.
-use Rattle.std.specs.Prelude.{ℕ, ◌*◌, ◌≤◌, ◌≡◌, Bool, cond, not, ◌||◌, ◌&&◌, List, [], ◌∷◌, ◌++◌, eqb, leb, ℤ, pos, ◌-ℤ◌, length, drop, replicate}
+use Rattle.std.specs.Prelude.{ℕ, ◌*◌, ◌≤◌, ◌≡◌, Bool, cond, not, ◌||◌, ◌&&◌, List, [], ◌∷◌, ◌++◌, eqb, leb, ℤ, pos, ◌-ℤ◌, length, drop, replicate, Result, Ok, Err}
 use Rattle.theory.specs.Routes.{Route}
 use Rattle.theory.specs.Results.{Mode, aggregate_set, aggregate_consistent_map, aggregate_map_drop, aggregate_map_fill, result}
 use Rattle.theory.specs.Ranks.{lowest, is_ranking}
@@ -10,8 +10,9 @@ use Rattle.records.specs.declared.Form.{Form}
 use Rattle.records.specs.Forms.{size_of}
 use Rattle.table.specs.TableRules.{form_rules}
 use Rattle.nodecount.specs.Nodes.{nodes}
+use Rattle.refusals.specs.Numbers.{reply_of}
+use Rattle.refusals.specs.declared.Refusal.{Refusal}
 use Rattle.calls.specs.declared.Rewritten.{Rewritten}
-use Rattle.calls.specs.declared.Rewritten.TheVariants.{Records, Refused}
 
 -- The numbers of modes: 1 to 5 but for 2, which is retired and never given to another mode.
 abbrev pub InUse : ℕ → Type 0
@@ -66,31 +67,37 @@ abbrev pub output_of : ℕ → List ℕ → Reply (List Route) → List ℕ
 output_of size o (gives rs) = bytes_in size rs ++ drop (size * length rs) o
 output_of size o (refuses number index) = o
 
+-- The answer of a rewrite, and that so many records were written, with this change.
+abbrev pub Outcome : Type 0
+Outcome = Result Rewritten Refusal
+
+abbrev pub records_out : ℕ → ℤ → Outcome
+records_out count change = Ok (record { count = count; change = change })
+
 -- What an answer says.
-abbrev pub rewritten_says : Rewritten → Reply Written
-rewritten_says (Records count change) = gives (record { count = count; change = change })
-rewritten_says (Refused number index) = refuses number index
+abbrev pub rewritten_says : Outcome → Reply Written
+rewritten_says = reply_of (λ w. record { count = w.count; change = w.change })
 
 -- Its count and its change, both 0 in a refusal.
-abbrev pub count_of : Rewritten → ℕ
-count_of (Records count change) = count
-count_of (Refused number index) = 0
+abbrev pub count_of : Outcome → ℕ
+count_of (Ok w) = w.count
+count_of (Err refusal) = 0
 
-abbrev pub change_of : Rewritten → ℤ
-change_of (Records count change) = change
-change_of (Refused number index) = pos 0
+abbrev pub change_of : Outcome → ℤ
+change_of (Ok w) = w.change
+change_of (Err refusal) = pos 0
 
 -- The statement of any engine's rewrite, by its rules: the table t with records of this size, the ranks and the output o were lent, r was answered, and the
 -- output is o' then.
-pub record RewritesBy (size : ℕ) (rules : List Rule) (t : List ℕ) (mode default : ℕ) (ranks o : List ℕ) (r : Rewritten) (o' : List ℕ) : Type 0 where
+pub record RewritesBy (size : ℕ) (rules : List Rule) (t : List ℕ) (mode default : ℕ) (ranks o : List ℕ) (r : Outcome) (o' : List ℕ) : Type 0 where
   pub answer : rewritten_says r ≡ written_of (records_in size t) (reply_by size rules t mode default ranks)
   pub output : o' ≡ output_of size o (reply_by size rules t mode default ranks)
 
 -- That of the engine over nodes, which was lent a room of so many words, but for what becomes of the room.
-abbrev pub RewritesIn : Form → List ℕ → ℕ → ℕ → List ℕ → List ℕ → ℕ → Rewritten → List ℕ → Type 0
+abbrev pub RewritesIn : Form → List ℕ → ℕ → ℕ → List ℕ → List ℕ → ℕ → Outcome → List ℕ → Type 0
 RewritesIn form t mode default ranks o words r o' = RewritesBy (size_of form) (rewrite_rules form t mode default ranks (length o) words) t mode default ranks o r o'
 
 -- The whole statement: and the room is zero throughout.
-pub record Rewrites (form : Form) (t : List ℕ) (mode default : ℕ) (ranks o : List ℕ) (words : ℕ) (r : Rewritten) (o' work' : List ℕ) : Type 0 where
+pub record Rewrites (form : Form) (t : List ℕ) (mode default : ℕ) (ranks o : List ℕ) (words : ℕ) (r : Outcome) (o' work' : List ℕ) : Type 0 where
   pub inner : RewritesIn form t mode default ranks o words r o'
   pub zero : work' ≡ replicate words 0

@@ -1,7 +1,7 @@
--- One step at one address, and one step by itself: what the code's tests and numbers come to. Assumes nothing.
-use Prim.Native.Nat.{ℕ, zero, suc, ◌+◌, ◌-◌, ◌*◌, ◌/◌, ◌%◌, ◌^◌, ◌≤◌, ◌<◌}
-use mathlib.Core.Path.{◌≡◌, refl, sym, ap, ap₂, ◌∙◌}
-use mathlib.Core.Bool.{Bool, true, false, cond, ◌&&◌}
+-- One step at one address: what the code's tests and numbers come to. Assumes nothing.
+use Prim.Native.Nat.{ℕ, ◌+◌, ◌-◌, ◌*◌, ◌/◌, ◌%◌, ◌^◌, ◌≤◌, ◌<◌}
+use mathlib.Core.Path.{◌≡◌, refl, sym, ap, ◌∙◌}
+use mathlib.Core.Bool.{Bool, true, false}
 use mathlib.Core.List.{List}
 use native.Mathlib.Nat.{pow-le-pow_right, sub-add_cancel, mod-eq_of_lt, mul-le-mul_left, mul-le-mul_right, mul-lt-mul_of_pos_right, div-lt_iff_lt-mul, le-div_iff_mul-le}
 use native.Mathlib.Numerals.{add-one}
@@ -14,7 +14,6 @@ use borrow.Author.Tests.{eqb-true, eqb-false, eq-eqb, ne_eqb, lt-ltb, le-ltb}
 use Rattle.theory.specs.Routes.{Table}
 use Rattle.theory.proofs.Blocks.{pow_pos}
 use Rattle.words.specs.Prefix.{agree}
-use Rattle.positions.specs.Runs.{no_hop}
 use Rattle.refusals.specs.Rules.{refuses}
 use Rattle.records.specs.Wire.{records, route_at, routes}
 use Rattle.records.specs.declared.Form.{Form}
@@ -23,13 +22,6 @@ use Rattle.table.proofs.AtEight.{refused_exactly}
 use Rattle.table.proofs.AtEight.{table-numbers}
 use Rattle.runs.proofs.Halves.{whole_run, record_within}
 use Rattle.checking.specs.Marks.{fine_of, marked_of, bare_of, marks_upto}
-use Rattle.checking.specs.declared.Purpose.{Purpose}
-use Rattle.checking.specs.declared.Purpose.TheVariants.{Presence, Answers}
-use Rattle.checking.specs.Passes.{left_of, owned_of, answered_of, passed_by, passed_of, next_from}
-use Rattle.checking.specs.declared.Stage.{Stage}
-use Rattle.checking.specs.declared.Pass.{Pass}
-use Rattle.checking.specs.declared.Check.{Check}
-use Rattle.checking.specs.Checking.{same_from, seen_by, seen_of}
 
 -- Two numbers are one exactly if they differ in no bit.
 xor_same : (a b : ℕ) → eqb (bit_xor a b) 0 ≡ eqb a b
@@ -75,58 +67,7 @@ short_at t i table lt = (record_within (whole_run 8 32 table) i (omega arith) lt
 pub number_small : (form : Form) (t : List ℕ) (n i : ℕ) → refuses n i ≡ check_reply form false t → n ≤ 8
 number_small form t n i e = (table-numbers form false t n i ((refused_exactly form false t (records t) n i).0 (sym e)).0).1
 
--- ---- The same records.
-
-abbrev pub same_at : List ℕ → List ℕ → ℕ → Bool
-same_at t u i = eqb (route_at t i).addr (route_at u i).addr && (eqb (route_at t i).len (route_at u i).len && eqb (route_at t i).hop (route_at u i).hop)
-
-pub same_step : (t u : List ℕ) (i k : ℕ) → i < k → same_from t u i (k - i) ≡ (same_at t u i && same_from t u (i + 1) (k - (i + 1)))
-unfolding same_from
-same_step t u i k lt = go (k - i) refl
-  where
-    go : (d : ℕ) → k - i ≡ d → same_from t u i d ≡ (same_at t u i && same_from t u (i + 1) (k - (i + 1)))
-    go zero e = absurd (omega arith)
-    go (suc d) e =
-        let a : suc i ≡ i + 1 = omega arith in
-        let b : d ≡ k - (i + 1) = omega arith in
-        ap (λ (c : Bool). same_at t u i && c) (ap₂ (same_from t u) a b)
-
-pub same_over : (t u : List ℕ) (i k : ℕ) → k ≤ i → same_from t u i (k - i) ≡ true
-unfolding same_from
-same_over t u i k le = go (k - i) (omega arith)
-  where
-    go : (d : ℕ) → d ≡ 0 → same_from t u i d ≡ true
-    go zero e = refl
-    go (suc d) e = absurd (omega arith)
-
--- ---- The first length with a hop, and the marks of so many lengths.
-
-pub next-bare : (hops : List ℕ) (l : ℕ) → l < 33 → get_or hops l 0 ≡ no_hop → next_from hops l (33 - l) ≡ next_from hops (l + 1) (33 - (l + 1))
-unfolding next_from
-next-bare hops l lt e = go (33 - l) refl
-  where
-    go : (d : ℕ) → 33 - l ≡ d → next_from hops l d ≡ next_from hops (l + 1) (33 - (l + 1))
-    go zero q = absurd (omega arith)
-    go (suc d) q =
-        let a : suc l ≡ l + 1 = omega arith in
-        let b : d ≡ 33 - (l + 1) = omega arith in
-        ap (λ (c : Bool). cond c (next_from hops (suc l) d) l) (eq-eqb (get_or hops l 0) no_hop e) ∙ ap₂ (next_from hops) a b
-
-pub next-hop : (hops : List ℕ) (l : ℕ) → l < 33 → (get_or hops l 0 ≡ no_hop → ⊥) → next_from hops l (33 - l) ≡ l
-unfolding next_from
-next-hop hops l lt n = go (33 - l) refl
-  where
-    go : (d : ℕ) → 33 - l ≡ d → next_from hops l d ≡ l
-    go zero q = absurd (omega arith)
-    go (suc d) q = ap (λ (c : Bool). cond c (next_from hops (suc l) d) l) (ne_eqb (get_or hops l 0) no_hop n)
-
-pub next_none : (hops : List ℕ) (l : ℕ) → 33 ≤ l → next_from hops l (33 - l) ≡ 33
-unfolding next_from
-next_none hops l le = go (33 - l) (omega arith)
-  where
-    go : (d : ℕ) → d ≡ 0 → next_from hops l d ≡ 33
-    go zero q = refl
-    go (suc d) q = absurd (omega arith)
+-- ---- The marks of so many lengths.
 
 pub marks_none : (was goal : ℕ) (hops : List ℕ) → bare_of was goal ≡ marks_upto was goal hops 0
 unfolding marks_upto
@@ -135,17 +76,3 @@ marks_none was goal hops = refl
 pub marks_next : (was goal : ℕ) (hops : List ℕ) (k : ℕ) → marked_of (fine_of was goal) (marks_upto was goal hops k) k (get_or hops k 0) ≡ marks_upto was goal hops (k + 1)
 unfolding marks_upto
 marks_next was goal hops k = sym (ap (marks_upto was goal hops) (add-one k))
-
--- A check goes on by its stage.
-pub seen_by_lem : (t u : List ℕ) (n : ℕ) (c : Check) (p : Pass) (put : Bool) (addr len hop : ℕ) {s : Stage} → c.stage ≡ s
-    → seen_by s t u n c p put addr len hop ≡ seen_of t u n c p put addr len hop
-seen_by_lem t u n c p put addr len hop e = sym (ap (λ (s : Stage). seen_by s t u n c p put addr len hop) e)
-
--- A pass goes on by what it is for.
-pub passed_answers : (p : Pass) (put : Bool) (len hop : ℕ) → p.purpose ≡ Answers → ltb p.len len ≡ false → answered_of p put len hop ≡ passed_of p put len hop
-passed_answers p put len hop e q =
-    sym (ap (λ (s : Purpose). passed_by s p put len hop) e ∙ ap (λ (b : Bool). cond b p (answered_of p put len hop)) q)
-
-pub passed_own : (p : Pass) (put : Bool) (len hop : ℕ) → p.purpose ≡ Presence → eqb len p.len ≡ true → owned_of p (left_of put hop) ≡ passed_of p put len hop
-passed_own p put len hop e q =
-    sym (ap (λ (s : Purpose). passed_by s p put len hop) e ∙ ap (λ (b : Bool). cond b (owned_of p (left_of put hop)) p) q)

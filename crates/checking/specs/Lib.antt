@@ -1,4 +1,3 @@
--- Checking, in the order to read it: the lengths that have a hop, the steps followed for a prefix, and what comes after what.
+-- Checking, in the order to read it: the lengths that have a hop; a step, and a class as the steps are followed.
 pub mod Marks
-pub mod Passes
 pub mod Checking

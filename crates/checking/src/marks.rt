@@ -30,11 +30,7 @@ pub fn fine_of(was: u8, goal: u8) -> u64
 pub fn is_fine(fine: u64, hop: u8) -> bool
     ensures { result ≡ is_fine fine hop }
 {
-    if hop < NO_HOP {
-        (fine >> hop) % 2 == 1
-    } else {
-        false
-    }
+    hop < NO_HOP && (fine >> hop) % 2 == 1
 }
 
 // The mark of a length.
@@ -72,13 +68,11 @@ pub fn marked(marks: Marks, len: u8, hop: u8, fine: u64) -> Marks
 fn bare(was: u8, goal: u8) -> Marks
     ensures { result ≡ bare_of was goal }
 {
-    if was == NO_HOP {
-        return Marks { fair: 1, foul: 0 };
+    if was == NO_HOP || goal == NO_HOP {
+        Marks { fair: 1, foul: 0 }
+    } else {
+        Marks { fair: 0, foul: 1 }
     }
-    if goal == NO_HOP {
-        return Marks { fair: 1, foul: 0 };
-    }
-    Marks { fair: 0, foul: 1 }
 }
 
 // The marks of the hops at the lengths up to `len`.
@@ -88,10 +82,8 @@ pub fn marks_of(hops: &[u8; 33], len: u8, was: u8, goal: u8) -> Marks
 {
     let fine = fine_of(was, goal);
     let mut marks = bare(was, goal);
-    let mut l: u8 = 0;
-    while l <= len {
+    for l in 0..=len {
         marks = marked(marks, l, hops[l as usize], fine);
-        l += 1;
     }
     marks
 }

@@ -11,13 +11,20 @@ use native.Mathlib.Omega.{arith}
 use lib.Dec.{eqb}
 use lib.ListN.{length}
 use borrow.Author.Tests.{eqb-true, eqb-false, eq-eqb, ne_eqb}
+use Rattle.refusals.specs.declared.Refusal.{Refusal}
+use Rattle.std.specs.Prelude.{Result, Ok, Err}
 use Rattle.theory.specs.Routes.{Route, lookup, Valid, All, Member}
 use Rattle.theory.specs.Falling.{Sooner, Ordered}
 use Rattle.theory.proofs.Falling.{falling-member, falling_ordered, falling_only}
 use Rattle.theory.proofs.Lists.{all_map, all_member, member_all}
-use Rattle.refusals.specs.Rules.{Rule, rule, Reply, gives, refuses, judge}
+use Rattle.refusals.specs.Rules.{Rule, rule, refuses, judge}
 use Rattle.refusals.specs.Order.{rank, First, None}
-use Rattle.refusals.proofs.Answered.{given_exactly, refused_exactly}
+use Rattle.refusals.specs.declared.Cause.TheVariants.{ImageLength}
+use Rattle.refusals.proofs.Replies.{reply_same}
+use Rattle.refusals.proofs.Caused.{AllCaused, caused_append, judge_caused, reply_met}
+use Rattle.table.proofs.Caused.{table_caused}
+use Rattle.refusals.specs.Numbers.{number_of}
+use Rattle.refusals.proofs.Answered.{given_exactly, says_refused}
 use Rattle.refusals.proofs.Judged.{Broken, gives_any, refuses_any}
 use Rattle.refusals.proofs.Ranked.{broken-left, broken-right, sound-each, sound-append, singles, ranked_append, Ranked}
 use Rattle.refusals.proofs.Shown.{shown, decided}
@@ -30,8 +37,6 @@ use Rattle.table.specs.TableRules.{table_rules}
 use Rattle.table.proofs.AtEight.{accepted-exactly, not_refused}
 use Rattle.table.proofs.AtEight.{accepted-table, bytes-routes}
 use Rattle.table.proofs.AtEight.{table_tests, table_ranked, table-numbers}
-use Rattle.chip.specs.declared.Loaded.{Loaded}
-use Rattle.chip.specs.declared.Loaded.TheVariants.{Slots, Refused}
 use Rattle.chip.specs.Chip.{first_match}
 use Rattle.chip.specs.Conditions.{LoadCondition, of_table, wrong_size}
 use Rattle.chip.specs.Images.{image_of, slots_of, table_of}
@@ -42,11 +47,8 @@ use Rattle.chip.proofs.Replies.{routes-short, order_length}
 use Rattle.chip.proofs.Images.{image-length, unused_slots, unused_long, image-slots, image-table}
 
 -- Answers that say the same are the same.
-pub loaded_same : (a b : Loaded) → loaded_says a ≡ loaded_says b → a ≡ b
-loaded_same (Slots m) (Slots n) e = cc
-loaded_same (Slots m) (Refused n i) e = let z : ◌≡◌ {A = ℕ} 0 1 = cc in absurd (omega arith)
-loaded_same (Refused n i) (Slots m) e = let z : ◌≡◌ {A = ℕ} 0 1 = cc in absurd (omega arith)
-loaded_same (Refused m i) (Refused n j) e = cc
+pub loaded_same : (a b : Result ℕ Refusal) → loaded_says a ≡ loaded_says b → a ≡ b
+loaded_same = reply_same (λ used. used) (λ m n e. e)
 
 -- ---- The rules test the conditions, and stand in the order of the checks.
 module _ (form : Form) (t : List ℕ) (size : ℕ) where
@@ -90,37 +92,36 @@ module _ (form : Form) (t : List ℕ) (size : ℕ) where
       go ok e n i (wrong_size f) = f e
 
 -- ---- No second answer and no second image satisfies the statement, and for every input some do.
-pub load_settled : (form : Form) (t m : List ℕ) (r r₁ : Loaded) (m' m₁ : List ℕ) → Loads form t m r m' → Loads form t m r₁ m₁ → (r ≡ r₁) × (m' ≡ m₁)
+pub load_settled : (form : Form) (t m : List ℕ) (r r₁ : Result ℕ Refusal) (m' m₁ : List ℕ) → Loads form t m r m' → Loads form t m r₁ m₁ → (r ≡ r₁) × (m' ≡ m₁)
 load_settled form t m r r₁ m' m₁ a b = (loaded_same r r₁ (a.answer ∙ sym b.answer), a.image ∙ sym b.image)
 
-loaded_of : (q : Reply ℕ) → (r : Loaded) × (loaded_says r ≡ q)
-loaded_of (gives n) = (Slots n, refl)
-loaded_of (refuses n i) = (Refused n i, refl)
+load_caused : (form : Form) (t : List ℕ) (size : ℕ) → AllCaused (load_rules form t size)
+unfolding load_rules
+load_caused form t size = caused_append _ _ (table_caused 8 form.strict false t) ((ImageLength, refl), tt)
 
-pub load_met : (form : Form) (t m : List ℕ) → (r : Loaded) × ((m' : List ℕ) × Loads form t m r m')
+pub load_met : (form : Form) (t m : List ℕ) → (r : Result ℕ Refusal) × ((m' : List ℕ) × Loads form t m r m')
 load_met form t m =
-    let a = loaded_of (judge (load_rules form t (length m)) (records t)) in
-    (a.0, (image_after m (judge (load_rules form t (length m)) (load_order t)), record { answer = a.1; image = refl }))
+    let rules = load_rules form t (length m) in
+    let a = reply_met (λ (used : ℕ). used) (λ used. (used, refl)) (judge rules (records t)) (judge_caused rules (records t) (load_caused form t (length m))) in
+    (a.0, (image_after m (judge rules (load_order t)), record { answer = a.1; image = refl }))
 
-module _ (form : Form) (t m : List ℕ) (r : Loaded) (m' : List ℕ) (ok : Loads form t m r m') where
+module _ (form : Form) (t m : List ℕ) (r : Result ℕ Refusal) (m' : List ℕ) (ok : Loads form t m r m') where
   abbrev rules : List Rule
   rules = load_rules form t (length m)
 
   -- ---- Refusals.
 
   -- It is refused with a number and an index exactly when they are those of the first condition that holds: of 3 to 8, then 12.
-  pub load_refused : (n i : ℕ) → r ≡ Refused n i ↔ First (LoadCondition form t (length m)) n i
-  load_refused n i =
-      refused_exactly loaded_says loaded_same rules (load_tests form t (length m)) (load_ranked form t (length m)).order (records t) r ok.answer
-      (Refused n i) n i refl
+  pub load_refused : (n i : ℕ) → loaded_says r ≡ refuses n i ↔ First (LoadCondition form t (length m)) n i
+  load_refused = says_refused loaded_says loaded_same rules (load_tests form t (length m)) (load_ranked form t (length m)).order (records t) r ok.answer
 
   -- A refusal leaves the image as it was.
-  pub refusal_changes_nothing : (n i : ℕ) → r ≡ Refused n i → m' ≡ m
+  pub refusal_changes_nothing : (n i : ℕ) → loaded_says r ≡ refuses n i → m' ≡ m
   refusal_changes_nothing n i e =
-      ok.image ∙ ap (image_after m) (refuses_any rules (records t) (load_order t) n i (sym ok.answer ∙ ap loaded_says e))
+      ok.image ∙ ap (image_after m) (refuses_any rules (records t) (load_order t) n i (sym ok.answer ∙ e))
 
   -- It gives the numbers 3 to 8 and 12 alone.
-  pub load_numbers : (n i : ℕ) → r ≡ Refused n i → ((3 ≤ n) × (n ≤ 8)) ⊎ (n ≡ 12)
+  pub load_numbers : (n i : ℕ) → loaded_says r ≡ refuses n i → ((3 ≤ n) × (n ≤ 8)) ⊎ (n ≡ 12)
   load_numbers n i e = go n i ((load_refused n i).0 e).0
     where
       go : (n i : ℕ) → LoadCondition form t (length m) n i → ((3 ≤ n) × (n ≤ 8)) ⊎ (n ≡ 12)
@@ -130,16 +131,16 @@ module _ (form : Form) (t m : List ℕ) (r : Loaded) (m' : List ℕ) (ok : Loads
   -- ---- Answers.
 
   -- It answers with a number exactly for an accepted table of so many records and an image of 8,192 bytes.
-  pub load_given : (used : ℕ) → r ≡ Slots used ↔ (Accepted form false t × (length m ≡ 8192) × (records t ≡ used))
+  pub load_given : (used : ℕ) → r ≡ Ok used ↔ (Accepted form false t × (length m ≡ 8192) × (records t ≡ used))
   load_given used =
       let exactly =
       given_exactly loaded_says loaded_same rules (load_tests form t (length m)) (load_ranked form t (length m)).order (records t) r ok.answer
-      (Slots used) used refl in (
+      (Ok used) used refl in (
         λ e. let f = exactly.0 e in let k = (none_exactly form t (length m)).0 f.0 in (k.0, k.1, f.1),
         λ f. exactly.1 ((none_exactly form t (length m)).1 (f.0, f.1), f.2),
       )
 
-  module _ (used : ℕ) (answered : r ≡ Slots used) where
+  module _ (used : ℕ) (answered : r ≡ Ok used) where
     -- The image is that of the table's routes by falling length.
     pub load_image : m' ≡ image_of (load_order t)
     load_image = ok.image ∙ ap (image_after m) (gives_any rules (records t) used (load_order t) (sym ok.answer ∙ ap loaded_says answered))
@@ -216,6 +217,6 @@ module _ (form : Form) (t m : List ℕ) (r : Loaded) (m' : List ℕ) (ok : Loads
   pub load_length : length m' ≡ length m
   load_length = go r refl
     where
-      go : (q : Loaded) → r ≡ q → length m' ≡ length m
-      go (Refused n i) e = ap length (refusal_changes_nothing n i e)
-      go (Slots used) e = ap length (load_image used e) ∙ image-length (load_order t) (few used e) ∙ sym ((load_given used).0 e).1
+      go : (q : Result ℕ Refusal) → r ≡ q → length m' ≡ length m
+      go (Err x) e = ap length (refusal_changes_nothing (number_of x.cause) x.index (ap loaded_says e))
+      go (Ok used) e = ap length (load_image used e) ∙ image-length (load_order t) (few used e) ∙ sym ((load_given used).0 e).1

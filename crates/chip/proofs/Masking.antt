@@ -6,6 +6,8 @@ use mathlib.Core.List.{List, [], ◌∷◌, ◌++◌}
 use Prim.Native.Nat.{ℕ, ◌/◌}
 use lib.Dec.{eqb}
 use lib.ListN.{length}
+use Rattle.refusals.specs.declared.Refusal.{Refusal}
+use Rattle.std.specs.Prelude.{Result}
 use Rattle.theory.specs.Routes.{Route}
 use Rattle.theory.specs.Falling.{falling}
 use Rattle.refusals.specs.Rules.{Rule, rule, refuses, judge}
@@ -18,8 +20,6 @@ use Rattle.records.specs.Forms.{by_default, strictly}
 use Rattle.table.specs.Conditions.{Accepted}
 use Rattle.table.specs.TableRules.{table_rules}
 use Rattle.table.proofs.AtEight.{strict_waived, masked-routes, masked-length, masked_rules}
-use Rattle.chip.specs.declared.Loaded.{Loaded}
-use Rattle.chip.specs.declared.Loaded.TheVariants.{Refused}
 use Rattle.chip.specs.Loading.{load_rules, load_order, loaded_says, image_after, Loads}
 use Rattle.chip.proofs.Calls.{loaded_same}
 
@@ -32,11 +32,11 @@ load_waived t size = waived_append 6 (table_rules strictly false t) last ∙ ap 
     last = rule 12 0 (eqb size 8192) ∷ []
 
 -- So what is not refused by 6 is the default's: the answer and the image.
-pub load_carried : (t m : List ℕ) (r q : Loaded) (m' p' : List ℕ) → Loads strictly t m r m' → Loads by_default t m q p'
-    → ((i : ℕ) → r ≡ Refused 6 i → ⊥) → (q ≡ r) × (p' ≡ m')
+pub load_carried : (t m : List ℕ) (r q : Result ℕ Refusal) (m' p' : List ℕ) → Loads strictly t m r m' → Loads by_default t m q p'
+    → ((i : ℕ) → loaded_says r ≡ refuses 6 i → ⊥) → (q ≡ r) × (p' ≡ m')
 load_carried t m r q m' p' one other h =
     let rules = load_rules strictly t (length m) in
-    let not_six : (i : ℕ) → loaded_says r ≡ refuses 6 i → ⊥ = λ i e. h i (loaded_same r (Refused 6 i) e) in
+    let not_six : (i : ℕ) → loaded_says r ≡ refuses 6 i → ⊥ = h in
     let default : waived 6 rules ≡ load_rules by_default t (length m) = load_waived t (length m) in
     let same : judge (waived 6 rules) (load_order t) ≡ judge rules (load_order t) =
     waived_judge 6 rules (load_order t) (λ i e. not_six i (one.answer ∙ refuses_any rules (load_order t) (records t) 6 i e)) in (
@@ -59,7 +59,7 @@ module _ (form : Form) (s : Bool) (t : List ℕ) (bytes : Bytes t) (ok : Accepte
   same_rules size = rw (masked_rules form s t bytes ok other false)
 
   -- They satisfy the table's own statement by default, and no other answer does: the same answer and image.
-  pub load_same : (m : List ℕ) (r : Loaded) (m' : List ℕ) → Loads other (masked_bytes t) m r m' → Loads by_default t m r m'
+  pub load_same : (m : List ℕ) (r : Result ℕ Refusal) (m' : List ℕ) → Loads other (masked_bytes t) m r m' → Loads by_default t m r m'
   load_same m r m' a =
       let rules = same_rules (length m) in
       record {

@@ -7,6 +7,10 @@ use native.Mathlib.Omega.{arith}
 use lib.Dec.{eqb}
 use lib.ListN.{length}
 use borrow.Author.Tests.{eq-eqb, ne_eqb}
+use Rattle.refusals.specs.declared.Cause.TheVariants.{ImageLength}
+use Rattle.refusals.specs.Numbers.{number_of}
+use Rattle.refusals.specs.declared.Refusal.{Refusal}
+use Rattle.std.specs.Prelude.{Ok, Err}
 use Rattle.theory.specs.Routes.{All}
 use Rattle.theory.specs.Falling.{falling}
 use Rattle.theory.proofs.Falling.{falling-length}
@@ -20,7 +24,6 @@ use Rattle.table.specs.Checking.{check_reply}
 use Rattle.table.specs.SizedConditions.{AcceptedIn}
 use Rattle.table.specs.TableRules.{table_rules}
 use Rattle.table.proofs.AtEight.{accepted}
-use Rattle.chip.specs.declared.Loaded.TheVariants.{Slots, Refused}
 use Rattle.chip.specs.Loading.{load_rules, load_order, image_after, Loads}
 use Rattle.chip.specs.Placing.{Placed, unused_from}
 use Rattle.chip.proofs.Images.{placed-image}
@@ -64,7 +67,7 @@ module _ (form : Form) (t : List ℕ) (size : ℕ) where
 -- ---- The statement.
 module _ (form : Form) (t m : List ℕ) where
   -- The table is refused.
-  pub loads_refused : {k i : ℕ} → check_reply form false t ≡ refuses k i → Loads form t m (Refused k i) m
+  pub loads_refused : {r : Refusal} → check_reply form false t ≡ refuses (number_of r.cause) r.index → Loads form t m (Err r) m
   loads_refused e =
       record {
         answer = sym (refused_reply form t (length m) (records t) e);
@@ -73,7 +76,7 @@ module _ (form : Form) (t m : List ℕ) where
 
   module _ {n : ℕ} (valid : check_reply form false t ≡ gives n) where
     -- The image has another size, and stays.
-    pub loads_wrong : (length m ≡ 8192 → ⊥) → Loads form t m (Refused 12 0) m
+    pub loads_wrong : (length m ≡ 8192 → ⊥) → Loads form t m (Err (record { cause = ImageLength; index = 0 })) m
     loads_wrong f =
         record {
           answer = sym (wrong_reply form t (length m) (records t) valid f);
@@ -82,7 +85,7 @@ module _ (form : Form) (t m : List ℕ) where
 
     -- The image has its size, and is written.
     pub loads_given : {used : ℕ} {m' m'' : List ℕ} → length m ≡ 8192 → Placed (falling 32 (routes t)) 0 used m m' → m'' ≡ unused_from (8 * used) m'
-        → Loads form t m (Slots used) m''
+        → Loads form t m (Ok used) m''
     unfolding load_order
     loads_given size placed cleared =
         let ok = accepted form false t (records t) valid in

@@ -8,6 +8,8 @@ use native.Mathlib.Nat.{sub-zero}
 use native.Mathlib.Omega.{arith}
 use lib.ListN.{length, get_or, take, drop, replicate, get_or-replicate}
 use lib.Seq.{take_at, drop_at, get_or-append-add}
+use Rattle.refusals.specs.declared.Refusal.{Refusal}
+use Rattle.std.specs.Prelude.{Result, Ok}
 use Rattle.theory.specs.Routes.{Route, Before, Member}
 use Rattle.theory.specs.Falling.{Sooner, Ordered}
 use Rattle.theory.proofs.Lists.{all_member}
@@ -18,14 +20,12 @@ use Rattle.records.specs.Sized.{Bytes}
 use Rattle.records.specs.declared.Form.{Form}
 use Rattle.records.proofs.Reading.{length_from, from_counted, routes_numbered}
 use Rattle.records.proofs.Written.{length-bytes}
-use Rattle.chip.specs.declared.Loaded.{Loaded}
-use Rattle.chip.specs.declared.Loaded.TheVariants.{Slots}
 use Rattle.chip.specs.Images.{image_of}
 use Rattle.chip.specs.Loading.{load_order, Loads}
 use Rattle.chip.proofs.Calls.{load_given, load_image, load_used, load_member, load_length, lawful, load_ordered, load_slots}
 use Rattle.chip.proofs.Images.{unused_slots, unused_long}
 
-module _ (form : Form) (t m : List ℕ) (r : Loaded) (m' : List ℕ) (ok : Loads form t m r m') (used : ℕ) (answered : r ≡ Slots used) (bytes : Bytes t) where
+module _ (form : Form) (t m : List ℕ) (r : Result ℕ Refusal) (m' : List ℕ) (ok : Loads form t m r m') (used : ℕ) (answered : r ≡ Ok used) (bytes : Bytes t) where
   -- The route of a slot.
   abbrev slot : ℕ → Route
   slot = route_at m'

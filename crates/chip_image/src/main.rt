@@ -6,7 +6,6 @@
 ghost use Rattle.std.specs.Prelude.{◌≤◌, length};
 ghost use Rattle.chip_image.specs.Written.{Answered};
 
-use chip::Loaded;
 use records::Form;
 use std::io;
 use streams::read_full;
@@ -24,21 +23,18 @@ fn answer(table: &[u8], image: &mut [u8; 8192], line: &mut [u8]) -> Written
     requires { 36 ≤ length line.old }
     ensures { Answered table.now line.old result image.new line.new }
 {
-    match chip::load(
-        table,
-        Form {
-            strict: false,
-            long: false,
-        },
-        image,
-    ) {
-        Loaded::Slots(_) => Written {
+    let form = Form {
+        strict: false,
+        long: false,
+    };
+    match chip::load(table, form, image) {
+        Ok(_) => Written {
             shown: 8192,
             said: 0,
         },
-        Loaded::Refused { number, index } => Written {
+        Err(refusal) => Written {
             shown: 0,
-            said: put_refused(number, index, 0, line),
+            said: put_refused(refusal, 0, line),
         },
     }
 }

@@ -1,7 +1,7 @@
 // Mode 3, node by node: the entries of a map whose hop differs from that of the nearest entry above.
 #![tactic(auto)]
 
-ghost use Rattle.std.specs.Prelude.{◌≡◌, false, not, ◌&&◌, ◌||◌, ℕ, ◌-◌, ◌*◌, ◌≤◌, ◌<◌, eqb, ltb, get_or};
+ghost use Rattle.std.specs.Prelude.{◌≡◌, false, not, ◌&&◌, ℕ, ◌-◌, ◌*◌, ◌≤◌, ◌<◌, eqb, ltb, get_or};
 ghost use Rattle.words.specs.Bits.{bit};
 ghost use Rattle.positions.specs.Runs.{no_hop, hop_of};
 ghost use Rattle.positions.specs.Walk.{walk};
@@ -14,19 +14,6 @@ use gather::{covering_hops, gather_run, over_at, slot_key};
 use nodes::emit::{emit_slot, head_slots};
 use records::sized::past_sized;
 use words::bits::{next_bit, with_bit};
-
-// The entries, with position b's if it has a record, by `hop`, and another hop covers it from above.
-fn with_entry(entries: u32, b: u32, first: u16, end: u16, hop: u8, over: u8) -> u32
-    requires { b < 31 }
-    ensures { (i : ℕ) → i < 31 → bit result i ≡ ((eqb i b && (ltb first end && not (eqb hop over))) || bit entries i) }
-{
-    if first < end {
-        if hop != over {
-            return with_bit(entries, b);
-        }
-    }
-    entries
-}
 
 // The positions of a node with a record whose hop is not the one that covers them from above.
 fn entries_of(
@@ -42,14 +29,9 @@ fn entries_of(
     let mut entries: u32 = 0;
     let mut b = next_bit(present, 0);
     while b < 31 {
-        entries = with_entry(
-            entries,
-            b as u32,
-            first[b],
-            end[b],
-            hops[b],
-            over_at(hops, b, inherited),
-        );
+        if first[b] < end[b] && hops[b] != over_at(hops, b, inherited) {
+            entries = with_bit(entries, b as u32);
+        }
         b = next_bit(present, b + 1);
     }
     entries

@@ -2,7 +2,7 @@
 -- prefix that lies in the node, and that of a position by the slots below it.
 use Prim.Native.Nat.{ℕ, zero, suc, ◌+◌, ◌-◌, ◌*◌, ◌/◌, ◌^◌, ◌≤◌, ◌<◌}
 use mathlib.Core.Path.{◌≡◌, refl, sym, ap, ap₂, subst, ◌∙◌}
-use mathlib.Core.Bool.{Bool, true, false, true≢false, not, ◌&&◌, ◌||◌, or-true, or-false}
+use mathlib.Core.Bool.{Bool, true, false, true≢false, not, ◌&&◌, ◌||◌, and-true, and-false, or-true, or-false}
 use mathlib.Core.List.{List, []}
 use mathlib.Core.Logic.{◌⊎◌, inl, inr}
 use native.Mathlib.Nat.{pow-suc, eq-or-lt_of_le}
@@ -17,7 +17,7 @@ use Rattle.theory.specs.Results.{In, throughout}
 use Rattle.theory.specs.Routes.{Route, held, Aligned}
 use Rattle.theory.proofs.Blocks.{pow_pos}
 use Rattle.theory.specs.Shapes.{Within, routed}
-use Rattle.words.specs.Bits.{bit, NextBit}
+use Rattle.words.specs.Bits.{bit, WithBit, NextBit}
 use Rattle.words.specs.Coverage.{UnderMembers, WhollyCovered}
 use Rattle.words.specs.Positions.{position, member, whole}
 use Rattle.words.proofs.BitLaws.{bit-and, bit-or}
@@ -30,7 +30,7 @@ use Rattle.records.proofs.SizedReading.{width_most}
 use Rattle.nodes.specs.Node.{wide, run, slot_size, Node}
 use Rattle.gather.specs.Gathered.{run_at, level_of, Gathered, Occupied}
 use Rattle.gather.proofs.GatherLaws.{node-run, slot-records, no_child, member_is, has_record, slot_vacant, slot_occupied, child_node}
-use Rattle.gather.proofs.GatherPlaces.{in_heap, index_lt, same_position, level-slot, place_in, place_at_lem}
+use Rattle.gather.proofs.GatherPlaces.{index_lt, same_position, level-slot, place_in, place_at_lem}
 use Rattle.gather.proofs.BusySlots.{next-steps}
 use Rattle.gather.proofs.MarkedBits.{Marked, passes_up, marked_none, marked-take, marked_skip, marked_all}
 use Rattle.gather.proofs.MemberLaws.{slot_is}
@@ -73,6 +73,14 @@ module _ {size : ℕ} {t : List ℕ} {lo hi depth key : ℕ} {first end : List �
       ∙ none_covered wide (slot_size depth) (place_at (slot_size depth) key 5 c)
 
 -- ---- The word of covered slots, while slots are taken into it.
+
+-- Slot c is in the word when its child is covered, and the word stays when it is not.
+module _ (covered c : ℕ) (child : Bool) where
+  pub slot_set : (next : ℕ) → child ≡ true → WithBit covered c next → (i : ℕ) → i < 32 → bit next i ≡ ((eqb i c && child) || bit covered i)
+  slot_set next is with_c i lt = with_c i lt ∙ rw (is, and-true)
+
+  pub slot_left : child ≡ false → (i : ℕ) → i < 32 → bit covered i ≡ ((eqb i c && child) || bit covered i)
+  slot_left is i lt = rw (is, and-false)
 
 -- Slots that are not asked, those whose bit of x is not set, are passed over.
 slots-past : {x : ℕ} (f : ℕ → Bool) {covered k r : ℕ} → NextBit x k r → Marked 32 (λ i. bit x i && f i) (λ i. ltb i k) covered
@@ -323,10 +331,6 @@ module _ {size : ℕ} {t : List ℕ} {lo hi depth key query len : ℕ} {first en
   -- Its index is one of its level's.
   few : (query - key) / 2 ^ size_at (slot_size depth) level < 2 ^ level
   few = index_lt depth level (query - key) s.node.at.deep s.leveled.1 (omega (arith, s.lies))
-
-  -- It is one of the 63 places.
-  pub place_lt : b < 63
-  place_lt = rw s.placed (in_heap level ((query - key) / 2 ^ size_at (slot_size depth) level) s.leveled.1 few)
 
   -- A place before 31 is a position, and what is found of the position is found of the prefix.
   pub position-answer : (r : Bool) → b < 31

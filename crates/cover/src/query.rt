@@ -1,6 +1,6 @@
 // The cover query: does a set cover every address of a prefix?
 
-ghost use Rattle.std.specs.Prelude.{◌≡◌, not, ◌&&◌, ◌||◌, ℕ, ◌-◌, ◌*◌, ◌/◌, ◌^◌, ◌≤◌, ◌<◌, eqb};
+ghost use Rattle.std.specs.Prelude.{◌≡◌, not, ◌&&◌, ℕ, ◌-◌, ◌*◌, ◌/◌, ◌^◌, ◌≤◌, ◌<◌, eqb};
 ghost use Rattle.theory.specs.Routes.{held, Aligned};
 ghost use Rattle.theory.specs.Results.{In, throughout};
 ghost use Rattle.words.specs.Bits.{bit};
@@ -13,14 +13,6 @@ ghost use Rattle.cover.specs.Coverage.{record_over};
 use gather::{gather_run, heap_index, level_of, slot_key};
 use words::bits::{has_bit, next_bit, with_bit};
 use words::coverage::{fold_coverage, member_coverage};
-
-// The covered slots, with slot c if its child is.
-pub fn with_slot(covered: u32, c: u32, child: bool) -> u32
-    requires { c < 32 }
-    ensures { (i : ℕ) → i < 32 → bit result i ≡ ((eqb i c && child) || bit covered i) }
-{
-    if child { with_bit(covered, c) } else { covered }
-}
 
 // The slots to walk: those with a record, and below no member of the node.
 pub fn open_slots(occupied: u32, under: u32) -> u32
@@ -64,8 +56,9 @@ pub fn bit_covered(
     while next < 32 {
         let c = next;
         let slot = slot_key(key, depth, c);
-        let child = bit_covered(table, size, first[31 + c], end[31 + c], depth + 5, slot, 0);
-        covered = with_slot(covered, c as u32, child);
+        if bit_covered(table, size, first[31 + c], end[31 + c], depth + 5, slot, 0) {
+            covered = with_bit(covered, c as u32);
+        }
         next = next_bit(walked, c + 1);
     }
     has_bit(fold_coverage(g.present, covered | under), b as u32)

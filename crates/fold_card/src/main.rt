@@ -23,7 +23,7 @@ fn hex_digit(n: u8) -> u8
     requires { n < 16 }
     ensures { result ≡ hex_digit n }
 {
-    if n < 10 { 48 + n } else { 55 + n }
+    if n < 10 { b'0' + n } else { b'A' - 10 + n }
 }
 
 // Bit k of a number as a digit.
@@ -31,26 +31,27 @@ fn bit_digit(n: u8, k: u32) -> u8
     requires { k < 32 }
     ensures { result ≡ bit_digit (bit n k) }
 {
-    if has_bit(n as u32, k) { 49 } else { 48 }
+    if has_bit(u32::from(n), k) { b'1' } else { b'0' }
 }
 
 // A line of a fold's box: the upper one with its digit, or the lower one with its bits.
+#[tactic(auto, unfolding(crate::specs::Shown::box_line))]
 fn box_line(fold: u8, lower: bool) -> [u8; 7]
     requires { fold < 16 }
     ensures { result ≡ box_line lower fold }
 {
     if lower {
         [
-            32,
+            b' ',
             bit_digit(fold, 3),
             bit_digit(fold, 2),
             bit_digit(fold, 1),
             bit_digit(fold, 0),
-            32,
-            124,
+            b' ',
+            b'|',
         ]
     } else {
-        [32, 32, 32, hex_digit(fold), 32, 32, 124]
+        [b' ', b' ', b' ', hex_digit(fold), b' ', b' ', b'|']
     }
 }
 
@@ -63,11 +64,9 @@ fn put_boxes(card: &[u8], high: usize, lower: bool, at: usize, out: &mut [u8]) -
     ensures value { result ≡ at + 112 }
 {
     let mut end = at;
-    let mut low: usize = 0;
-    while low < 16 {
+    for low in 0..16 {
         let line = box_line(card[high * 16 + low], lower);
         end = put_bytes(&line, end, out);
-        low += 1;
     }
     end
 }
@@ -80,7 +79,7 @@ fn put_row(card: &[u8], high: usize, at: usize, out: &mut [u8]) -> usize
     ensures put { Put (row_text card.now high) at result out.old out.new }
     ensures value { result ≡ at + 234 }
 {
-    let label = [32, hex_digit(high as u8), 32, 124];
+    let label = [b' ', hex_digit(high as u8), b' ', b'|'];
     let digits = put_bytes(&label, at, out);
     let end = put_boxes(card, high, false, digits, out);
     let bits = put_bytes(b"\n   |", end, out);
@@ -92,7 +91,7 @@ fn put_row(card: &[u8], high: usize, at: usize, out: &mut [u8]) -> usize
 fn hex_byte(b: u8) -> [u8; 3]
     ensures { result ≡ hex_byte b }
 {
-    [32, hex_digit(b / 16), hex_digit(b % 16)]
+    [b' ', hex_digit(b / 16), hex_digit(b % 16)]
 }
 
 // Writes bytes to standard output.
@@ -123,17 +122,17 @@ fn print_rows(rt: &impl Print, card: &[u8]) -> io::Result<()>
 
 // Prints the bytes of a word.
 fn print_word(rt: &impl Print, x: u32) -> io::Result<()> {
-    print(rt, &hex_byte((x >> 24) as u8))?;
-    print(rt, &hex_byte(((x >> 16) % 256) as u8))?;
-    print(rt, &hex_byte(((x >> 8) % 256) as u8))?;
-    print(rt, &hex_byte((x % 256) as u8))
+    for b in x.to_be_bytes() {
+        print(rt, &hex_byte(b))?;
+    }
+    Ok(())
 }
 
 // Prints the digit of a byte's fold behind a space.
 fn print_fold(rt: &impl Print, card: &[u8], b: u8) -> io::Result<()>
     requires { Card card.now }
 {
-    print(rt, &[32, hex_digit(card[b as usize])])
+    print(rt, &[b' ', hex_digit(card[usize::from(b)])])
 }
 
 // Prints what the card says of a word of slots, and what fold_children makes of it.
@@ -143,10 +142,9 @@ fn print_example(rt: &impl Print, card: &[u8], slots: u32) -> io::Result<()>
     print(rt, b"Example: the slots")?;
     print_word(rt, slots)?;
     print(rt, b" have the folds")?;
-    print_fold(rt, card, (slots >> 24) as u8)?;
-    print_fold(rt, card, ((slots >> 16) % 256) as u8)?;
-    print_fold(rt, card, ((slots >> 8) % 256) as u8)?;
-    print_fold(rt, card, (slots % 256) as u8)?;
+    for b in slots.to_be_bytes() {
+        print_fold(rt, card, b)?;
+    }
     print(rt, b", which as a word of positions are")?;
     print_word(rt, fold_children(slots))?;
     print(rt, b".\n")

@@ -57,14 +57,6 @@ append_span size t lo (suc k) n =
 
 -- ---- By the first record and the one after the last.
 
--- What holds of the numbers before n and of n holds of those before n + 1.
-pub one_more : (P : ℕ → Type 0) (n k : ℕ) → P n → (k < n → P k) → k < n + 1 → P k
-one_more P n k p q h = go (eq-or-lt_of_le h)
-  where
-    go : (suc k ≡ n + 1) ⊎ (suc k < n + 1) → P k
-    go (inl e) = let z : k ≡ n = omega arith in rw z p
-    go (inr lt) = q (omega arith)
-
 -- Each record of a run is a member of it.
 pub member-run : (size : ℕ) (t : List ℕ) (lo hi i : ℕ) → lo ≤ i → i < hi → Member (wide_at size t i) (run size t lo hi)
 member-run size t lo hi i le lt = member_span size t lo (hi - lo) i le (omega arith)

@@ -1,6 +1,6 @@
 -- The pass over a node's records, one step after another: what is known once the records lo..i are gathered, at the start, after one more and at the end.
 use Prim.Native.Nat.{ℕ, ◌-◌, ◌^◌, ◌≤◌, ◌<◌}
-use mathlib.Core.Path.{◌≡◌, sym, ap, ◌∙◌}
+use mathlib.Core.Path.{◌≡◌, refl, sym, ap, ◌∙◌}
 use mathlib.Core.Bool.{Bool, true, false, cond, ◌||◌}
 use mathlib.Core.List.{List}
 use mathlib.Core.Logic.{◌↔◌, ◌⊎◌, inl, inr}
@@ -9,7 +9,7 @@ use native.Mathlib.Decide.{dec_lt}
 use native.Mathlib.Omega.{arith}
 use lib.Dec.{eqb, ltb}
 use lib.ListN.{length, get_or, set, length-set}
-use lib.Seq.{get_or-set_same, get_or-set_other}
+use lib.Seq.{get_or-set_same, get_or-set_other, set-get_or}
 use borrow.Author.Tests.{lt-ltb, le-ltb, eq-eqb, ne_eqb}
 use Rattle.theory.specs.Results.{part}
 use Rattle.theory.specs.Routes.{Before}
@@ -57,6 +57,13 @@ passed_start size t lo depth key first end f e z =
 -- A place that has taken the records i..e in is not empty.
 first_small : (first end i e : ℕ) → end ≤ i → i < e → first_of first end i < e
 first_small first end i e h lt = if_lt (λ (s : Bool). cond s first i < e) first end (λ l. omega arith) (λ l. omega arith)
+
+-- A place with records keeps its first, and one without has record i.
+pub first_kept : (first end : List ℕ) (b i : ℕ) → get_or first b 0 < get_or end b 0 → set first b (first_of (get_or first b 0) (get_or end b 0) i) ≡ first
+first_kept first end b i h = rw (lt-ltb (get_or first b 0) (get_or end b 0) h) (set-get_or first b 0)
+
+pub first_new : (first end : List ℕ) (b i : ℕ) → get_or end b 0 ≤ get_or first b 0 → set first b (first_of (get_or first b 0) (get_or end b 0) i) ≡ set first b i
+first_new first end b i h = rw (le-ltb (get_or first b 0) (get_or end b 0) h) refl
 
 module _ {size : ℕ} {t : List ℕ} {lo hi depth key : ℕ} (node : Node size t lo hi depth key) where
   -- Each record is a route of the node, and they stand in order.

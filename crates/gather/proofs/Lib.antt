@@ -3,6 +3,7 @@ pub mod Halves
 pub mod GatherPlaces
 pub mod GatherRuns
 pub mod GatherSteps
+pub mod GatherMarks
 pub mod GatherSlots
 pub mod GatherCovers
 pub mod GatherLaws

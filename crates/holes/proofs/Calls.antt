@@ -16,9 +16,15 @@ use lib.Seq.{take_at, drop_at}
 use borrow.Author.Tests.{leb-false, lt-leb}
 use Rattle.theory.specs.Routes.{Route, held, All, Table, Member}
 use Rattle.theory.proofs.Routed.{Bare}
-use Rattle.refusals.specs.Rules.{Rule, rule, Reply, gives, refuses, judge}
+use Rattle.refusals.specs.Rules.{Rule, rule, refuses, judge}
 use Rattle.refusals.specs.Order.{rank, First, None}
-use Rattle.refusals.proofs.Answered.{given_exactly, refused_exactly}
+use Rattle.std.specs.Prelude.{Option, None as NoRoute, Result, Ok, Err}
+use Rattle.refusals.specs.Numbers.{number_of}
+use Rattle.refusals.specs.declared.Cause.TheVariants.{OutputRoom}
+use Rattle.refusals.specs.declared.Refusal.{Refusal}
+use Rattle.refusals.proofs.Replies.{reply_same}
+use Rattle.refusals.proofs.Caused.{AllCaused, caused_append, judge_caused, reply_met}
+use Rattle.refusals.proofs.Answered.{given_exactly, says_refused}
 use Rattle.refusals.proofs.Judged.{Broken, gives_any, refuses_any}
 use Rattle.refusals.proofs.Ranked.{broken-left, broken-right, sound-each, sound-append, singles, ranked_append, Ranked}
 use Rattle.records.specs.Sized.{width_in, records_in, routes_in, bytes_in, Bytes}
@@ -28,15 +34,13 @@ use Rattle.records.proofs.SizedReading.{form_size}
 use Rattle.records.proofs.SizedWritten.{in_length_bytes, in_routes_bytes}
 use Rattle.table.specs.Conditions.{AcceptedBy}
 use Rattle.table.specs.TableRules.{form_rules}
+use Rattle.table.proofs.Caused.{table_caused}
 use Rattle.table.proofs.SizedAccepted.{in_accepted_exactly, in_not_refused}
 use Rattle.table.proofs.SizedTested.{in_table_tests, in_table_ranked, in_table_numbers}
 use Rattle.lookup.specs.Calls.{lookup_says, lookup_reply}
-use Rattle.lookup.specs.declared.answers.Lookup.{Lookup}
-use Rattle.lookup.specs.declared.answers.Lookup.TheVariants.{NoRoute}
+use Rattle.lookup.specs.declared.answers.Match.{Match}
 use Rattle.lookup.proofs.Calls.{miss-held, lookup_none_exactly}
 use Rattle.calls.specs.Rewriting.{output_of}
-use Rattle.holes.specs.declared.Listed.{Listed}
-use Rattle.holes.specs.declared.Listed.TheVariants.{Records, Refused}
 use Rattle.holes.specs.Conditions.{UnroutedCondition, of_table, short_output}
 use Rattle.holes.specs.Holes.{IsHole}
 use Rattle.holes.specs.Listing.{holes_of, unrouted_rules, listed_says, Lists}
@@ -45,11 +49,8 @@ use Rattle.holes.proofs.Most.{holes_sure}
 use Rattle.holes.proofs.Replies.{accepted-position, whole-holes}
 
 -- Answers that say the same are the same.
-pub listed_same : (a b : Listed) → listed_says a ≡ listed_says b → a ≡ b
-listed_same (Records m) (Records n) e = cc
-listed_same (Records m) (Refused n i) e = let z : ◌≡◌ {A = ℕ} 0 1 = cc in absurd (omega arith)
-listed_same (Refused n i) (Records m) e = let z : ◌≡◌ {A = ℕ} 0 1 = cc in absurd (omega arith)
-listed_same (Refused m i) (Refused n j) e = cc
+pub listed_same : (a b : Result ℕ Refusal) → listed_says a ≡ listed_says b → a ≡ b
+listed_same = reply_same (λ n. n) (λ m n e. e)
 
 -- ---- The rules test the conditions, and stand in the order of the checks.
 module _ (form : Form) (t : List ℕ) (room : ℕ) where
@@ -102,19 +103,22 @@ module _ (form : Form) (t : List ℕ) (room : ℕ) where
       go ok fits n i (short_output h) = omega arith
 
 -- ---- No second answer and no second output satisfies the statement, and for every input some do.
-pub unrouted_settled : (form : Form) (t o : List ℕ) (r r₁ : Listed) (o' o₁ : List ℕ) → Lists form t o r o' → Lists form t o r₁ o₁ → (r ≡ r₁) × (o' ≡ o₁)
+pub unrouted_settled : (form : Form) (t o : List ℕ) (r r₁ : Result ℕ Refusal) (o' o₁ : List ℕ) → Lists form t o r o' → Lists form t o r₁ o₁ → (r ≡ r₁) × (o' ≡ o₁)
 unrouted_settled form t o r r₁ o' o₁ a b = (listed_same r r₁ (a.answer ∙ sym b.answer), a.output ∙ sym b.output)
 
-listed_of : (q : Reply ℕ) → (r : Listed) × (listed_says r ≡ q)
-listed_of (gives n) = (Records n, refl)
-listed_of (refuses n i) = (Refused n i, refl)
+-- The numbers of its rules are causes'.
+unrouted_caused : (form : Form) (t : List ℕ) (room : ℕ) → AllCaused (unrouted_rules form t room)
+unfolding unrouted_rules
+unrouted_caused form t room = caused_append _ _ (table_caused (size_of form) form.strict false t) ((OutputRoom, refl), tt)
 
-pub unrouted_met : (form : Form) (t o : List ℕ) → (r : Listed) × ((o' : List ℕ) × Lists form t o r o')
+pub unrouted_met : (form : Form) (t o : List ℕ) → (r : Result ℕ Refusal) × ((o' : List ℕ) × Lists form t o r o')
 unrouted_met form t o =
-    let a = listed_of (judge (unrouted_rules form t (length o)) (length (holes_of (size_of form) t))) in
-    (a.0, (output_of (size_of form) o (judge (unrouted_rules form t (length o)) (holes_of (size_of form) t)), record { answer = a.1; output = refl }))
+    let rules = unrouted_rules form t (length o) in
+    let count = length (holes_of (size_of form) t) in
+    let a = reply_met (λ (n : ℕ). n) (λ n. (n, refl)) (judge rules count) (judge_caused rules count (unrouted_caused form t (length o))) in
+    (a.0, (output_of (size_of form) o (judge rules (holes_of (size_of form) t)), record { answer = a.1; output = refl }))
 
-module _ (form : Form) (t o : List ℕ) (r : Listed) (o' : List ℕ) (ok : Lists form t o r o') where
+module _ (form : Form) (t o : List ℕ) (r : Result ℕ Refusal) (o' : List ℕ) (ok : Lists form t o r o') where
   -- The size of a record and the bits of an address; the table's routes and their holes; the rules.
   abbrev size : ℕ
   size = size_of form
@@ -134,18 +138,17 @@ module _ (form : Form) (t o : List ℕ) (r : Listed) (o' : List ℕ) (ok : Lists
   -- ---- Refusals.
 
   -- It is refused with a number and an index exactly when they are those of the first condition that holds: of 3 to 8, then 11.
-  pub unrouted_refused : (n i : ℕ) → r ≡ Refused n i ↔ First (UnroutedCondition form t (length o)) n i
-  unrouted_refused n i =
-      refused_exactly listed_says listed_same rules (unrouted_tests form t (length o)) (unrouted_ranked form t (length o)).order (length list) r ok.answer
-      (Refused n i) n i refl
+  pub unrouted_refused : (n i : ℕ) → listed_says r ≡ refuses n i ↔ First (UnroutedCondition form t (length o)) n i
+  unrouted_refused =
+      says_refused listed_says listed_same rules (unrouted_tests form t (length o)) (unrouted_ranked form t (length o)).order (length list) r ok.answer
 
   -- A refusal leaves the output as it was.
-  pub refusal_changes_nothing : (n i : ℕ) → r ≡ Refused n i → o' ≡ o
+  pub refusal_changes_nothing : (n i : ℕ) → listed_says r ≡ refuses n i → o' ≡ o
   refusal_changes_nothing n i e =
-      ok.output ∙ ap (output_of size o) (refuses_any rules (length list) list n i (sym ok.answer ∙ ap listed_says e))
+      ok.output ∙ ap (output_of size o) (refuses_any rules (length list) list n i (sym ok.answer ∙ e))
 
   -- It gives the numbers 3 to 8 and 11 alone.
-  pub unrouted-numbers : (n i : ℕ) → r ≡ Refused n i → ((3 ≤ n) × (n ≤ 8)) ⊎ (n ≡ 11)
+  pub unrouted-numbers : (n i : ℕ) → listed_says r ≡ refuses n i → ((3 ≤ n) × (n ≤ 8)) ⊎ (n ≡ 11)
   unrouted-numbers n i e = go n i ((unrouted_refused n i).0 e).0
     where
       go : (n i : ℕ) → UnroutedCondition form t (length o) n i → ((3 ≤ n) × (n ≤ 8)) ⊎ (n ≡ 11)
@@ -155,11 +158,11 @@ module _ (form : Form) (t o : List ℕ) (r : Listed) (o' : List ℕ) (ok : Lists
   -- ---- Answers.
 
   -- It answers with a number exactly for an accepted table whose list has so many records and fits the output.
-  pub unrouted-listed : (count : ℕ) → r ≡ Records count ↔ (AcceptedBy form false t × (size * length list ≤ length o) × (length list ≡ count))
+  pub unrouted-listed : (count : ℕ) → r ≡ Ok count ↔ (AcceptedBy form false t × (size * length list ≤ length o) × (length list ≡ count))
   unrouted-listed count =
       let exactly =
       given_exactly listed_says listed_same rules (unrouted_tests form t (length o)) (unrouted_ranked form t (length o)).order (length list) r ok.answer
-      (Records count) count refl in (
+      (Ok count) count refl in (
         λ e. let f = exactly.0 e in let k = (none_exactly form t (length o)).0 f.0 in (k.0, k.1, f.1),
         λ f. exactly.1 ((none_exactly form t (length o)).1 (f.0, f.1), f.2),
       )
@@ -168,14 +171,14 @@ module _ (form : Form) (t o : List ℕ) (r : Listed) (o' : List ℕ) (ok : Lists
   pub unrouted-length : length o' ≡ length o
   unrouted-length = go r refl
     where
-      go : (q : Listed) → r ≡ q → length o' ≡ length o
-      go (Refused n i) e = ap length (refusal_changes_nothing n i e)
-      go (Records count) e =
+      go : (q : Result ℕ Refusal) → r ≡ q → length o' ≡ length o
+      go (Err refusal) e = ap length (refusal_changes_nothing (number_of refusal.cause) refusal.index (ap listed_says e))
+      go (Ok count) e =
           let fits = ((unrouted-listed count).0 e).1 in
           ap length (ok.output ∙ ap (output_of size o) (gives_any rules (length list) count list (sym ok.answer ∙ ap listed_says e)))
           ∙ simp (length-append, length-drop, in_length_bytes size (form_size form)) (omega arith)
 
-  module _ (count : ℕ) (answered : r ≡ Records count) where
+  module _ (count : ℕ) (answered : r ≡ Ok count) where
     -- What is written, read back.
     abbrev listed : List Route
     listed = routes_in size (take (size * count) o')
@@ -207,8 +210,8 @@ module _ (form : Form) (t o : List ℕ) (r : Listed) (o' : List ℕ) (ok : Lists
 
     -- An address lies in a listed prefix exactly when lookup, in whatever way it is called, finds no route for it. Of a number its lowest bits are the
     -- address, as many as the records' addresses have.
-    pub unrouted_addresses : (x : ℕ) (a : Lookup) → lookup_says a ≡ lookup_reply form t x
-        → (held bits listed (x % 2 ^ bits) ≡ true) ↔ (a ≡ NoRoute)
+    pub unrouted_addresses : (x : ℕ) (a : Result (Option Match) Refusal) → lookup_says a ≡ lookup_reply form t x
+        → (held bits listed (x % 2 ^ bits) ≡ true) ↔ (a ≡ Ok NoRoute)
     unrouted_addresses x a said =
         let y = x % 2 ^ bits in
         let none = lookup_none_exactly form t x a said in

@@ -8,7 +8,10 @@ use native.Mathlib.Nat.{mul-one, sub_self}
 use native.Mathlib.Omega.{arith}
 use lib.ListN.{length, take}
 use Rattle.theory.specs.Routes.{Route}
+use Rattle.std.specs.Prelude.{Result, Ok}
+use Rattle.refusals.specs.Rules.{refuses}
 use Rattle.refusals.specs.Order.{Earlier}
+use Rattle.refusals.specs.declared.Refusal.{Refusal}
 use Rattle.refusals.proofs.Judged.{earlier_not}
 use Rattle.records.specs.Sized.{IsSize, width_in, route, routes_from_in, routes_in, bytes_in}
 use Rattle.records.specs.declared.Form.{Form}
@@ -16,11 +19,9 @@ use Rattle.records.specs.Forms.{size_of}
 use Rattle.records.proofs.SizedReading.{form_size}
 use Rattle.table.proofs.SizedAccepted.{in_accepted_exactly}
 use Rattle.calls.proofs.Refusals.{empty-table}
-use Rattle.holes.specs.declared.Listed.{Listed}
-use Rattle.holes.specs.declared.Listed.TheVariants.{Records, Refused}
 use Rattle.holes.specs.Conditions.{UnroutedCondition, of_table, short_output}
 use Rattle.holes.specs.Holes.{holes}
-use Rattle.holes.specs.Listing.{holes_of, Lists}
+use Rattle.holes.specs.Listing.{holes_of, listed_says, Lists}
 use Rattle.holes.proofs.Calls.{unrouted-listed, unrouted_refused, unrouted-written}
 use Rattle.holes.proofs.Walk.{holes-empty}
 
@@ -40,9 +41,9 @@ empty-holes size is =
 empty_one : (size : ℕ) → IsSize size → size * length (holes_of size []) ≡ size
 empty_one size is = ap (λ (rs : List Route). size * length rs) (empty-holes size is) ∙ mul-one size
 
-module _ (form : Form) (o : List ℕ) (r : Listed) (o' : List ℕ) (ok : Lists form [] o r o') where
+module _ (form : Form) (o : List ℕ) (r : Result ℕ Refusal) (o' : List ℕ) (ok : Lists form [] o r o') where
   -- With room for a record it is listed,
-  pub empty-listed : size_of form ≤ length o → (r ≡ Records 1) × (take (size_of form) o' ≡ bytes_in (size_of form) (route 0 0 0 ∷ []))
+  pub empty-listed : size_of form ≤ length o → (r ≡ Ok 1) × (take (size_of form) o' ≡ bytes_in (size_of form) (route 0 0 0 ∷ []))
   empty-listed room =
       let size = size_of form in
       let is = form_size form in
@@ -54,7 +55,7 @@ module _ (form : Form) (o : List ℕ) (r : Listed) (o' : List ℕ) (ok : Lists f
       )
 
   -- without it is refused.
-  pub empty-short : length o < size_of form → r ≡ Refused 11 0
+  pub empty-short : length o < size_of form → listed_says r ≡ refuses 11 0
   empty-short short =
       (unrouted_refused form [] o r o' ok 11 0).1 (short_output (omega (arith, empty_one (size_of form) (form_size form))), earlier)
     where

@@ -11,14 +11,12 @@ use Rattle.theory.specs.Routes.{Route, held}
 use Rattle.theory.specs.Results.{maximal}
 use Rattle.theory.specs.Reach.{sizes}
 use Rattle.theory.proofs.Maximal.{maximal-agree}
+use Rattle.std.specs.Prelude.{Result, Ok}
+use Rattle.refusals.specs.declared.Refusal.{Refusal}
 use Rattle.records.specs.Wire.{routes}
 use Rattle.lookup.specs.Calls.{held_says, held_reply}
-use Rattle.lookup.specs.declared.answers.AddressesHeld.{AddressesHeld}
-use Rattle.lookup.specs.declared.answers.AddressesHeld.TheVariants.{Count}
 use Rattle.lookup.proofs.Calls.{held-holes, held_whole}
 use Rattle.calls.proofs.Masking.{choosing}
-use Rattle.holes.specs.declared.Listed.{Listed}
-use Rattle.holes.specs.declared.Listed.TheVariants.{Records}
 use Rattle.holes.specs.Holes.{is_unrouted, holes_in}
 use Rattle.holes.specs.Listing.{holes_of, Lists}
 use Rattle.holes.proofs.Walk.{unrouted-held}
@@ -34,8 +32,8 @@ none_long : (rs : List Route) → length rs ≡ 0 → rs ≡ []
 none_long [] e = refl
 none_long (r ∷ rs) e = absurd (omega arith)
 
-module _ (strict : Bool) (t : List ℕ) (r : AddressesHeld) (e : held_says r ≡ held_reply (choosing strict false) t) (n : ℕ) (q : r ≡ Count n)
-    (o : List ℕ) (l : Listed) (o' : List ℕ) (ok : Lists (choosing strict false) t o l o') (count : ℕ) (answered : l ≡ Records count) where
+module _ (strict : Bool) (t : List ℕ) (r : Result ℕ Refusal) (e : held_says r ≡ held_reply (choosing strict false) t) (n : ℕ) (q : r ≡ Ok n)
+    (o : List ℕ) (l : Result ℕ Refusal) (o' : List ℕ) (ok : Lists (choosing strict false) t o l o') (count : ℕ) (answered : l ≡ Ok count) where
   -- The addresses held and the sizes of the listed holes make 2 ^ 32.
   pub held_and_listed : n + sizes 32 (routes (take (8 * count) o')) ≡ 2 ^ 32
   held_and_listed =

@@ -8,6 +8,8 @@ use lib.Dec.{leb}
 use lib.ListN.{length}
 use Rattle.theory.specs.Routes.{Route}
 use Rattle.refusals.specs.Rules.{Rule, rule, refuses, judge}
+use Rattle.std.specs.Prelude.{Result}
+use Rattle.refusals.specs.declared.Refusal.{Refusal}
 use Rattle.refusals.proofs.Judged.{refuses_any}
 use Rattle.refusals.proofs.Waived.{waived, waived_append, waived_judge, waived_answer}
 use Rattle.records.specs.Sized.{width_in, masked_in, Bytes}
@@ -19,8 +21,6 @@ use Rattle.table.specs.TableRules.{form_rules}
 use Rattle.table.proofs.SizedMasking.{in_strict_waived, in_masked_routes, in_masked_rules}
 use Rattle.calls.specs.Rewriting.{output_of}
 use Rattle.calls.proofs.Masking.{choosing}
-use Rattle.holes.specs.declared.Listed.{Listed}
-use Rattle.holes.specs.declared.Listed.TheVariants.{Refused}
 use Rattle.holes.specs.Holes.{holes}
 use Rattle.holes.specs.Listing.{holes_of, unrouted_rules, listed_says, Lists}
 use Rattle.holes.proofs.Calls.{listed_same}
@@ -40,16 +40,15 @@ module _ (long : Bool) where
       last = rule 11 0 (leb (size * length (holes_of size t)) room) ∷ []
 
   -- So what is not refused by 6 is the default's: the answer and the output.
-  pub unrouted_carried : (t o : List ℕ) (r q : Listed) (o' p' : List ℕ) → Lists (refusing long) t o r o' → Lists (masking long) t o q p'
-      → ((i : ℕ) → r ≡ Refused 6 i → ⊥) → (q ≡ r) × (p' ≡ o')
+  pub unrouted_carried : (t o : List ℕ) (r q : Result ℕ Refusal) (o' p' : List ℕ) → Lists (refusing long) t o r o' → Lists (masking long) t o q p'
+      → ((i : ℕ) → listed_says r ≡ refuses 6 i → ⊥) → (q ≡ r) × (p' ≡ o')
   unrouted_carried t o r q o' p' one other h =
       let rules = unrouted_rules (refusing long) t (length o) in
-      let not_six : (i : ℕ) → listed_says r ≡ refuses 6 i → ⊥ = λ i e. h i (listed_same r (Refused 6 i) e) in
       let default : waived 6 rules ≡ unrouted_rules (masking long) t (length o) = unrouted_waived t (length o) in
       let same : judge (waived 6 rules) (holes_of size t) ≡ judge rules (holes_of size t) =
-      waived_judge 6 rules (holes_of size t) (λ i e. not_six i (one.answer ∙ refuses_any rules (holes_of size t) (length (holes_of size t)) 6 i e)) in (
+      waived_judge 6 rules (holes_of size t) (λ i e. h i (one.answer ∙ refuses_any rules (holes_of size t) (length (holes_of size t)) 6 i e)) in (
         waived_answer listed_says listed_same 6 rules (length (holes_of size t)) r q one.answer
-            (other.answer ∙ ap (λ (l : List Rule). judge l (length (holes_of size t))) (sym default)) not_six,
+            (other.answer ∙ ap (λ (l : List Rule). judge l (length (holes_of size t))) (sym default)) h,
         other.output
             ∙ ap (λ (l : List Rule). output_of size o (judge l (holes_of size t))) (sym default)
             ∙ ap (output_of size o) same
@@ -66,7 +65,7 @@ module _ (form : Form) (s : Bool) (t : List ℕ) (bytes : Bytes t) (ok : Accepte
   same_rules room = rw (in_masked_rules (size_of form) (form_size form) form.strict s t bytes ok other false, same_holes)
 
   -- What is said of them is what is said of the table by default, and no other answer is: the same answer and output.
-  pub unrouted-masked : (o : List ℕ) (r : Listed) (o' : List ℕ) → Lists (choosing other form.long) (masked_in (size_of form) t) o r o'
+  pub unrouted-masked : (o : List ℕ) (r : Result ℕ Refusal) (o' : List ℕ) → Lists (choosing other form.long) (masked_in (size_of form) t) o r o'
       → Lists (masking form.long) t o r o'
   unrouted-masked o r o' a =
       let rules = same_rules (length o) in

@@ -11,6 +11,10 @@ use lib.ListN.{length}
 use borrow.Author.Tests.{leb-true, leb-false, le-leb, lt-leb}
 use Rattle.theory.specs.Routes.{Route}
 use Rattle.refusals.specs.Rules.{Rule, rule, gives, refuses, judge}
+use Rattle.std.specs.Prelude.{Result, Ok, Err}
+use Rattle.refusals.specs.Numbers.{number_of}
+use Rattle.refusals.specs.declared.Cause.TheVariants.{OutputRoom}
+use Rattle.refusals.specs.declared.Refusal.{Refusal}
 use Rattle.refusals.proofs.Judged.{gives_any, kept_next, broken-here, all_next, some-here}
 use Rattle.records.specs.Sized.{IsSize, width_in, records_in, bytes_in, Bytes, laid}
 use Rattle.records.specs.declared.Form.{Form}
@@ -23,8 +27,6 @@ use Rattle.calls.proofs.Ending.{laid-output}
 use Rattle.runs.specs.Runs.{RunAt}
 use Rattle.runs.proofs.Halves.{whole_run}
 use Rattle.runs.proofs.Records.{run-whole}
-use Rattle.holes.specs.declared.Listed.{Listed}
-use Rattle.holes.specs.declared.Listed.TheVariants.{Records, Refused}
 use Rattle.holes.specs.Holes.{address_in, holes_in, holes_at}
 use Rattle.holes.specs.Kinds.{Position}
 use Rattle.holes.specs.Listing.{holes_of, unrouted_rules, listed_says, Lists}
@@ -112,7 +114,7 @@ module _ (size : ℕ) (is : IsSize size) (strict : Bool) (t : List ℕ) {n : ℕ
 -- ---- The statement, of a table that is read by a form of this size.
 module _ (form : Form) (t : List ℕ) {size : ℕ} (sized : size ≡ size_of form) (is : IsSize size) where
   -- It is that of the rules over the size.
-  lists_in : {o o' : List ℕ} {r : Listed} → listed_says r ≡ judge (rules_in size form.strict t (length o)) (length (holes_of size t))
+  lists_in : {o o' : List ℕ} {r : Result ℕ Refusal} → listed_says r ≡ judge (rules_in size form.strict t (length o)) (length (holes_of size t))
       → o' ≡ output_of size o (judge (rules_in size form.strict t (length o)) (holes_of size t)) → Lists form t o r o'
   unfolding unrouted_rules
   lists_in {o} {o'} {r} answer output =
@@ -122,8 +124,8 @@ module _ (form : Form) (t : List ℕ) {size : ℕ} (sized : size ≡ size_of for
       }
 
   -- The table is refused.
-  pub lists_refused : (o : List ℕ) {k i : ℕ} → check_reply_in size form.strict false t ≡ refuses k i → Lists form t o (Refused k i) o
-  lists_refused o e =
+  pub lists_refused : (o : List ℕ) (r : Refusal) → check_reply_in size form.strict false t ≡ refuses (number_of r.cause) r.index → Lists form t o (Err r) o
+  lists_refused o r e =
       lists_in (sym (refused_reply size form.strict t (length o) (length (holes_of size t)) e))
       (sym (ap (output_of size o) (refused_reply size form.strict t (length o) (holes_of size t) e)))
 
@@ -133,7 +135,7 @@ module _ (form : Form) (t : List ℕ) {size : ℕ} (sized : size ≡ size_of for
 
     -- The list fits the output, and is written.
     pub lists_given : (o : List ℕ) {o' : List ℕ} {count : ℕ} → size * length (holes_at size t 0 n 0 0) ≤ length o
-        → count ≡ length (holes_at size t 0 n 0 0) → o' ≡ laid 0 (bytes_in size (holes_at size t 0 n 0 0)) o → Lists form t o (Records count) o'
+        → count ≡ length (holes_at size t 0 n 0 0) → o' ≡ laid 0 (bytes_in size (holes_at size t 0 n 0 0)) o → Lists form t o (Ok count) o'
     lists_given o fits counted wrote =
         let le : size * length (holes_of size t) ≤ length o = rw whole at fits in
         lists_in (ap gives (counted ∙ ap length whole) ∙ sym (given_reply size form.strict t (length o) (length (holes_of size t)) valid le))
@@ -142,7 +144,7 @@ module _ (form : Form) (t : List ℕ) {size : ℕ} (sized : size ≡ size_of for
         ∙ sym (ap (output_of size o) (given_reply size form.strict t (length o) (holes_of size t) valid le)))
 
     -- It does not, and nothing is.
-    pub lists-short : (o : List ℕ) → length o < size * length (holes_at size t 0 n 0 0) → Lists form t o (Refused 11 0) o
+    pub lists-short : (o : List ℕ) → length o < size * length (holes_at size t 0 n 0 0) → Lists form t o (Err (record { cause = OutputRoom; index = 0 })) o
     lists-short o short =
         let lt : length o < size * length (holes_of size t) = rw whole at short in
         lists_in (sym (short-reply size form.strict t (length o) (length (holes_of size t)) valid lt))

@@ -12,15 +12,9 @@ ghost use Rattle.holes.specs.Listing.{Lists};
 
 use records::sized::write_sized;
 use records::{Form, size_of};
+use refusals::{Cause, Refusal};
 use runs::{past_own, right_half, split};
-use table::{Checked, check_sized};
-
-// What the call answers: the number of records written, or the refusal, with the record's index for numbers 5 to 8 (else 0).
-#[derive(Clone, Copy)]
-pub enum Listed {
-    Records(usize),
-    Refused { number: u8, index: usize },
-}
+use table::check_sized;
 
 // What a position is to whoever lists its holes.
 #[derive(Clone, Copy)]
@@ -93,29 +87,18 @@ fn fits(table: &[u8], size: usize, records: usize, room: usize) -> bool
     requires records_bound { records ≤ 1024 }
     ensures { result ≡ leb (length (holes_at size table.now 0 records 0 0)) room }
 {
-    if (4 * size - 11) * records + 1024 <= room {
-        return true;
-    }
-    count(table, size, 0, records, 0, 0) <= room
+    (4 * size - 11) * records + 1024 <= room || count(table, size, 0, records, 0, 0) <= room
 }
 
 // Lists the holes of a map's table, read by the form, into the output, as records with the hop zero in table order: the number of records written
 // from its start, or the refusal (3 to 8, then 11).
-pub fn unrouted(table: &[u8], form: Form, output: &mut [u8]) -> Listed
+pub fn unrouted(table: &[u8], form: Form, output: &mut [u8]) -> Result<usize, Refusal>
     ensures { Lists form table.now output.old result output.new }
 {
     let size = size_of(form);
-    let strict = form.strict;
-    match check_sized(table, size, strict, false) {
-        Checked::Refused { number, index } => Listed::Refused { number, index },
-        Checked::Valid(records) => {
-            if fits(table, size, records, output.len() / size) {
-                return Listed::Records(list(table, size, 0, records, 0, 0, output));
-            }
-            Listed::Refused {
-                number: 11,
-                index: 0,
-            }
-        }
+    let records = check_sized(table, size, form.strict, false)?;
+    if !fits(table, size, records, output.len() / size) {
+        return Err(Cause::OutputRoom.at(0));
     }
+    Ok(list(table, size, 0, records, 0, 0, output))
 }

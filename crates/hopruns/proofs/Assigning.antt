@@ -1,7 +1,7 @@
 -- What a run assigns: a hole nothing; else the hop above if it has it, or its hop of lowest rank.
 use Prim.Native.Nat.{ℕ, ◌<◌}
 use mathlib.Core.Path.{◌≡◌, refl, sym, ap, ◌∙◌}
-use mathlib.Core.Bool.{Bool, true, false, cond}
+use mathlib.Core.Bool.{Bool, true, false, cond, ◌||◌}
 use mathlib.Core.List.{List, [], ◌∷◌}
 use mathlib.Core.Logic.{⊎_elim}
 use native.Mathlib.Decide.{dec_lt}
@@ -9,7 +9,9 @@ use native.Mathlib.Omega.{arith}
 use lib.Dec.{eqb}
 use lib.ListN.{length}
 use lib.Seq.{slice, slice_empty}
-use borrow.Author.Tests.{eqb-true, lt-ltb, le-ltb}
+use borrow.Author.Tests.{eqb-true, eq-eqb, ne_eqb, lt-ltb, le-ltb}
+use Rattle.std.specs.List.{list_any}
+use Rattle.words.proofs.BitLaws.{if_eq}
 use Rattle.theory.specs.Routes.{Answer, none, via}
 use Rattle.theory.specs.Results.{has, allowed, assigned}
 use Rattle.theory.specs.Ranks.{best, lowest}
@@ -22,6 +24,11 @@ use Rattle.hopruns.specs.Runs.{cand_of, Below, no_hop, hop_of}
 below-has : (n h : ℕ) (s : List ℕ) → Below n s → has h s ≡ true → h < n
 below-has n h [] p e = let z : ◌≡◌ {A = ℕ} 0 1 = cc in absurd (omega arith)
 below-has n h (k ∷ s) p e = ⊎_elim (λ q. omega (arith, eqb-true h k q, p.0)) (λ q. below-has n h s p.1 q) (or_cases (eqb h k) (has h s) e)
+
+-- A list has a number exactly when one of its numbers is that.
+pub any_has : (h : ℕ) (s : List ℕ) → list_any (λ k. eqb k h) s ≡ has h s
+any_has h [] = refl
+any_has h (k ∷ s) = rw (any_has h s) (if_eq (λ (b : Bool). (eqb k h || has h s) ≡ (b || has h s)) h k (λ e. rw (eq-eqb k h (sym e))) (λ n. rw (ne_eqb k h (λ e. n (sym e)))))
 
 -- So the hop of lowest rank is.
 pub lowest-below : (ranks : List ℕ) (n : ℕ) (s : List ℕ) → 0 < length s → Below n s → lowest ranks s < n

@@ -249,7 +249,7 @@ no_hops runs = refl
 -- All are done, and the mask is laid.
 pub fold_end : {runs : ℕ → List ℕ} {holding top left : ℕ} {o₀ from₀ to₀ o from to : List ℕ} {node : NodeWriter} {rest : ℕ}
     → MayFold runs holding o₀ from₀ to₀ top left → Folding runs holding top left o₀ o from to node rest 0
-    → Folds runs holding top left (record { top = node.top - 1; from = get_or from 0 0; to = get_or to 0 0; left = rest; fits = true }) o₀ (set o (node.top - 1) node.mask)
+    → Folds runs holding top left (record { top = node.top - 1; from = get_or from 0 0; to = get_or to 0 0; left = rest }) o₀ (set o (node.top - 1) node.mask)
 fold_end {runs} {holding} {top} {left} {o₀} {from₀} {to₀} {o} {from} {to} {node} {rest} m s =
     let old = s.placed 0 (omega arith) (omega arith) in
     record {

@@ -1,11 +1,11 @@
 -- A list laid word by word from a place of the room on.
-use Prim.Native.Nat.{ℕ, zero, suc, ◌+◌, ◌-◌, ◌≤◌}
+use Prim.Native.Nat.{ℕ, zero, suc, ◌+◌, ◌-◌, ◌≤◌, ◌<◌}
 use mathlib.Core.Path.{◌≡◌, refl, sym, ap, ◌∙◌}
 use mathlib.Core.List.{List, [], ◌∷◌, ◌++◌, append_assoc, append-nil}
 use native.Mathlib.Nat.{add-zero}
 use native.Mathlib.Omega.{arith}
-use lib.ListN.{length, get_or, take, drop, length-append, length-drop, take-append-drop}
-use lib.Seq.{take-nil, take_at, drop_at, get_or-drop, drop-drop, length-take-le}
+use lib.ListN.{length, get_or, set, take, drop, length-append, length-drop, take-append-drop}
+use lib.Seq.{set_split, take-nil, take_at, drop_at, get_or-drop, drop-drop, length-take-le}
 use Rattle.nodes.specs.Room.{Pushed}
 
 -- A slice is the words from its start, so many.
@@ -76,6 +76,13 @@ laying_more {whole} {o} {o'} {at} {n} ws rest o'' l e =
           ∙ append_assoc (take at o) l.done (ws ++ drop (n + length ws) o)
           ∙ ap (λ (u : List ℕ). take at o ++ u) (sym (append_assoc l.done ws (drop (n + length ws) o)));
     }
+
+-- A word that is stored at n, and one that is not.
+pub word_put : (work : List ℕ) (n x : ℕ) → n < length work → set work n x ≡ take n work ++ (x ∷ [] ++ drop (n + 1) work)
+word_put work n x lt = let one : n + 1 ≡ suc n = omega arith in rw one (set_split work n x lt)
+
+pub word_kept : (work : List ℕ) (n : ℕ) → work ≡ take n work ++ drop (n + 0) work
+word_kept work n = let none : n + 0 ≡ n = omega arith in rw none (sym (take-append-drop n work))
 
 -- Nothing is left.
 pub laying_end : {whole o o' : List ℕ} {at n : ℕ} → Laying whole at n [] o o' → Pushed whole (at + length whole) at o o'

@@ -6,14 +6,13 @@ use mathlib.Core.List.{List}
 use native.Mathlib.Decide.{dec_lt}
 use native.Mathlib.Omega.{arith}
 use lib.Dec.{ltb}
-use lib.ListN.{length, get_or, set, take, length-set}
-use lib.Seq.{slice, slice-cons, slice_empty, get_or-set_same, get_or-set_other, get_or-take, get_or-drop}
+use lib.ListN.{length, get_or, set, take}
+use lib.Seq.{slice, slice-cons, slice_empty, get_or-take, get_or-drop}
 use borrow.Author.Tests.{lt-ltb, le-ltb}
 use Rattle.theory.specs.Routes.{none, via}
 use Rattle.theory.specs.Results.{leaf}
 use Rattle.theory.specs.Shapes.{Sorted}
 use Rattle.positions.specs.Runs.{or_else}
-use Rattle.words.specs.Bits.{bit}
 use Rattle.nodes.specs.Room.{Pushed}
 use Rattle.nodes.proofs.RoomLaws.{pushed_none, pushed_then, pushed-length, pushed-word}
 use Rattle.hopruns.specs.Runs.{Run, Below, no_hop, hop_of, hops_of}
@@ -42,41 +41,6 @@ pub record Pointing (covering : List ℕ) (fill occupied at c : ℕ) (from₀ to
   pub done : Pointed covering fill occupied at c from₀ to₀ from to
   pub from_ahead : (i : ℕ) → c ≤ i → i < 32 → get_or from (31 + i) 0 ≡ get_or from₀ (31 + i) 0
   pub to_ahead : (i : ℕ) → c ≤ i → i < 32 → get_or to (31 + i) 0 ≡ get_or to₀ (31 + i) 0
-
-pub pointing_none : (covering : List ℕ) (fill occupied at : ℕ) (from to : List ℕ) → length from ≡ 63 → length to ≡ 63
-    → Pointing covering fill occupied at 0 from to from to
-pointing_none covering fill occupied at from to f t =
-    record {
-      done = record { starts = f; ends = t; from_is = λ i lt. absurd (omega arith); to_is = λ i lt. absurd (omega arith) };
-      from_ahead = λ i le lt. refl;
-      to_ahead = λ i le lt. refl;
-    }
-
--- A list with one number set, by what is said of each.
-one_set : (P : ℕ → ℕ → Type 0) (l : List ℕ) (c v : ℕ) → 31 + c < length l → P c v → ((i : ℕ) → i < c → P i (get_or l (31 + i) 0))
-    → (i : ℕ) → i < c + 1 → P i (get_or (set l (31 + c) v) (31 + i) 0)
-one_set P l c v lt here before i le = go (dec_lt i c)
-  where
-    go : Dec (i < c) → P i (get_or (set l (31 + c) v) (31 + i) 0)
-    go (yes l') = rw (get_or-set_other l (31 + c) (31 + i) v 0 (λ z. omega arith)) (before i l')
-    go (no ge) = let e : i ≡ c = omega arith in rw (e, get_or-set_same l (31 + c) v 0 lt) here
-
-pub pointing_next : {covering from₀ to₀ from to : List ℕ} {fill occupied at c : ℕ} (u v : ℕ) → Pointing covering fill occupied at c from₀ to₀ from to → c < 32
-    → u ≡ cond (bit occupied c) (get_or from (31 + c) 0) (leaf_from at c) → v ≡ cond (bit occupied c) (get_or to (31 + c) 0) (leaf_to covering fill at c)
-    → Pointing covering fill occupied at (c + 1) from₀ to₀ (set from (31 + c) u) (set to (31 + c) v)
-pointing_next {covering} {from₀} {to₀} {from} {to} {fill} {occupied} {at} {c} u v s lt eu ev =
-    record {
-      done = record {
-        starts = length-set from (31 + c) u ∙ s.done.starts;
-        ends = length-set to (31 + c) v ∙ s.done.ends;
-        from_is = one_set (λ i x. x ≡ cond (bit occupied i) (get_or from₀ (31 + i) 0) (leaf_from at i)) from c u (omega (arith, s.done.starts))
-            (eu ∙ ap (λ (x : ℕ). cond (bit occupied c) x (leaf_from at c)) (s.from_ahead c (omega arith) lt)) s.done.from_is;
-        to_is = one_set (λ i x. x ≡ cond (bit occupied i) (get_or to₀ (31 + i) 0) (leaf_to covering fill at i)) to c v (omega (arith, s.done.ends))
-            (ev ∙ ap (λ (x : ℕ). cond (bit occupied c) x (leaf_to covering fill at c)) (s.to_ahead c (omega arith) lt)) s.done.to_is;
-      };
-      from_ahead = λ i le l. get_or-set_other from (31 + c) (31 + i) u 0 (λ z. omega arith) ∙ s.from_ahead i (omega arith) l;
-      to_ahead = λ i le l. get_or-set_other to (31 + c) (31 + i) v 0 (λ z. omega arith) ∙ s.to_ahead i (omega arith) l;
-    }
 
 -- ---- The runs that stand there.
 

@@ -8,6 +8,7 @@ use native.Mathlib.Nat.{eq-or-lt_of_le}
 use native.Mathlib.Decide.{dec_lt}
 use native.Mathlib.Omega.{arith}
 use lib.Dec.{eqb, leb, ltb}
+use mir.Val.{bool_byte}
 use lib.ListN.{length, get_or}
 use lib.Seq.{slice, slice-cons, slice_empty, length-slice}
 use borrow.Author.Tests.{eq-eqb, ne_eqb, lt-ltb, le-ltb, le-leb, lt-leb}
@@ -192,6 +193,11 @@ one_moves x y = go (dec_lt x y)
     go : Dec (x < y) → 1 ≤ cond (leb x y) 1 0 + cond (leb y x) 1 0
     go (yes lt) = rw (le-leb x y (omega arith), lt-leb y x lt) (omega arith)
     go (no ge) = rw (le-leb y x (omega arith)) (omega arith)
+
+-- The number of a test: 1 if it holds.
+pub number_of : (b : Bool) → bool_byte b ≡ cond b 1 0
+number_of true = refl
+number_of false = refl
 
 pub at_most_one : (b : Bool) → cond b 1 0 ≤ 1
 at_most_one true = omega arith

@@ -1,11 +1,11 @@
 -- The fold of a node (m + 5, a) by the definition's sets: it may be folded once its slots show their sets, and takes exactly the hops that the
 -- definition counts.
 use Prim.Native.Nat.{ℕ, ◌+◌, ◌-◌, ◌/◌, ◌^◌, ◌≤◌, ◌<◌}
-use mathlib.Core.Path.{◌≡◌, sym, ap, subst, ◌∙◌}
-use mathlib.Core.Bool.{Bool, true, false}
+use mathlib.Core.Path.{◌≡◌, sym, ap, ◌∙◌}
 use mathlib.Core.List.{List}
 use native.Mathlib.Omega.{arith}
 use lib.ListN.{length, get_or}
+use Rattle.std.specs.declared.option.Option.TheVariants.{None, Some}
 use lib.Seq.{slice}
 use Rattle.theory.specs.Routes.{Answer, Aligned}
 use Rattle.theory.specs.Results.{sets}
@@ -15,7 +15,7 @@ use Rattle.weights.specs.Needed.{node_hops, holding}
 use Rattle.weights.proofs.Needed.{holding-most}
 use Rattle.hopruns.specs.declared.room.Folded.{Folded}
 use Rattle.hopruns.specs.Runs.{Run, hops_of}
-use Rattle.hopruns.specs.Fold.{run_at, first_hops, MayFold, Folds, FoldSays, DidFold}
+use Rattle.hopruns.specs.Fold.{run_at, MayFold, DidFold}
 use Rattle.hopruns.proofs.NodeSets.{run_at_lem, node-heap, node-hops, node-narrow}
 
 -- Slot c's run stands in the room, above top, and shows the slot's set.
@@ -23,14 +23,6 @@ pub record SlotShown (f : ℕ → Answer) (m a : ℕ) (o from to : List ℕ) (to
   pub run : Run o (get_or from (31 + c) 0) (get_or to (31 + c) 0)
   pub under : top ≤ get_or from (31 + c) 0
   pub shows : slice (get_or from (31 + c) 0) (get_or to (31 + c) 0) o ≡ hops_of (sets f m (place_at m a 5 c))
-
--- What a fold says, by whether the words sufficed.
-module _ (runs : ℕ → List ℕ) (n top left : ℕ) (r : Folded) (o o' : List ℕ) (did : DidFold runs n top left r o o') where
-  pub says-fit : r.fits ≡ true → Folds runs n top left r o o'
-  says-fit e = subst (λ (b : Bool). FoldSays runs n top left b r o o') e did
-
-  pub says-short : r.fits ≡ false → left < first_hops runs n
-  says-short e = subst (λ (b : Bool). FoldSays runs n top left b r o o') e did
 
 module _ (f : ℕ → Answer) (spare m a : ℕ) (alike : (x y : ℕ) → x / 2 ^ spare ≡ y / 2 ^ spare → f x ≡ f y) (lined : Aligned (m + 5) a) where
   pub may_fold : (o from to : List ℕ) (top left : ℕ) → length from ≡ 63 → length to ≡ 63 → ((c : ℕ) → c < 32 → SlotShown f m a o from to top c)
@@ -57,14 +49,10 @@ module _ (f : ℕ → Answer) (spare m a : ℕ) (alike : (x y : ℕ) → x / 2 ^
 
 module _ (f : ℕ → Answer) (spare m a : ℕ) where
   -- The words that are left are those without the definition's hops, or these are more than there were.
-  pub folds_fit : (top left : ℕ) (r : Folded) (o o' : List ℕ) → DidFold (run_at f m a) (holding spare (m + 5)) top left r o o' → r.fits ≡ true
+  pub folds_fit : (top left : ℕ) (r : Folded) (o o' : List ℕ) → DidFold (run_at f m a) (holding spare (m + 5)) top left (Some r) o o'
       → r.left + node_hops f spare (m + 5) a ≡ left
-  folds_fit top left r o o' did fits =
-      let s : Folds (run_at f m a) (holding spare (m + 5)) top left r o o' = says-fit (run_at f m a) (holding spare (m + 5)) top left r o o' did fits in
-      omega (arith, s.spent, node-hops f m a spare)
+  folds_fit top left r o o' did = omega (arith, did.spent, node-hops f m a spare)
 
-  pub folds_short : (top left : ℕ) (r : Folded) (o o' : List ℕ) → DidFold (run_at f m a) (holding spare (m + 5)) top left r o o' → r.fits ≡ false
+  pub folds_short : (top left : ℕ) (o o' : List ℕ) → DidFold (run_at f m a) (holding spare (m + 5)) top left None o o'
       → left < node_hops f spare (m + 5) a
-  folds_short top left r o o' did fits =
-      let s : left < first_hops (run_at f m a) (holding spare (m + 5)) = says-short (run_at f m a) (holding spare (m + 5)) top left r o o' did fits in
-      omega (arith, s, node-hops f m a spare)
+  folds_short top left o o' did = omega (arith, did, node-hops f m a spare)

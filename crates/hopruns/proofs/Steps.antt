@@ -1,20 +1,20 @@
 -- One turn of each laying loop.
 use Prim.Native.Nat.{ℕ, suc, ◌+◌, ◌-◌, ◌≤◌, ◌<◌}
 use mathlib.Core.Path.{◌≡◌, sym, ap, ap₂, ◌∙◌}
-use mathlib.Core.Bool.{Bool, true, false, cond, not}
+use mathlib.Core.Bool.{true, false, cond}
 use mathlib.Core.List.{List, [], ◌∷◌, ◌++◌}
 use mathlib.Core.Logic.{⊎_elim}
 use native.Mathlib.Decide.{dec_lt}
 use native.Mathlib.Omega.{arith}
-use lib.Dec.{eqb, leb, ltb}
-use lib.ListN.{length, get_or, take, drop}
+use lib.Dec.{eqb, leb}
+use lib.ListN.{length, get_or, set, take, drop}
 use lib.Seq.{slice, slice_empty}
-use borrow.Author.Tests.{lt-ltb, le-ltb, eq-eqb}
+use borrow.Author.Tests.{eq-eqb}
 use Rattle.theory.specs.Results.{has, union, common}
 use Rattle.theory.specs.Shapes.{Above, Sorted}
 use Rattle.hopruns.specs.Runs.{Run}
 use Rattle.hopruns.proofs.Merge.{shared_step, run-cons, run-next, run_step, length_if, above_low, union_left, union_right, apart-left, apart-right, apart_not}
-use Rattle.hopruns.proofs.Laying.{Laying, laying_more, laying_get_d}
+use Rattle.hopruns.proofs.Laying.{Laying, laying_more, laying_get_d, word_put}
 
 -- ---- What is shared.
 
@@ -47,47 +47,46 @@ sharing_step {o} {work} {a} {e} {b} {f} {at} {n} {i} {j} s x y work' lt lt' ex e
 
 -- ---- What is in either.
 
--- One word taken from the first of two runs that share none, or from the second.
-pub record Took (o : List ℕ) (i e j f : ℕ) (left : Bool) : Type 0 where
-  pub taken : union (slice i e o) (slice j f o) ≡ get_or o (cond left i j) 0 ∷ union (slice (i + cond left 1 0) e o) (slice (j + cond (not left) 1 0) f o)
-  pub first : Run o (i + cond left 1 0) e
-  pub second : Run o (j + cond (not left) 1 0) f
-  pub apart : common (slice (i + cond left 1 0) e o) (slice (j + cond (not left) 1 0) f o) ≡ []
-  pub fewer : ((e - (i + cond left 1 0)) + (f - (j + cond (not left) 1 0))) + 1 ≡ (e - i) + (f - j)
-  pub from : cond left i j < length o
+-- One word taken from the first of two runs that share none, or from the second: it stands at `from`, and the runs begin at i' and j' then.
+pub record Took (o : List ℕ) (i e j f from i' j' : ℕ) : Type 0 where
+  pub taken : union (slice i e o) (slice j f o) ≡ get_or o from 0 ∷ union (slice i' e o) (slice j' f o)
+  pub first : Run o i' e
+  pub second : Run o j' f
+  pub low : i ≤ i'
+  pub low' : j ≤ j'
+  pub apart : common (slice i' e o) (slice j' f o) ≡ []
+  pub fewer : ((e - i') + (f - j')) + 1 ≡ (e - i) + (f - j)
 
 module _ (o : List ℕ) (i e j f : ℕ) (r : Run o i e) (q : Run o j f) (none : common (slice i e o) (slice j f o) ≡ []) where
-  took_left : i < e → Above (get_or o i 0) (slice j f o) → Took o i e j f true
+  took_left : i < e → Above (get_or o i 0) (slice j f o) → Took o i e j f i (i + 1) j
   took_left lt above =
       let c = run-cons o i e r lt in
       let s : Sorted (get_or o i 0 ∷ slice (suc i) e o) = rw c at r.sorted in
       let z : i + 1 ≡ suc i = omega arith in
-      let z' : j + 0 ≡ j = omega arith in
       let u : common (get_or o i 0 ∷ slice (suc i) e o) (slice j f o) ≡ [] = ap (λ (v : List ℕ). common v (slice j f o)) (sym c) ∙ none in
       record {
-        taken = ap (λ (v : List ℕ). union v (slice j f o)) c ∙ union_left (get_or o i 0) (slice (suc i) e o) (slice j f o) s.0 above
-            ∙ ap₂ (λ (k l : ℕ). get_or o i 0 ∷ union (slice k e o) (slice l f o)) (sym z) (sym z');
+        taken = rw z (ap (λ (v : List ℕ). union v (slice j f o)) c ∙ union_left (get_or o i 0) (slice (suc i) e o) (slice j f o) s.0 above);
         first = rw z (run-next o i e r lt);
-        second = rw z' q;
-        apart = ap₂ (λ (k l : ℕ). common (slice k e o) (slice l f o)) z z' ∙ apart-left (get_or o i 0) (slice (suc i) e o) (slice j f o) u;
+        second = q;
+        low = omega arith;
+        low' = omega arith;
+        apart = rw z (apart-left (get_or o i 0) (slice (suc i) e o) (slice j f o) u);
         fewer = omega (arith, r.order);
-        from = omega (arith, r.within);
       }
 
-  took_right : j < f → Above (get_or o j 0) (slice i e o) → Took o i e j f false
+  took_right : j < f → Above (get_or o j 0) (slice i e o) → Took o i e j f j i (j + 1)
   took_right lt above =
       let c = run-cons o j f q lt in
       let z : j + 1 ≡ suc j = omega arith in
-      let z' : i + 0 ≡ i = omega arith in
       let u : common (slice i e o) (get_or o j 0 ∷ slice (suc j) f o) ≡ [] = ap (λ (v : List ℕ). common (slice i e o) v) (sym c) ∙ none in
       record {
-        taken = ap (λ (v : List ℕ). union (slice i e o) v) c ∙ union_right (get_or o j 0) (slice i e o) (slice (suc j) f o) above
-            ∙ ap₂ (λ (k l : ℕ). get_or o j 0 ∷ union (slice k e o) (slice l f o)) (sym z') (sym z);
-        first = rw z' r;
+        taken = rw z (ap (λ (v : List ℕ). union (slice i e o) v) c ∙ union_right (get_or o j 0) (slice i e o) (slice (suc j) f o) above);
+        first = r;
         second = rw z (run-next o j f q lt);
-        apart = ap₂ (λ (k l : ℕ). common (slice k e o) (slice l f o)) z' z ∙ apart-right (get_or o j 0) (slice i e o) (slice (suc j) f o) u;
+        low = omega arith;
+        low' = omega arith;
+        apart = rw z (apart-right (get_or o j 0) (slice i e o) (slice (suc j) f o) u);
         fewer = omega (arith, q.order);
-        from = omega (arith, q.within);
       }
 
   -- A run from i on that begins above h.
@@ -109,26 +108,13 @@ module _ (o : List ℕ) (i e j f : ℕ) (r : Run o i e) (q : Run o j f) (none : 
       let z : ◌≡◌ {A = ℕ} 0 1 = cc in
       omega arith
 
-  -- By the test of the code.
-  pub either_step : (left : Bool) → 0 < (e - i) + (f - j) → left ≡ cond (ltb i e) (cond (ltb j f) (ltb (get_or o i 0) (get_or o j 0)) true) false → Took o i e j f left
-  either_step left some eq = go (dec_lt i e) (dec_lt j f) (dec_lt (get_or o i 0) (get_or o j 0))
-    where
-      go : Dec (i < e) → Dec (j < f) → Dec (get_or o i 0 < get_or o j 0) → Took o i e j f left
-      go (yes a) (yes b) (yes c) =
-          let t : left ≡ true = eq ∙ rw (lt-ltb i e a, lt-ltb j f b, lt-ltb (get_or o i 0) (get_or o j 0) c) in
-          rw t (took_left a (above-run (get_or o i 0) j f q (λ l. c)))
-      go (yes a) (yes b) (no c) =
-          let t : left ≡ false = eq ∙ rw (lt-ltb i e a, lt-ltb j f b, le-ltb (get_or o i 0) (get_or o j 0) (omega arith)) in
-          let le : get_or o j 0 ≤ get_or o i 0 = omega arith in
-          let lt : get_or o j 0 < get_or o i 0 = ⊎_elim (λ s. absurd (differ a b (sym s))) (λ l. l) (native.Mathlib.Nat.eq-or-lt_of_le le) in
-          rw t (took_right b (above-run (get_or o j 0) i e r (λ l. lt)))
-      go (yes a) (no b) c =
-          let t : left ≡ true = eq ∙ rw (lt-ltb i e a, le-ltb j f (omega arith)) in
-          rw t (took_left a (above-run (get_or o i 0) j f q (λ l. absurd (omega arith))))
-      go (no a) (yes b) c =
-          let t : left ≡ false = eq ∙ rw (le-ltb i e (omega arith)) in
-          rw t (took_right b (above-run (get_or o j 0) i e r (λ l. absurd (omega arith))))
-      go (no a) (no b) c = absurd (omega arith)
+  -- By the tests of the code.
+  pub either_left : i < e → (j < f → get_or o i 0 < get_or o j 0) → Took o i e j f i (i + 1) j
+  either_left lt first = took_left lt (above-run (get_or o i 0) j f q first)
+
+  pub either_right : j < f → (i < e → get_or o j 0 ≤ get_or o i 0) → Took o i e j f j i (j + 1)
+  either_right lt first =
+      took_right lt (above-run (get_or o j 0) i e r (λ l. ⊎_elim (λ s. absurd (differ l lt (sym s))) (λ less. less) (native.Mathlib.Nat.eq-or-lt_of_le (first l))))
 
 pub record Joining (o : List ℕ) (a e b f at : ℕ) (work : List ℕ) (n i j : ℕ) : Type 0 where
   pub left : Run o i e
@@ -139,41 +125,47 @@ pub record Joining (o : List ℕ) (a e b f at : ℕ) (work : List ℕ) (n i j : 
   pub count : n + ((e - i) + (f - j)) ≡ at + ((e - a) + (f - b))
   pub laying : Laying (union (slice a e o) (slice b f o)) at n (union (slice i e o) (slice j f o)) o work
 
-pub joining_step : {o work : List ℕ} {a e b f at n i j : ℕ} (s : Joining o a e b f at work n i j) (left : Bool) (x : ℕ) (work' : List ℕ)
-    → Took o i e j f left → x ≡ get_or o (cond left i j) 0 → work' ≡ take n work ++ (x ∷ [] ++ drop (n + 1) work)
-    → Joining o a e b f at work' (n + 1) (i + cond left 1 0) (j + cond (not left) 1 0)
-joining_step {o} {work} {a} {e} {b} {f} {at} {n} {i} {j} s left x work' t ex put =
-    let rest : List ℕ = union (slice (i + cond left 1 0) e o) (slice (j + cond (not left) 1 0) f o) in
+pub joining_step : {o work : List ℕ} {a e b f at n i j : ℕ} (s : Joining o a e b f at work n i j) (from i' j' x : ℕ) (work' : List ℕ)
+    → Took o i e j f from i' j' → x ≡ get_or o from 0 → work' ≡ take n work ++ (x ∷ [] ++ drop (n + 1) work)
+    → Joining o a e b f at work' (n + 1) i' j'
+joining_step {o} {work} {a} {e} {b} {f} {at} {n} {i} {j} s from i' j' x work' t ex put =
+    let rest : List ℕ = union (slice i' e o) (slice j' f o) in
     let step : union (slice i e o) (slice j f o) ≡ x ∷ rest = t.taken ∙ ap (λ (k : ℕ). k ∷ rest) (sym ex) in
     let l : Laying (union (slice a e o) (slice b f o)) at n (x ∷ [] ++ rest) o work = rw step at s.laying in
     record {
       left = t.first;
       right = t.second;
-      low = omega (arith, s.low);
-      low' = omega (arith, s.low');
+      low = omega (arith, s.low, t.low);
+      low' = omega (arith, s.low', t.low');
       apart = t.apart;
       count = omega (arith, s.count, t.fewer);
       laying = laying_more (x ∷ []) rest work' l put;
     }
 
--- What the code's test on the room as it is takes.
-pub joining_took : {o work : List ℕ} {a e b f at n i j : ℕ} (s : Joining o a e b f at work n i j) (left : Bool)
-    → n < at + ((e - a) + (f - b)) → at + ((e - a) + (f - b)) ≤ a → at + ((e - a) + (f - b)) ≤ b
-    → left ≡ cond (ltb i e) (cond (ltb j f) (ltb (get_or work i 0) (get_or work j 0)) true) false → Took o i e j f left
-joining_took {o} {work} {a} {e} {b} {f} {at} {n} {i} {j} s left lt la lb eq =
-    let x = laying_get_d s.laying i (omega (arith, s.low)) in
-    let y = laying_get_d s.laying j (omega (arith, s.low')) in
-    either_step o i e j f s.left s.right s.apart left (omega (arith, s.count)) (rw (x, y) at eq)
+-- The word at the start of either run, as the room is, is laid next.
+module _ {o work : List ℕ} {a e b f at n i j : ℕ} (s : Joining o a e b f at work n i j) (lt : n < at + ((e - a) + (f - b)))
+    (la : at + ((e - a) + (f - b)) ≤ a) (lb : at + ((e - a) + (f - b)) ≤ b) (fits : n < length work) where
+  first_is : get_or work i 0 ≡ get_or o i 0
+  first_is = laying_get_d s.laying i (omega (arith, s.low))
 
--- The place that is read stands at n or after it.
-pub took_from : {o work : List ℕ} {a e b f at n i j : ℕ} (s : Joining o a e b f at work n i j) (left : Bool) (m : ℕ) → m ≤ a → m ≤ b → m ≤ cond left i j
-took_from s true m la lb = omega (arith, s.low)
-took_from s false m la lb = omega (arith, s.low')
+  second_is : get_or work j 0 ≡ get_or o j 0
+  second_is = laying_get_d s.laying j (omega (arith, s.low'))
 
--- All is laid.
-pub joining_end : {o work : List ℕ} {a e b f at n i j : ℕ} (s : Joining o a e b f at work n i j) → at + ((e - a) + (f - b)) ≤ n
-    → union (slice i e o) (slice j f o) ≡ []
-joining_end {o} {work} {a} {e} {b} {f} {at} {n} {i} {j} s le =
-    let z : i ≡ e = omega (arith, s.left.order, s.count) in
-    let z' : j ≡ f = omega (arith, s.right.order, s.count) in
-    rw (z, z', slice_empty e o, slice_empty f o)
+  pub joining_left : i < e → (j < f → get_or work i 0 < get_or work j 0) → Joining o a e b f at (set work n (get_or work i 0)) (n + 1) (i + 1) j
+  joining_left l first =
+      joining_step s i (i + 1) j (get_or work i 0) (set work n (get_or work i 0))
+      (either_left o i e j f s.left s.right s.apart l (λ m. omega (arith, first m, first_is, second_is)))
+      first_is (word_put work n (get_or work i 0) fits)
+
+  pub joining_right : (i < e → (j < f) × (get_or work j 0 ≤ get_or work i 0)) → Joining o a e b f at (set work n (get_or work j 0)) (n + 1) i (j + 1)
+  joining_right second =
+      joining_step s j i (j + 1) (get_or work j 0) (set work n (get_or work j 0))
+      (either_right o i e j f s.left s.right s.apart some (λ m. omega (arith, (second m).1, first_is, second_is)))
+      second_is (word_put work n (get_or work j 0) fits)
+    where
+      some : j < f
+      some = go (dec_lt i e)
+        where
+          go : Dec (i < e) → j < f
+          go (yes m) = (second m).0
+          go (no m) = omega (arith, s.count)

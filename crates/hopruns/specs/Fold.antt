@@ -1,5 +1,5 @@
 -- The fold of a node: its 63 places, 31 positions and 32 slots, each with a run; that of a position combines those of the two places below it.
-use Rattle.std.specs.Prelude.{ℕ, suc, ◌+◌, ◌-◌, ◌*◌, ◌^◌, ◌≤◌, ◌<◌, ◌≡◌, Bool, true, false, cond, List, ltb, length, get_or}
+use Rattle.std.specs.Prelude.{ℕ, suc, ◌+◌, ◌-◌, ◌*◌, ◌^◌, ◌≤◌, ◌<◌, ◌≡◌, cond, List, Option, Some, None, ltb, length, get_or}
 use Rattle.std.proofs.Math.Seq.{slice}
 use Rattle.theory.specs.Routes.{Answer}
 use Rattle.theory.specs.Results.{sets}
@@ -56,9 +56,6 @@ pub record Folds (runs : ℕ → List ℕ) (holding top left : ℕ) (r : Folded)
   pub spent : r.left + first_hops runs holding ≡ left
 
 -- What a fold says: they suffice, or they do not.
-abbrev pub FoldSays : (ℕ → List ℕ) → ℕ → ℕ → ℕ → Bool → Folded → List ℕ → List ℕ → Type 0
-FoldSays runs holding top left true r o o' = Folds runs holding top left r o o'
-FoldSays runs holding top left false r o o' = left < first_hops runs holding
-
-abbrev pub DidFold : (ℕ → List ℕ) → ℕ → ℕ → ℕ → Folded → List ℕ → List ℕ → Type 0
-DidFold runs holding top left r o o' = FoldSays runs holding top left r.fits r o o'
+abbrev pub DidFold : (ℕ → List ℕ) → ℕ → ℕ → ℕ → Option Folded → List ℕ → List ℕ → Type 0
+DidFold runs holding top left (Some r) o o' = Folds runs holding top left r o o'
+DidFold runs holding top left None o o' = left < first_hops runs holding

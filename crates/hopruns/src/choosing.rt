@@ -14,25 +14,17 @@ fn has(work: &[u32], from: usize, to: usize, h: u32) -> bool
     requires { (from ≤ to) × (to ≤ length work.now) }
     ensures { result ≡ Rattle.theory.specs.Results.has h (slice from to work.now) }
 {
-    let mut i = from;
-    while i < to {
-        if work[i] == h {
-            return true;
-        }
-        i += 1;
-    }
-    false
+    work[from..to].contains(&h)
 }
 
 // The rank of a hop.
 fn rank_of(ranks: &[u16], h: u32) -> u32
     ensures { result ≡ rank_of ranks.now h }
 {
-    let at = h as usize;
-    if at < ranks.len() {
-        return ranks[at] as u32;
+    match ranks.get(h as usize) {
+        Some(rank) => *rank as u32,
+        None => h,
     }
-    h
 }
 
 // Of two hops the second if its rank is lower, else the first.
@@ -53,13 +45,11 @@ pub fn choose(work: &[u32], from: usize, to: usize, ranks: &[u16]) -> u32
     ensures { result ≡ lowest ranks.now (slice from to work.now) }
 {
     let mut h = work[from];
-    if ranks.len() == 0 {
+    if ranks.is_empty() {
         return h;
     }
-    let mut i = from + 1;
-    while i < to {
+    for i in from + 1..to {
         h = better(ranks, h, work[i]);
-        i += 1;
     }
     h
 }

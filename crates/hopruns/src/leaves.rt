@@ -6,7 +6,6 @@ ghost use Rattle.nodes.specs.Room.{Pushed};
 ghost use Rattle.hopruns.specs.Leaves.{leaf_hop, leaf_words, Pointed};
 
 use super::NO_HOP;
-use super::combining::{one_if, pick};
 use words::bits::has_bit;
 
 // The hop of a region where all addresses have one answer: the hop that covers it, or the one that fills what has none.
@@ -21,12 +20,9 @@ pub fn lay_leaves(covering: &[u16; 31], fill: u16, work: &mut [u32], top: usize)
     requires { (16 ≤ top) × (top ≤ length work.old) }
     ensures { Pushed (leaf_words covering.now fill 16) top result work.old work.new }
 {
-    let mut at = top;
-    let mut p: usize = 16;
-    while 0 < p {
-        p -= 1;
-        at -= 1;
-        work[at] = leaf_value(covering[15 + p], fill) as u32;
+    let at = top - 16;
+    for p in (0..16).rev() {
+        work[at + p] = leaf_value(covering[15 + p], fill) as u32;
     }
     at
 }
@@ -44,13 +40,12 @@ pub fn point_leaves(
     requires at_bound { at + 16 < 2 ^ 64 }
     ensures { Pointed covering.now fill occupied at 32 from.old to.old from.new to.new }
 {
-    let mut c: usize = 0;
-    while c < 32 {
-        let hop = leaf_value(covering[15 + c / 2], fill);
-        let kept = has_bit(occupied, c as u32);
-        let start = at + c / 2;
-        from[31 + c] = pick(kept, from[31 + c], start);
-        to[31 + c] = pick(kept, to[31 + c], start + one_if(hop < NO_HOP));
-        c += 1;
+    for c in 0..32 {
+        if !has_bit(occupied, c as u32) {
+            let hop = leaf_value(covering[15 + c / 2], fill);
+            let start = at + c / 2;
+            from[31 + c] = start;
+            to[31 + c] = start + usize::from(hop < NO_HOP);
+        }
     }
 }

@@ -10,17 +10,12 @@ pub fn is_ranking(ranks: &[u16], n: usize) -> bool
     ensures { result ≡ is_ranking n ranks.now }
 {
     if ranks.len() != n {
-        return ranks.len() == 0;
+        return ranks.is_empty();
     }
     let mut seen = [false; 1024];
-    let mut i = n;
-    while 0 < i {
-        i -= 1;
+    for i in (0..n).rev() {
         let r = ranks[i] as usize;
-        if n <= r {
-            return false;
-        }
-        if seen[r] {
+        if n <= r || seen[r] {
             return false;
         }
         seen[r] = true;

@@ -65,11 +65,7 @@ pub fn leaf_set(covering: u8, fill: u8) -> u64
 pub fn has(set: u64, h: u8) -> bool
     ensures { (s : List ℕ) → ShowsHops set s → result ≡ Rattle.theory.specs.Results.allowed (hop_of h) s }
 {
-    if h < NO_HOP {
-        (set >> h) % 2 == 1
-    } else {
-        false
-    }
+    h < NO_HOP && (set >> h) % 2 == 1
 }
 
 // The smallest hop of a set.

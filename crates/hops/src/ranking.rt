@@ -69,9 +69,7 @@ pub fn is_ranking(ranks: &[u16]) -> bool
         return ranks.len() == 0;
     }
     let mut seen: u64 = 0;
-    let mut i: usize = 64;
-    while 0 < i {
-        i -= 1;
+    for i in (0..64).rev() {
         let r = ranks[i];
         if GREATEST < r {
             return false;
@@ -80,7 +78,7 @@ pub fn is_ranking(ranks: &[u16]) -> bool
         if has(seen, h) {
             return false;
         }
-        seen = seen | one(h);
+        seen |= one(h);
     }
     true
 }

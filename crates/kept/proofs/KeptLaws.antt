@@ -2,24 +2,15 @@
 use mathlib.Core.Path.{◌≡◌, refl, ap, ◌∙◌}
 use mathlib.Core.Bool.{true, ◌&&◌}
 use mathlib.Core.List.{List}
-use Prim.Native.Nat.{ℕ, zero, suc, ◌≤◌, ◌<◌}
+use Prim.Native.Nat.{ℕ, zero, suc}
 use native.Mathlib.Omega.{arith}
-use borrow.Author.Tests.{le-leb, lt-leb, eq-eqb}
+use borrow.Author.Tests.{eq-eqb}
 use lib.ListN.{drop, replicate}
 use Rattle.records.specs.Sized.{laid}
 use Rattle.rooms.specs.Rooms.{all_are}
 use Rattle.text.specs.Text.{Put}
-use Rattle.kept.specs.Kept.{begin_of}
 
 -- ---- Where text is kept.
-
-pub begin_behind : (at : ℕ) → at ≤ 65503 → at ≡ begin_of at
-unfolding begin_of
-begin_behind at small = rw (le-leb at 65503 small)
-
-pub begin_anew : (at : ℕ) → 65503 < at → 0 ≡ begin_of at
-unfolding begin_of
-begin_anew at large = rw (lt-leb at 65503 large)
 
 -- The same place, end and buffer, otherwise written.
 pub put_at : {ws : List ℕ} {at at₁ r r₁ : ℕ} {o o' o₁ : List ℕ} → at ≡ at₁ → r₁ ≡ r → o₁ ≡ o' → Put ws at r o o' → Put ws at₁ r₁ o o₁
@@ -32,12 +23,10 @@ put_at {ws} {at} {at₁} {r} {r₁} {o} {o'} {o₁} e f g p =
 
 -- A list of one value is that throughout, and so is its end.
 pub all_replicate : (v n : ℕ) → all_are v (replicate n v) ≡ true
-unfolding all_are
 all_replicate v zero = refl
 all_replicate v (suc n) = ap (◌&& all_are v (replicate n v)) (eq-eqb v v refl) ∙ all_replicate v n
 
 pub all_dropped : (v k n : ℕ) → all_are v (drop k (replicate n v)) ≡ true
-unfolding all_are
 all_dropped v zero n = all_replicate v n
 all_dropped v (suc k) zero = refl
 all_dropped v (suc k) (suc n) = all_dropped v k n

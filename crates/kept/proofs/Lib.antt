@@ -1,3 +1,2 @@
--- Laws of where text is kept, of rooms, and of ranks that are copied.
+-- Laws of where text is kept, and of rooms.
 pub mod KeptLaws
-pub mod RankLaws

@@ -3,14 +3,19 @@
 
 #![tactic(auto)]
 
+pub mod call;
 pub mod counted;
+pub mod ending;
 pub mod ranks;
 
 ghost use Rattle.std.specs.Prelude.{◌≡◌, true, ◌+◌, ◌*◌, ◌≤◌, ◌<◌, length, drop};
+ghost use Rattle.std.specs.List.{list_all};
 ghost use Rattle.rooms.specs.Rooms.{all_are};
 ghost use Rattle.text.specs.Text.{Put};
-ghost use Rattle.kept.specs.Kept.{call_by, is_long, form_by, address_of, begin_of};
+ghost use Rattle.kept.specs.Kept.{CalledBy, call_by, is_long, form_by, address_of, begin_of};
 
+use call::Call;
+use ending::Fault;
 use records::sized::oct_at;
 use records::{Form, join4};
 use std::io::Stdout;
@@ -22,26 +27,18 @@ pub const FILLED_BYTE: u8 = 165;
 
 pub const FILLED_WORD: u32 = 2779096485;
 
-// The bytes of text that are kept, and whether there is more to do.
-#[derive(Clone, Copy)]
-pub struct Turn {
-    pub at: usize,
-    pub more: bool,
-}
-
-// The turns that are left: one less, or none if there is no more to do.
-pub fn turns_left(turns: u64, more: bool) -> u64
-    requires { 0 < turns }
-    ensures { result < turns }
-{
-    if more { turns - 1 } else { 0 }
-}
-
-// The call that a case's first byte names.
+// The number of the call that a case's first byte names, with or without 32, 64 and 128 added.
 pub fn call_of(first: u8) -> u8
     ensures { result ≡ call_by first }
 {
     first % 32
+}
+
+// The call of that number.
+pub fn named_call(first: u8) -> Result<Call, Fault>
+    ensures { CalledBy first result }
+{
+    Call::try_from(call_of(first))
 }
 
 // Have addresses 64 bits? They have where the first byte has 32 added.
@@ -62,6 +59,7 @@ pub fn form_of(first: u8) -> Form
 }
 
 // The query's address: the eight bytes behind the first 16 where addresses have 64 bits, else four of these.
+#[tactic(auto, unfolding(crate::specs::Kept::address_of))]
 pub fn address_of(head: &[u8; 16], query: &[u8]) -> u64
     requires { 8 ≡ length query.now }
     ensures { result ≡ address_of head.now query.now }
@@ -78,27 +76,27 @@ pub fn join2(a: u8, b: u8) -> usize
     ensures value { result ≡ a * 256 + b }
     ensures upper_bound { result ≤ 65535 }
 {
-    (a as usize) * 256 + (b as usize)
+    usize::from(u16::from_be_bytes([a, b]))
 }
 
-// How many bytes follow the first 16 of a case: those of its table; of call 10, of so many commands of 8 bytes.
+// How many bytes follow the first 16 of a case: those of its table; of a live map, of so many commands of 8 bytes.
 pub fn bytes_behind(head: &[u8; 16]) -> usize
     ensures { result ≤ 524280 }
 {
-    if call_of(head[0]) == 10 {
-        return 8 * join2(head[12], head[13]);
+    match named_call(head[0]) {
+        Ok(Call::Live) => 8 * join2(head[12], head[13]),
+        _ => join2(head[14], head[15]),
     }
-    join2(head[14], head[15])
 }
 
-// How many bytes of steps stand in a case: with call 7 so many steps of 8 bytes, else none.
+// How many bytes of steps stand in a case: where a plan is checked so many steps of 8 bytes, else none.
 pub fn steps_behind(head: &[u8; 16]) -> usize
     ensures { result ≤ 524280 }
 {
-    if call_of(head[0]) == 7 {
-        return 8 * join2(head[10], head[11]);
+    match named_call(head[0]) {
+        Ok(Call::CheckPlan) => 8 * join2(head[10], head[11]),
+        _ => 0,
     }
-    0
 }
 
 // Writes the kept text.
@@ -109,6 +107,7 @@ pub fn send(outlet: &mut Outlet<Stdout>, kept: &[u8], at: usize)
 }
 
 // Room for the text of an answer with at most 65,535 bytes of records, three for each and 36 more: once there is less, the kept text is written.
+#[tactic(auto, unfolding(crate::specs::Kept::begin_of))]
 pub fn room_for(outlet: &mut Outlet<Stdout>, kept: &[u8], at: usize) -> usize
     requires at_in_bounds { at ≤ length kept.now }
     requires in_bounds { 262144 ≤ length kept.now }
@@ -133,18 +132,25 @@ pub fn keep_line(outlet: &mut Outlet<Stdout>, line: &[u8], at: usize, kept: &mut
     put_bytes(line, begin, kept)
 }
 
-// Keeps the line that ends a run.
-pub fn last_line(outlet: &mut Outlet<Stdout>, line: &[u8], at: usize, kept: &mut [u8]) -> Turn
+// Keeps a line, if an element of the room from a place on is not the value.
+pub fn keep_unless<T: Copy + PartialEq>(
+    outlet: &mut Outlet<Stdout>,
+    room: &[T],
+    from: usize,
+    value: T,
+    line: &[u8],
+    at: usize,
+    kept: &mut [u8],
+) -> usize
     requires line_len_bound { length line.now ≤ 20 }
     requires at_in_bounds { at ≤ length kept.old }
     requires in_bounds { 262144 ≤ length kept.old }
-    ensures { Put line.now (begin_of at) result.at kept.old kept.new }
+    ensures { list_all (λ x. T.eq x value) (drop from room.now) ≡ true → (result ≡ at) × (kept.new ≡ kept.old) }
 {
-    let end = keep_line(outlet, line, at, kept);
-    Turn {
-        at: end,
-        more: false,
+    if rooms::are(room, from, value) {
+        return at;
     }
+    keep_line(outlet, line, at, kept)
 }
 
 // Keeps `work not zero`, if a word of the room is not.
@@ -153,10 +159,7 @@ pub fn keep_work(outlet: &mut Outlet<Stdout>, work: &[u32], at: usize, kept: &mu
     requires in_bounds { 262144 ≤ length kept.old }
     ensures { all_are 0 work.now ≡ true → (result ≡ at) × (kept.new ≡ kept.old) }
 {
-    if rooms::words::are(work, 0, 0) {
-        return at;
-    }
-    keep_line(outlet, b"work not zero\n", at, kept)
+    keep_unless(outlet, work, 0, 0, b"work not zero\n", at, kept)
 }
 
 // Keeps `output touched`, if a byte of the output from a place on is not as it was filled.
@@ -171,8 +174,13 @@ pub fn keep_output(
     requires in_bounds { 262144 ≤ length kept.old }
     ensures { all_are 165 (drop from output.now) ≡ true → (result ≡ at) × (kept.new ≡ kept.old) }
 {
-    if rooms::bytes::are(output, from, FILLED_BYTE) {
-        return at;
-    }
-    keep_line(outlet, b"output touched\n", at, kept)
+    keep_unless(
+        outlet,
+        output,
+        from,
+        FILLED_BYTE,
+        b"output touched\n",
+        at,
+        kept,
+    )
 }

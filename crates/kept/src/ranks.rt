@@ -3,9 +3,8 @@
 ghost use Rattle.std.specs.Prelude.{◌≡◌, ◌≤◌, length, IfOk};
 ghost use Rattle.kept.specs.Kept.{lends_ranks};
 
-use std::io;
+use crate::ending::{Ending, read_whole};
 use std::io::Read;
-use streams::read_full;
 
 // Does a case with this first byte lend ranks?
 pub fn lends_ranks(first: u8) -> bool
@@ -21,23 +20,18 @@ fn how_many(count: u8) -> usize
     count as usize
 }
 
-// Reads the ranks of a case with this first byte, none where it lends none, and says how many they are; 256 where they are cut short. It fails only where a
-// read fails, and what was lent keeps its length.
-pub fn read_ranks(input: &mut impl Read, first: u8, bytes: &mut [u8]) -> io::Result<usize>
+// Reads the ranks of a case with this first byte, none where it lends none, and says how many they are. What was lent keeps its length.
+pub fn read_ranks(input: &mut impl Read, first: u8, bytes: &mut [u8]) -> Result<usize, Ending>
     requires { 255 ≡ length bytes.old }
-    ensures { IfOk result (λ lent. lent ≤ 256) }
+    ensures { IfOk result (λ lent. lent ≤ 255) }
 {
     if !lends_ranks(first) {
         return Ok(0);
     }
     let mut count = [0u8; 1];
-    if read_full(input, &mut count)? < 1 {
-        return Ok(256);
-    }
+    read_whole(input, &mut count)?;
     let size = how_many(count[0]);
-    if read_full(input, &mut bytes[..size])? < size {
-        return Ok(256);
-    }
+    read_whole(input, &mut bytes[..size])?;
     Ok(size)
 }
 
@@ -46,9 +40,7 @@ pub fn as_ranks(bytes: &[u8], ranks: &mut [u16])
     requires { length ranks.old ≡ length bytes.now }
     ensures { ranks.new ≡ bytes.now }
 {
-    let mut i: usize = 0;
-    while i < bytes.len() {
-        ranks[i] = bytes[i] as u16;
-        i += 1;
+    for (i, byte) in bytes.iter().enumerate() {
+        ranks[i] = u16::from(*byte);
     }
 }

@@ -2,8 +2,6 @@
 // fold_l1, push_l0 to push_l4. Words are four bytes, most significant first; one that the input breaks off in is passed over.
 #![tactic(auto)]
 
-ghost use Rattle.std.specs.Prelude.{◌≡◌, length, ◌+◌, ◌*◌, ◌≤◌, ◌<◌};
-
 use std::io;
 use std::io::Read;
 use streams::read_full;
@@ -11,79 +9,32 @@ use words::ladder::{
     fold_children, fold_l1, fold_l2, fold_l3, fold_l4, push_l0, push_l1, push_l2, push_l3, push_l4,
 };
 
-// The word of four bytes.
-fn join(a: u8, b: u8, c: u8, d: u8) -> u32
-    ensures { result ≡ a * 16777216 + b * 65536 + c * 256 + d }
-{
-    (a as u32) * 16777216 + (b as u32) * 65536 + (c as u32) * 256 + (d as u32)
+// The folds of a word, and its pushes.
+fn results(x: u32) -> [u32; 10] {
+    [
+        fold_children(x),
+        fold_l4(x),
+        fold_l3(x),
+        fold_l2(x),
+        fold_l1(x),
+        push_l0(x),
+        push_l1(x),
+        push_l2(x),
+        push_l3(x),
+        push_l4(x),
+    ]
 }
 
-// Puts a byte into `out`.
-fn put_byte(out: &mut [u8], at: usize, b: u8)
-    requires { at < length out.old }
-{
-    out[at] = b;
-}
-
-// Puts the four bytes of x into `out` from `at` on.
-fn put(out: &mut [u8], at: usize, x: u32)
-    requires { at + 4 ≤ length out.old }
-{
-    put_byte(out, at, (x / 16777216) as u8);
-    put_byte(out, at + 1, (x / 65536 % 256) as u8);
-    put_byte(out, at + 2, (x / 256 % 256) as u8);
-    put_byte(out, at + 3, (x % 256) as u8);
-}
-
-// Puts the folds of x into `out` from `at` on.
-fn folds(x: u32, out: &mut [u8], at: usize)
-    requires { at + 20 ≤ length out.old }
-{
-    put(out, at, fold_children(x));
-    put(out, at + 4, fold_l4(x));
-    put(out, at + 8, fold_l3(x));
-    put(out, at + 12, fold_l2(x));
-    put(out, at + 16, fold_l1(x));
-}
-
-// Puts the pushes of x into `out` from `at` on.
-fn pushes(x: u32, out: &mut [u8], at: usize)
-    requires { at + 20 ≤ length out.old }
-{
-    put(out, at, push_l0(x));
-    put(out, at + 4, push_l1(x));
-    put(out, at + 8, push_l2(x));
-    put(out, at + 12, push_l3(x));
-    put(out, at + 16, push_l4(x));
-}
-
-// Puts the ten results for word i of the room into `out`.
-fn answer(room: &[u8; 4096], i: usize, out: &mut [u8])
-    requires { (i < 1024) × (i * 40 + 40 ≤ length out.old) }
-{
-    let at = i * 4;
-    let x = join(room[at], room[at + 1], room[at + 2], room[at + 3]);
-    let to = i * 40;
-    folds(x, out, to);
-    pushes(x, out, to + 20);
-}
-
-// Puts those for the first n words into `out`.
-fn answers(room: &[u8; 4096], n: usize, out: &mut [u8])
-    requires { (n ≤ 1024) × (n * 40 ≤ length out.old) }
-{
-    let mut i: usize = 0;
-    while i < n {
-        answer(room, i, out);
-        i += 1;
+// Puts the ten results of each word of the room into `out`, one after another.
+fn answers(room: &[u8], out: &mut [u8]) {
+    let (words, _) = room.as_chunks::<4>();
+    let (rows, _) = out.as_chunks_mut::<40>();
+    for (word, row) in words.iter().zip(rows) {
+        let (places, _) = row.as_chunks_mut::<4>();
+        for (x, place) in results(u32::from_be_bytes(*word)).iter().zip(places) {
+            *place = x.to_be_bytes();
+        }
     }
-}
-
-// Writes the first n bytes of `out`.
-fn send(rt: &impl Print, out: &[u8], n: usize) -> io::Result<()>
-    requires { n ≤ length out.now }
-{
-    rt.write_all(&out[..n])
 }
 
 // Answers the next words, at most 1,024. Is there more to read?
@@ -92,8 +43,8 @@ fn turn(rt: &impl Print, input: &mut impl Read) -> io::Result<bool> {
     let mut out = [0u8; 40960];
     let got = read_full(input, &mut room)?;
     let n = got / 4;
-    answers(&room, n, &mut out);
-    send(rt, &out, n * 40)?;
+    answers(&room[..n * 4], &mut out);
+    rt.write_all(&out[..n * 40])?;
     Ok(got == 4096)
 }
 

@@ -8,6 +8,10 @@ use lib.ListN.{length}
 use borrow.Author.Tests.{le-leb, lt-leb}
 use Rattle.theory.specs.Routes.{Route, Valid, Table}
 use Rattle.refusals.specs.Rules.{Reply, gives, refuses, judge}
+use Rattle.std.specs.Prelude.{Ok, Err}
+use Rattle.refusals.specs.Numbers.{number_of}
+use Rattle.refusals.specs.declared.Cause.{Cause}
+use Rattle.refusals.specs.declared.Cause.TheVariants.{MapFull, WorkRoom}
 use Rattle.records.specs.Sized.{route}
 use Rattle.nodecount.specs.Nodes.{nodes, bare}
 use Rattle.steps.specs.Steps.{putting, present, put}
@@ -19,7 +23,6 @@ use Rattle.liveroom.proofs.Placing.{at_small, put_at, present_at, without_at, pu
 use Rattle.liveroom.proofs.Reading.{length-shown, shown_all}
 use Rattle.liveroom.proofs.Sound.{Proper, Mapped, Live, live_mapped, mapped_table}
 use Rattle.liveroom.proofs.Storing.{room-stored}
-use Rattle.live.specs.declared.answers.Kept.TheVariants.{Done, Absent, Refused}
 use Rattle.live.specs.Tables.{room_rules}
 use Rattle.live.specs.Inner.{PutsKept, TakesKept}
 use Rattle.live.proofs.Present.{nodes_old, nodes-hop, own-words}
@@ -61,11 +64,11 @@ module _ (room : List ℕ) (words : Words room) (l : Live room) where
   unfolding judge
   reply_10 r few over = rw (le-leb _ _ few, lt-leb _ _ over)
 
-  done : (r : Route) (after : List ℕ) → gives true ≡ room_reply r → after ≡ stored (put r (shown room)) room → PutsKept room r Done after
+  done : (r : Route) (after : List ℕ) → gives true ≡ room_reply r → after ≡ stored (put r (shown room)) room → PutsKept room r (Ok tt) after
   done r after e q = record { reply = e; left = q }
 
-  refused : (r : Route) (k : ℕ) → refuses k 0 ≡ room_reply r → PutsKept room r (Refused k 0) room
-  refused r k e = record { reply = e; left = refl }
+  refused : (r : Route) (c : Cause) → refuses (number_of c) 0 ≡ room_reply r → PutsKept room r (Err (record { cause = c; index = 0 })) room
+  refused r c e = record { reply = e; left = refl }
 
   -- ---- At the place of the prefix.
 
@@ -79,7 +82,7 @@ module _ (room : List ℕ) (words : Words room) (l : Live room) where
       pub small : at < count_in room
       small = at_small room (count_in room) a k at 0 p table_from.order e
 
-      pub put_done_old : (h : ℕ) → Proper (route a k h) → PutsKept room (route a k h) Done (written room at (route a k h))
+      pub put_done_old : (h : ℕ) → Proper (route a k h) → PutsKept room (route a k h) (Ok tt) (written room at (route a k h))
       unfolding shown
       put_done_old h v =
           let r : Route = route a k h in
@@ -88,11 +91,11 @@ module _ (room : List ℕ) (words : Words room) (l : Live room) where
           (written-stored room (count_in room) at l.marked r small refl l.holds
           ∙ ap (λ (t : List Route). stored t room) (sym (put_at room (count_in room) a k at h p table_from.order e)))
 
-      pub take_done : TakesKept room a k Done (removed room (count_in room) at)
+      pub take_done : TakesKept room a k true (removed room (count_in room) at)
       unfolding shown
       take_done =
           record {
-            reply = ap gives (sym there);
+            reply = sym there;
             left =
                 removed-stored room (count_in room) at l.marked small l.holds
                 ∙ ap (λ (t : List Route). stored t room) (sym (without_at room (count_in room) a k at 0 p table_from.order e));
@@ -104,11 +107,11 @@ module _ (room : List ℕ) (words : Words room) (l : Live room) where
       unfolding shown
       missing = absent_at room (count_in room) a k at 0 p table_from.order e
 
-      pub take_absent : TakesKept room a k Absent room
+      pub take_absent : TakesKept room a k false room
       unfolding shown
       take_absent =
           record {
-            reply = ap gives (sym missing);
+            reply = sym missing;
             left =
                 room-stored room l.marked l.holds
                 ∙ ap (λ (t : List Route). stored t room) (sym (without_none room (count_in room) a k at 0 p table_from.order e));
@@ -128,8 +131,8 @@ module _ (room : List ℕ) (words : Words room) (l : Live room) where
         pub with_table : Table 32 (with_at room (count_in room) at (bare a k))
         with_table = rw (is_with 0) at (table_step (putting (route a k 0)) plain table_of)
 
-        pub put_17 : count_in room ≡ 1024 → PutsKept room (route a k h) (Refused 17 0) room
-        put_17 full = refused (route a k h) 17 (reply_17 (route a k h) (omega (arith, one_more)))
+        pub put_17 : count_in room ≡ 1024 → PutsKept room (route a k h) (Err (record { cause = MapFull; index = 0 })) room
+        put_17 full = refused (route a k h) MapFull (reply_17 (route a k h) (omega (arith, one_more)))
 
         module _ (few : count_in room ≡ 1024 → ⊥) (m : ℕ) (em : m ≡ nodes 32 (with_at room (count_in room) at (bare a k))) where
           counted : m ≡ nodes 32 (put (route a k h) (shown room))
@@ -138,14 +141,14 @@ module _ (room : List ℕ) (words : Words room) (l : Live room) where
           room-left : length (put (route a k h) (shown room)) ≤ 1024
           room-left = let q = few in omega (arith, one_more, l.few)
 
-          pub put_10 : fit room < m → PutsKept room (route a k h) (Refused 10 0) room
-          put_10 over = refused (route a k h) 10 (reply_10 (route a k h) room-left (omega (arith, counted)))
+          pub put_10 : fit room < m → PutsKept room (route a k h) (Err (record { cause = WorkRoom; index = 0 })) room
+          put_10 over = refused (route a k h) WorkRoom (reply_10 (route a k h) room-left (omega (arith, counted)))
 
           module _ (le : m ≤ fit room) where
             pub more_holds : Holds room (count_in room + 1)
             more_holds = omega (arith, one_more, counted, own-words (table_step (putting (route a k h)) v.valid table_of))
 
-            pub put_done_new : PutsKept room (route a k h) Done (inserted room (count_in room) at (route a k h))
+            pub put_done_new : PutsKept room (route a k h) (Ok tt) (inserted room (count_in room) at (route a k h))
             put_done_new =
                 done (route a k h) (inserted room (count_in room) at (route a k h))
                 (reply_done (route a k h) room-left (omega (arith, counted)))

@@ -6,11 +6,11 @@ use mathlib.Core.Bool.{true, false}
 use mathlib.Core.List.{List, [], ◌∷◌}
 use native.Mathlib.Omega.{arith}
 use Rattle.theory.specs.Routes.{miss, hit}
+use Rattle.std.specs.Prelude.{Ok}
 use Rattle.refusals.specs.Rules.{gives, refuses, judge}
 use Rattle.records.specs.Forms.{by_default, strictly}
 use Rattle.nodecount.specs.Nodes.{fresh, brought, nodes}
 use Rattle.liveroom.specs.Rooms.{fit, Words}
-use Rattle.live.specs.declared.answers.Kept.TheVariants.{Done}
 use Rattle.live.specs.Calls.{Makes}
 use Rattle.live.specs.Sequences.{Call, puts, takes, looks, Said, changed, found, table_answers, Runs}
 use Rattle.live.proofs.Demands.{Addressed, sequence}
@@ -129,7 +129,7 @@ sequences = emptied ∷ replaced ∷ refused ∷ neighbours ∷ []
 -- In any room of so many nodes these answers are given.
 abbrev pub Answered : Sequence → Type 0
 Answered s =
-    (room after : List ℕ) (ss : List Said) → Words room → fit room ≡ s.most → Makes room Done after → Runs after s.calls ss → ss ≡ s.answers
+    (room after : List ℕ) (ss : List Said) → Words room → fit room ≡ s.most → Makes room (Ok tt) after → Runs after s.calls ss → ss ≡ s.answers
 
 abbrev pub AllAnswered : List Sequence → Type 0
 AllAnswered [] = Unit {0}

@@ -1,6 +1,6 @@
 -- Any sequence of calls from an empty map answers as a simple table of routes does. The words of a room are assumed to be below 2 ^ 32, as those of every
 -- `&[u32]` are, and so the addresses that are put.
-use Prim.{Unit}
+use Prim.{Unit, tt}
 use Prim.Native.Nat.{ℕ, ◌-◌, ◌/◌, ◌^◌, ◌≤◌, ◌<◌}
 use mathlib.Core.Path.{◌≡◌, refl, sym, ap, ap₂, ◌∙◌}
 use mathlib.Core.Bool.{Bool, true, false, not, ◌||◌}
@@ -13,6 +13,7 @@ use Rattle.theory.specs.Routes.{Route, lookup, nil, empty}
 use Rattle.theory.proofs.Parts.{length_parts}
 use Rattle.words.specs.Prefix.{host_clear}
 use Rattle.words.proofs.PrefixLaws.{start_small}
+use Rattle.std.specs.Prelude.{Ok}
 use Rattle.refusals.specs.Rules.{rule, Reply, gives, refuses, judge}
 use Rattle.refusals.proofs.Judged.{kept_next}
 use Rattle.records.specs.Sized.{route}
@@ -22,10 +23,8 @@ use Rattle.steps.specs.Steps.{same, present, put, without}
 use Rattle.liveroom.specs.Rooms.{shown, fit, Words}
 use Rattle.liveroom.proofs.Reading.{length-shown}
 use Rattle.liveroom.proofs.Sound.{Mapped, is_live, live_mapped, mapped_table, sound_proper}
-use Rattle.live.specs.declared.answers.Kept.{Kept}
-use Rattle.live.specs.declared.answers.Kept.TheVariants.{Done}
 use Rattle.live.specs.Tables.{masked, table_put, table_take}
-use Rattle.live.specs.Calls.{kept_says, left_by, Makes, put_reply, Puts, take_reply, Takes, look_reply}
+use Rattle.live.specs.Calls.{Done, done_says, Taken, kept_says, left_by, Makes, put_reply, Puts, take_reply, Takes, look_reply}
 use Rattle.live.specs.Sequences.{Call, puts, takes, looks, Said, changed, found, kept_by, table_answers, Runs, nothing, put_then, take_then, look_then}
 use Rattle.live.proofs.Maps.{Good, good_stored, put_mapped, take_mapped}
 use Rattle.live.proofs.Present.{nodes_less}
@@ -61,13 +60,13 @@ module _ (most : ℕ) (t : List Route) (room : List ℕ) (g : Good most t room) 
   good_same e = rw e g
 
   -- A put.
-  module _ (form : Form) (a l h : ℕ) (small : a < 2 ^ 32) (k : Kept) (after : List ℕ) (p : Puts room form a l h k after) where
+  module _ (form : Form) (a l h : ℕ) (small : a < 2 ^ 32) (k : Done) (after : List ℕ) (p : Puts room form a l h k after) where
     put_is : put_reply room form a l h ≡ table_put most t form a l h
     put_is =
         kept_next true 18 0 _ (is_live room g.alive)
         ∙ ap₂ (λ (m : ℕ) (s : List Route). table_put m s form a l h) g.size g.shows
 
-    pub put-said : kept_says k ≡ table_put most t form a l h
+    pub put-said : done_says k ≡ table_put most t form a l h
     put-said = p.reply ∙ put_is
 
     pub put_good : Good most (kept_by (table_put most t form a l h) (put (route (masked a l) l h) t) t) after
@@ -87,7 +86,7 @@ module _ (most : ℕ) (t : List Route) (room : List ℕ) (g : Good most t room) 
             rw q (good_stored room g.words g.size (put_mapped (route (masked a l) l h) v good_mapped) (leb-true _ _ f.2) (leb-true _ _ f.3))
 
   -- A take.
-  module _ (form : Form) (a l : ℕ) (k : Kept) (after : List ℕ) (p : Takes room form a l k after) where
+  module _ (form : Form) (a l : ℕ) (k : Taken) (after : List ℕ) (p : Takes room form a l k after) where
     take_is : take_reply room form a l ≡ table_take t form a l
     take_is =
         kept_next (present (shown room) (masked a l) l) 18 0 _ (is_live room g.alive)
@@ -140,16 +139,16 @@ runs_table {most} {t} {room} w g (look_then {x = x} k p rs) =
 empty_mapped : Mapped []
 empty_mapped = record { each = nil; order = empty }
 
-pub make_good : {room after : List ℕ} → Words room → Makes room Done after → Good (fit room) [] after
+pub make_good : {room after : List ℕ} → Words room → Makes room (Ok tt) after → Good (fit room) [] after
 unfolding judge nodes brought
 make_good {room} {after} w p = go (leb 160 (length room)) refl p.reply p.left
   where
-    go : (b : Bool) → leb 160 (length room) ≡ b → kept_says Done ≡ judge (rule 10 0 b ∷ []) true
+    go : (b : Bool) → leb 160 (length room) ≡ b → done_says (Ok tt) ≡ judge (rule 10 0 b ∷ []) true
         → after ≡ left_by (judge (rule 10 0 b ∷ []) true) [] room → Good (fit room) [] after
     go true e q s = rw s (good_stored room w refl empty_mapped (omega arith) (let z : 1 ≤ length room / 160 = omega (arith, leb-true 160 (length room) e) in z))
     go false e q s = gives_not (sym q)
 
 -- Any sequence of calls from an empty map answers as a simple table does.
-pub sequence : {room after : List ℕ} {cs : List Call} {ss : List Said} → Words room → Addressed cs → Makes room Done after → Runs after cs ss
+pub sequence : {room after : List ℕ} {cs : List Call} {ss : List Said} → Words room → Addressed cs → Makes room (Ok tt) after → Runs after cs ss
     → ss ≡ table_answers (fit room) [] cs
 sequence w a m rs = runs_table a (make_good w m) rs

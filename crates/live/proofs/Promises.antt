@@ -13,26 +13,24 @@ use Rattle.theory.specs.Routes.{Route, none, via, lookup, Table}
 use Rattle.words.specs.Prefix.{host_clear}
 use Rattle.words.proofs.PrefixLaws.{start_small}
 use Rattle.refusals.specs.Rules.{Rule, rule, Reply, gives, refuses, judge}
+use Rattle.std.specs.Prelude.{Option, Result, Ok}
+use Rattle.refusals.specs.declared.Refusal.{Refusal}
 use Rattle.refusals.proofs.Judged.{kept_next, broken-here}
 use Rattle.records.specs.Sized.{route}
 use Rattle.records.specs.declared.Form.{Form}
 use Rattle.nodecount.specs.Nodes.{nodes}
 use Rattle.lookup.specs.Calls.{lookup_says}
-use Rattle.lookup.specs.declared.answers.Lookup.{Lookup}
-use Rattle.lookup.specs.declared.answers.Lookup.TheVariants.{Refused as NotLooked}
-use Rattle.lookup.proofs.Calls.{lookup_same}
+use Rattle.lookup.specs.declared.answers.Match.{Match as Found}
 use Rattle.steps.specs.Steps.{same, entry, present, taking as takingStep}
 use Rattle.steps.proofs.Entries.{entry-put, entry_step}
 use Rattle.steps.proofs.Tables.{length_old}
 use Rattle.liveroom.specs.Rooms.{shown, stored, fit, live, Words}
 use Rattle.liveroom.proofs.Sound.{live_is, is_live, sound_proper}
-use Rattle.live.specs.declared.answers.Kept.{Kept}
-use Rattle.live.specs.declared.answers.Kept.TheVariants.{Done, Absent, Refused}
 use Rattle.live.specs.Tables.{masked, putting, taking, room_rules, table_put, table_take}
-use Rattle.live.specs.Calls.{kept_says, left_by, Makes, Puts, Takes, look_reply}
+use Rattle.live.specs.Calls.{Done, done_says, Taken, kept_says, left_by, Makes, Puts, Takes, look_reply}
 use Rattle.live.specs.Sequences.{kept_by}
 use Rattle.live.specs.Conditions.{HoldsMap, Holding}
-use Rattle.live.proofs.Calls.{kept_same, is_dead, take_absent}
+use Rattle.live.proofs.Calls.{done_same, is_dead, take_absent}
 use Rattle.live.proofs.Demands.{gives_not, put-said, put_good, take-said, take_good, make_good}
 use Rattle.live.proofs.Maps.{Good, live_holds, holds_live, holds_shown}
 use Rattle.live.proofs.Present.{without_absent, nodes_old, nodes_less}
@@ -40,15 +38,14 @@ use Rattle.live.proofs.Replies.{masked-sound}
 
 -- ---- A room that holds no live map is refused with 18, whatever else is asked.
 module _ (room : List ℕ) (words : Words room) (other : Holding room → ⊥) where
-  pub put_18 : {after : List ℕ} {form : Form} {a l h : ℕ} {k : Kept} → Puts room form a l h k after → k ≡ Refused 18 0
-  put_18 {k = k} ok = kept_same k (Refused 18 0) (ok.reply ∙ broken-here true 18 0 _ (is_dead room words other))
+  pub put_18 : {after : List ℕ} {form : Form} {a l h : ℕ} {k : Done} → Puts room form a l h k after → done_says k ≡ refuses 18 0
+  put_18 ok = ok.reply ∙ broken-here true 18 0 _ (is_dead room words other)
 
-  pub take_18 : {after : List ℕ} {form : Form} {a l : ℕ} {k : Kept} → Takes room form a l k after → k ≡ Refused 18 0
-  take_18 {a = a} {l = l} {k = k} ok =
-      kept_same k (Refused 18 0) (ok.reply ∙ broken-here (present (shown room) (masked a l) l) 18 0 _ (is_dead room words other))
+  pub take_18 : {after : List ℕ} {form : Form} {a l : ℕ} {k : Taken} → Takes room form a l k after → kept_says k ≡ refuses 18 0
+  take_18 {a = a} {l = l} ok = ok.reply ∙ broken-here (present (shown room) (masked a l) l) 18 0 _ (is_dead room words other)
 
-  pub look_18 : (x : ℕ) (k : Lookup) → lookup_says k ≡ look_reply room x → k ≡ NotLooked 18 0
-  look_18 x k ok = lookup_same k (NotLooked 18 0) (ok ∙ broken-here (lookup 32 (shown room) x) 18 0 [] (is_dead room words other))
+  pub look_18 : (x : ℕ) (k : Result (Option Found) Refusal) → lookup_says k ≡ look_reply room x → lookup_says k ≡ refuses 18 0
+  look_18 x k ok = ok ∙ broken-here (lookup 32 (shown room) x) 18 0 [] (is_dead room words other)
 
 -- ---- What an answered call leaves.
 
@@ -57,7 +54,7 @@ good_holds : {most : ℕ} {t : List Route} {room : List ℕ} → Good most t roo
 good_holds {t = t} {room = room} g = subst (HoldsMap room) g.shows (live_holds room g.words (is_live room g.alive))
 
 -- An empty map that is made is the map of no routes.
-pub make_leaves : {room after : List ℕ} → Words room → Makes room Done after → HoldsMap after []
+pub make_leaves : {room after : List ℕ} → Words room → Makes room (Ok tt) after → HoldsMap after []
 make_leaves w ok = good_holds (make_good w ok)
 
 -- An answer that gives a value is given in a room that holds a live map.
@@ -66,10 +63,10 @@ unfolding judge
 was_live a true rs e = refl
 was_live a false rs e = gives_not e
 
-module _ {room after : List ℕ} {form : Form} {a l h : ℕ} {k : Kept} (words : Words room) (small : a < 2 ^ 32) (ok : Puts room form a l h k after)
-    (done : k ≡ Done) where
+module _ {room after : List ℕ} {form : Form} {a l h : ℕ} {k : Done} (words : Words room) (small : a < 2 ^ 32) (ok : Puts room form a l h k after)
+    (done : k ≡ Ok tt) where
   pub put_was_live : HoldsMap room (shown room)
-  put_was_live = live_holds room words (was_live true (live room) _ (sym ok.reply ∙ ap kept_says done))
+  put_was_live = live_holds room words (was_live true (live room) _ (sym ok.reply ∙ ap done_says done))
 
   good : Good (fit room) (shown room) room
   good =
@@ -80,7 +77,7 @@ module _ {room after : List ℕ} {form : Form} {a l h : ℕ} {k : Kept} (words :
   pub put_leaves : HoldsMap after (putting (shown room) a l h)
   put_leaves =
       let e : table_put (fit room) (shown room) form a l h ≡ gives true =
-      sym (put-said (fit room) (shown room) room good form a l h small k after ok) ∙ ap kept_says done in
+      sym (put-said (fit room) (shown room) room good form a l h small k after ok) ∙ ap done_says done in
       subst (HoldsMap after) (ap (λ (x : Reply Bool). kept_by x (putting (shown room) a l h) (shown room)) e)
       (good_holds (put_good (fit room) (shown room) room good form a l h small k after ok))
 
@@ -89,7 +86,7 @@ module _ {room after : List ℕ} {form : Form} {a l h : ℕ} {k : Kept} (words :
   put_entries b m = ap (λ (t : List Route). entry t b m) (holds_shown put_leaves) ∙ entry-put (route (masked a l) l h) (shown room) b m
 
 -- A take may answer that the prefix was absent, too.
-module _ {room after : List ℕ} {form : Form} {a l : ℕ} {k : Kept} (words : Words room) (ok : Takes room form a l k after) {c : Bool}
+module _ {room after : List ℕ} {form : Form} {a l : ℕ} {k : Taken} (words : Words room) (ok : Takes room form a l k after) {c : Bool}
     (given : kept_says k ≡ gives c) where
   pub take_was_live : HoldsMap room (shown room)
   take_was_live = live_holds room words (was_live (present (shown room) (masked a l) l) (live room) _ (sym ok.reply ∙ given))
@@ -116,7 +113,7 @@ module _ {room after : List ℕ} {form : Form} {a l : ℕ} {k : Kept} (words : W
   take-nodes = rw (holds_shown take_leaves) (nodes_less take_was_live.lawful.table (masked a l) l)
 
 -- ---- Taking an absent prefix changes nothing.
-pub absent_left : {room after : List ℕ} {form : Form} {a l : ℕ} {k : Kept} → Words room → Takes room form a l k after → k ≡ Absent → after ≡ room
+pub absent_left : {room after : List ℕ} {form : Form} {a l : ℕ} {k : Taken} → Words room → Takes room form a l k after → k ≡ Ok false → after ≡ room
 absent_left {room} {after} {form} {a} {l} {k} words ok e =
     let f = (take_absent room words form a l k after ok).0 e in
     let h = take_was_live words ok (ap kept_says e) in
@@ -130,26 +127,26 @@ absent_left {room} {after} {form} {a} {l} {k} words ok e =
 number : {m n i j : ℕ} → ◌≡◌ {A = Reply Bool} (refuses m i) (refuses n j) → m ≡ n
 number e = cc
 
-cases : (k : Kept) (p q : Bool) → kept_says k ≡ judge (rule 17 0 p ∷ rule 10 0 q ∷ []) true
-    → (k ≡ Refused 17 0 ↔ p ≡ false) × (k ≡ Refused 10 0 ↔ ((p ≡ true) × (q ≡ false))) × (k ≡ Done ↔ ((p ≡ true) × (q ≡ true)))
+cases : (k : Done) (p q : Bool) → done_says k ≡ judge (rule 17 0 p ∷ rule 10 0 q ∷ []) true
+    → (done_says k ≡ refuses 17 0 ↔ p ≡ false) × (done_says k ≡ refuses 10 0 ↔ ((p ≡ true) × (q ≡ false))) × (k ≡ Ok tt ↔ ((p ≡ true) × (q ≡ true)))
 unfolding judge
 cases k false q e = (
-  (λ s. refl, λ s. kept_same k (Refused 17 0) e),
-  (λ s. (let z : ◌≡◌ {A = ℕ} 17 10 = number (sym e ∙ ap kept_says s) in absurd (omega arith)), λ s. absurd (true≢false (sym s.0))),
-  (λ s. gives_not (sym e ∙ ap kept_says s), λ s. absurd (true≢false (sym s.0))),
+  (λ s. refl, λ s. e),
+  (λ s. (let z : ◌≡◌ {A = ℕ} 17 10 = number (sym e ∙ s) in absurd (omega arith)), λ s. absurd (true≢false (sym s.0))),
+  (λ s. gives_not (sym e ∙ ap done_says s), λ s. absurd (true≢false (sym s.0))),
 )
 cases k true false e = (
-  (λ s. (let z : ◌≡◌ {A = ℕ} 10 17 = number (sym e ∙ ap kept_says s) in absurd (omega arith)), λ s. absurd (true≢false s)),
-  (λ s. (refl, refl), λ s. kept_same k (Refused 10 0) e),
-  (λ s. gives_not (sym e ∙ ap kept_says s), λ s. absurd (true≢false (sym s.1))),
+  (λ s. (let z : ◌≡◌ {A = ℕ} 10 17 = number (sym e ∙ s) in absurd (omega arith)), λ s. absurd (true≢false s)),
+  (λ s. (refl, refl), λ s. e),
+  (λ s. gives_not (sym e ∙ ap done_says s), λ s. absurd (true≢false (sym s.1))),
 )
 cases k true true e = (
-  (λ s. gives_not (ap kept_says (sym s) ∙ e), λ s. absurd (true≢false s)),
-  (λ s. gives_not (ap kept_says (sym s) ∙ e), λ s. absurd (true≢false s.1)),
-  (λ s. (refl, refl), λ s. kept_same k Done e),
+  (λ s. gives_not (sym s ∙ e), λ s. absurd (true≢false s)),
+  (λ s. gives_not (sym s ∙ e), λ s. absurd (true≢false s.1)),
+  (λ s. (refl, refl), λ s. done_same k (Ok tt) e),
 )
 
-module _ {room after : List ℕ} {form : Form} {a l h : ℕ} {k : Kept} (ok : Puts room form a l h k after) (alive : Holding room) (short : l ≤ 32)
+module _ {room after : List ℕ} {form : Form} {a l h : ℕ} {k : Done} (ok : Puts room form a l h k after) (alive : Holding room) (short : l ≤ 32)
     (clean : form.strict ≡ true → a % 2 ^ (32 - l) ≡ 0) (hop : h ≤ 63) where
   abbrev t : List Route
   t = putting (shown room) a l h
@@ -161,9 +158,9 @@ module _ {room after : List ℕ} {form : Form} {a l h : ℕ} {k : Kept} (ok : Pu
       go true e = eq-eqb (a % 2 ^ (32 - l)) 0 (clean e)
       go false e = refl
 
-  outcome : (k ≡ Refused 17 0 ↔ leb (length t) 1024 ≡ false)
-      × (k ≡ Refused 10 0 ↔ ((leb (length t) 1024 ≡ true) × (leb (nodes 32 t) (fit room) ≡ false)))
-      × (k ≡ Done ↔ ((leb (length t) 1024 ≡ true) × (leb (nodes 32 t) (fit room) ≡ true)))
+  outcome : (done_says k ≡ refuses 17 0 ↔ leb (length t) 1024 ≡ false)
+      × (done_says k ≡ refuses 10 0 ↔ ((leb (length t) 1024 ≡ true) × (leb (nodes 32 t) (fit room) ≡ false)))
+      × (k ≡ Ok tt ↔ ((leb (length t) 1024 ≡ true) × (leb (nodes 32 t) (fit room) ≡ true)))
   outcome =
       cases k (leb (length t) 1024) (leb (nodes 32 t) (fit room))
       (ok.reply
@@ -172,23 +169,23 @@ module _ {room after : List ℕ} {form : Form} {a l h : ℕ} {k : Kept} (ok : Pu
       ∙ kept_next true 6 0 _ kept_6
       ∙ kept_next true 7 0 (room_rules (fit room) t) (le-leb h 63 hop))
 
-  pub put_17_exactly : k ≡ Refused 17 0 ↔ 1024 < length t
+  pub put_17_exactly : done_says k ≡ refuses 17 0 ↔ 1024 < length t
   put_17_exactly = (λ e. leb-false (length t) 1024 (outcome.0.0 e), λ lt. outcome.0.1 (lt-leb (length t) 1024 lt))
 
-  pub put_10_exactly : k ≡ Refused 10 0 ↔ ((length t ≤ 1024) × (fit room < nodes 32 t))
+  pub put_10_exactly : done_says k ≡ refuses 10 0 ↔ ((length t ≤ 1024) × (fit room < nodes 32 t))
   put_10_exactly = (
     λ e. let f = outcome.1.0 e in (leb-true (length t) 1024 f.0, leb-false (nodes 32 t) (fit room) f.1),
     λ f. outcome.1.1 (le-leb (length t) 1024 f.0, lt-leb (nodes 32 t) (fit room) f.1),
   )
 
-  pub put_done_exactly : k ≡ Done ↔ ((length t ≤ 1024) × (nodes 32 t ≤ fit room))
+  pub put_done_exactly : k ≡ Ok tt ↔ ((length t ≤ 1024) × (nodes 32 t ≤ fit room))
   put_done_exactly = (
     λ e. let f = outcome.2.0 e in (leb-true (length t) 1024 f.0, leb-true (nodes 32 t) (fit room) f.1),
     λ f. outcome.2.1 (le-leb (length t) 1024 f.0, le-leb (nodes 32 t) (fit room) f.1),
   )
 
   -- A present prefix is never refused for room: it gets the new hop.
-  pub put_old : a < 2 ^ 32 → present (shown room) (masked a l) l ≡ true → k ≡ Done
+  pub put_old : a < 2 ^ 32 → present (shown room) (masked a l) l ≡ true → k ≡ Ok tt
   put_old small there =
       let held = alive.1.lawful in
       let shows : shown room ≡ alive.0 = holds_shown alive.1 in

@@ -6,14 +6,13 @@ use mathlib.Core.List.{List, [], ◌∷◌}
 use native.Mathlib.Omega.{arith}
 use lib.ListN.{length}
 use Rattle.theory.specs.Routes.{Match, hit}
+use Rattle.std.specs.Prelude.{Ok}
 use Rattle.refusals.specs.Rules.{gives, refuses}
 use Rattle.records.specs.Forms.{by_default}
 use Rattle.nodecount.specs.Nodes.{fresh, brought, nodes}
 use Rattle.liveroom.specs.Rooms.{shown, fit, Words}
-use Rattle.live.specs.declared.answers.Kept.{Kept}
-use Rattle.live.specs.declared.answers.Kept.TheVariants.{Done}
 use Rattle.live.specs.Tables.{putting}
-use Rattle.live.specs.Calls.{Makes, Puts}
+use Rattle.live.specs.Calls.{Done, Makes, Puts}
 use Rattle.live.specs.Sequences.{Said, changed, found, Runs}
 use Rattle.live.specs.Conditions.{MakeCondition, short_room}
 use Rattle.live.proofs.Calls.{make_done}
@@ -24,14 +23,14 @@ use Rattle.live.proofs.Promises.{make_leaves, put_done_exactly}
 -- ---- One that refuses everything.
 
 -- In 160 words an empty map is made,
-pub made : {room after : List ℕ} {k : Kept} → Makes room k after → 160 ≤ length room → k ≡ Done
+pub made : {room after : List ℕ} {k : Done} → Makes room k after → 160 ≤ length room → k ≡ Ok tt
 made {room} {after} {k} ok le = (make_done room k after ok).1 (λ n i c. short n i c)
   where
     short : (n i : ℕ) → MakeCondition room n i → ⊥
     short n i (short_room lt) = omega arith
 
 -- and in it 0.0.0.0/0 is put.
-pub first-put : {room after last : List ℕ} {k : Kept} → Words room → Makes room Done after → Puts after by_default 0 0 0 k last → k ≡ Done
+pub first-put : {room after last : List ℕ} {k : Done} → Words room → Makes room (Ok tt) after → Puts after by_default 0 0 0 k last → k ≡ Ok tt
 unfolding nodes brought fresh
 first-put {room} {after} {last} {k} words make ok =
     let held = make_leaves words make in
@@ -48,7 +47,7 @@ said-head e = cc
 said_tail : {s u : Said} {ss us : List Said} → s ∷ ss ≡ u ∷ us → ss ≡ us
 said_tail e = cc
 
-module _ {room after : List ℕ} (words : Words room) (two : fit room ≡ 2) (make : Makes room Done after) where
+module _ {room after : List ℕ} (words : Words room) (two : fit room ≡ 2) (make : Makes room (Ok tt) after) where
   -- One that never gives a node up would refuse the fifth call of `emptied`, for nodes.
   pub node_given_up : {a b c d : Said} {n i : ℕ} {more : List Said} → Runs after emptied.calls (a ∷ b ∷ c ∷ d ∷ changed (refuses n i) ∷ more) → ⊥
   node_given_up {a} {b} {c} {d} {n} {i} {more} runs =

@@ -1,21 +1,29 @@
 -- The statements of the calls on a live map: for every room, what each answers and what stands in the room then.
-use Rattle.std.specs.Prelude.{ℕ, ◌≡◌, Bool, true, false, List, [], ◌∷◌, leb, length}
+use Rattle.std.specs.Prelude.{ℕ, ◌≡◌, Bool, true, List, [], ◌∷◌, leb, length, Result}
 use Rattle.theory.specs.Routes.{Route, Match, lookup}
 use Rattle.refusals.specs.Rules.{Rule, rule, Reply, gives, refuses, judge}
+use Rattle.refusals.specs.Numbers.{reply_of}
+use Rattle.refusals.specs.declared.Refusal.{Refusal}
 use Rattle.records.specs.declared.Form.{Form}
 use Rattle.steps.specs.Steps.{present}
 use Rattle.liveroom.specs.Rooms.{shown, stored, live, fit}
-use Rattle.live.specs.declared.answers.Kept.{Kept}
-use Rattle.live.specs.declared.answers.Kept.TheVariants.{Done, Absent, Refused}
 use Rattle.live.specs.Tables.{masked, putting, taking, prefix_rules, put_rules}
 
 -- ---- Answers.
 
--- Of a call that changes the map: that it is done, that the prefix to be taken is absent, or a refusal.
-abbrev pub kept_says : Kept → Reply Bool
-kept_says Done = gives true
-kept_says Absent = gives false
-kept_says (Refused number index) = refuses number index
+-- Of a make and of a put: it is done, or refused.
+abbrev pub Done : Type 0
+Done = Result (Unit {0}) Refusal
+
+abbrev pub done_says : Done → Reply Bool
+done_says = reply_of (λ done. true)
+
+-- Of a take: whether the prefix was present, or a refusal.
+abbrev pub Taken : Type 0
+Taken = Result Bool Refusal
+
+abbrev pub kept_says : Taken → Reply Bool
+kept_says = reply_of (λ b. b)
 
 -- The room after a call that stores t unless it refuses.
 abbrev pub left_by : {A : Type 0} → Reply A → List Route → List ℕ → List ℕ
@@ -43,14 +51,14 @@ look_reply room x = judge (live_rules room []) (lookup 32 (shown room) x)
 
 -- ---- The statements: the room was lent, the answer given, and the room is `after` then.
 
-pub record Makes (room : List ℕ) (answer : Kept) (after : List ℕ) : Type 0 where
-  pub reply : kept_says answer ≡ make_reply room
+pub record Makes (room : List ℕ) (answer : Done) (after : List ℕ) : Type 0 where
+  pub reply : done_says answer ≡ make_reply room
   pub left : after ≡ left_by (make_reply room) [] room
 
-pub record Puts (room : List ℕ) (form : Form) (a l h : ℕ) (answer : Kept) (after : List ℕ) : Type 0 where
-  pub reply : kept_says answer ≡ put_reply room form a l h
+pub record Puts (room : List ℕ) (form : Form) (a l h : ℕ) (answer : Done) (after : List ℕ) : Type 0 where
+  pub reply : done_says answer ≡ put_reply room form a l h
   pub left : after ≡ left_by (put_reply room form a l h) (putting (shown room) a l h) room
 
-pub record Takes (room : List ℕ) (form : Form) (a l : ℕ) (answer : Kept) (after : List ℕ) : Type 0 where
+pub record Takes (room : List ℕ) (form : Form) (a l : ℕ) (answer : Taken) (after : List ℕ) : Type 0 where
   pub reply : kept_says answer ≡ take_reply room form a l
   pub left : after ≡ left_by (take_reply room form a l) (taking (shown room) a l) room

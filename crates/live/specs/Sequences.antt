@@ -1,13 +1,13 @@
 -- Sequences of calls on one room, and what a simple table of routes says to the same calls.
-use Rattle.std.specs.Prelude.{ℕ, ◌≡◌, Bool, List, [], ◌∷◌}
+use Rattle.std.specs.Prelude.{ℕ, ◌≡◌, Bool, List, [], ◌∷◌, Option, Result}
 use Rattle.theory.specs.Routes.{Route, Match, lookup}
 use Rattle.refusals.specs.Rules.{Reply, gives, refuses}
+use Rattle.refusals.specs.declared.Refusal.{Refusal}
 use Rattle.records.specs.declared.Form.{Form}
 use Rattle.lookup.specs.Calls.{lookup_says}
-use Rattle.lookup.specs.declared.answers.Lookup.{Lookup}
-use Rattle.live.specs.declared.answers.Kept.{Kept}
+use Rattle.lookup.specs.declared.answers.Match.{Match as Found}
 use Rattle.live.specs.Tables.{putting, taking, table_put, table_take}
-use Rattle.live.specs.Calls.{kept_says, look_reply, Puts, Takes}
+use Rattle.live.specs.Calls.{Done, done_says, Taken, kept_says, look_reply, Puts, Takes}
 
 -- A call: a route is put, by address, length and hop; a prefix is taken; an address is looked up.
 pub data Call : Type 0 where
@@ -46,9 +46,9 @@ table_answers most t (c ∷ cs) = table_says most t c ∷ table_answers most (ta
 
 pub data Runs : List ℕ → List Call → List Said → Type 0 where
   nothing : {room : List ℕ} → Runs room [] []
-  put_then : {room after : List ℕ} {form : Form} {a l h : ℕ} {cs : List Call} {ss : List Said} (k : Kept) → Puts room form a l h k after
-      → Runs after cs ss → Runs room (puts form a l h ∷ cs) (changed (kept_says k) ∷ ss)
-  take_then : {room after : List ℕ} {form : Form} {a l : ℕ} {cs : List Call} {ss : List Said} (k : Kept) → Takes room form a l k after
+  put_then : {room after : List ℕ} {form : Form} {a l h : ℕ} {cs : List Call} {ss : List Said} (k : Done) → Puts room form a l h k after
+      → Runs after cs ss → Runs room (puts form a l h ∷ cs) (changed (done_says k) ∷ ss)
+  take_then : {room after : List ℕ} {form : Form} {a l : ℕ} {cs : List Call} {ss : List Said} (k : Taken) → Takes room form a l k after
       → Runs after cs ss → Runs room (takes form a l ∷ cs) (changed (kept_says k) ∷ ss)
-  look_then : {room : List ℕ} {x : ℕ} {cs : List Call} {ss : List Said} (k : Lookup) → lookup_says k ≡ look_reply room x
+  look_then : {room : List ℕ} {x : ℕ} {cs : List Call} {ss : List Said} (k : Result (Option Found) Refusal) → lookup_says k ≡ look_reply room x
       → Runs room cs ss → Runs room (looks x ∷ cs) (found (lookup_says k) ∷ ss)

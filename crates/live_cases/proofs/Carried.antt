@@ -1,7 +1,7 @@
 -- What a command does, case by case, and that a call which answers no change leaves the room as it was. Assumes nothing.
 use Prim.{tt}
 use Prim.Native.Nat.{ℕ, suc, ◌+◌, ◌%◌, ◌*◌, ◌^◌, ◌≤◌, ◌<◌}
-use mathlib.Core.Path.{◌≡◌, refl, ◌∙◌}
+use mathlib.Core.Path.{◌≡◌, refl, ap, ◌∙◌}
 use mathlib.Core.Bool.{Bool, true, false, cond, false≢true}
 use mathlib.Core.List.{List, [], ◌∷◌, ◌++◌}
 use native.Mathlib.Omega.{arith}
@@ -11,11 +11,12 @@ use lib.ListN.{length, get_or, set}
 use lib.Pow.{shl_exact}
 use borrow.Author.Tests.{eq-eqb, ne_eqb, lt-ltb, le-ltb}
 use Rattle.refusals.specs.Rules.{Rule, rule, Reply, gives, refuses, judge}
+use Rattle.std.specs.Prelude.{Ok, Err}
+use Rattle.std.specs.Result.{result_and}
+use Rattle.refusals.specs.Numbers.{number_of}
 use Rattle.liveroom.specs.Rooms.{shown, fit, Words}
-use Rattle.live.specs.declared.answers.Kept.{Kept}
-use Rattle.live.specs.declared.answers.Kept.TheVariants.{Done, Absent, Refused}
 use Rattle.live.specs.Tables.{putting, taking, put_rules}
-use Rattle.live.specs.Calls.{kept_says, left_by, live_rules, make_reply, put_reply, take_reply, look_reply, Makes, Puts, Takes}
+use Rattle.live.specs.Calls.{Done, done_says, Taken, kept_says, left_by, live_rules, make_reply, put_reply, take_reply, look_reply, Makes, Puts, Takes}
 use Rattle.live.proofs.Calls.{make_left, put-left, take_left}
 use Rattle.live.proofs.Promises.{absent_left}
 use Rattle.live_cases.specs.declared.Command.{Command}
@@ -35,16 +36,23 @@ unfolding flipped
 flip_out room i bit le = rw (le-ltb i (length room) le)
 
 -- ---- Make, put and take.
-module _ (c : Command) {room after : List ℕ} {k : Kept} where
-  pub by_make : c.order ≡ 0 → Makes room k after → (kept_says k ≡ change_reply c room) × (after ≡ change_left c room)
+
+-- A call that is done changes the map.
+said : (k : Done) → kept_says (result_and k (Ok true)) ≡ done_says k
+said (Ok done) = refl
+said (Err refusal) = refl
+
+module _ (c : Command) {room after : List ℕ} {k : Done} {r : Taken} (is : r ≡ result_and k (Ok true)) where
+  pub by_make : c.order ≡ 0 → Makes room k after → (kept_says r ≡ change_reply c room) × (after ≡ change_left c room)
   unfolding change_reply change_left
-  by_make z m = rw (eq-eqb c.order 0 z) (m.reply, m.left)
+  by_make z m = rw (eq-eqb c.order 0 z) (ap kept_says is ∙ said k ∙ m.reply, m.left)
 
   pub by_put : (c.order ≡ 0 → ⊥) → c.order ≡ 1 → Puts room c.form c.address c.len c.hop k after
-      → (kept_says k ≡ change_reply c room) × (after ≡ change_left c room)
+      → (kept_says r ≡ change_reply c room) × (after ≡ change_left c room)
   unfolding change_reply change_left
-  by_put n0 is1 p = rw (ne_eqb c.order 0 n0, eq-eqb c.order 1 is1) (p.reply, p.left)
+  by_put n0 is1 p = rw (ne_eqb c.order 0 n0, eq-eqb c.order 1 is1) (ap kept_says is ∙ said k ∙ p.reply, p.left)
 
+module _ (c : Command) {room after : List ℕ} {k : Taken} where
   pub by_take : (c.order ≡ 0 → ⊥) → (c.order ≡ 1 → ⊥) → Takes room c.form c.address c.len k after
       → (kept_says k ≡ change_reply c room) × (after ≡ change_left c room)
   unfolding change_reply change_left
@@ -64,24 +72,27 @@ never (r ∷ rs) e = go r.kept (never rs) e
     go false f e = let z : ◌≡◌ {A = ℕ} 0 1 = cc in omega arith
 
 module _ (c : Command) {room : List ℕ} (words : Words room) where
-  pub stays-left : (k : Kept) → kept_says k ≡ change_reply c room → stays k ≡ true → change_left c room ≡ room
+  pub stays-left : (k : Taken) → kept_says k ≡ change_reply c room → stays k ≡ true → change_left c room ≡ room
   unfolding change_reply change_left
   stays-left k e s = go (eqb c.order 0) (eqb c.order 1) k e s
     where
-      go : (p q : Bool) (k : Kept)
+      go : (p q : Bool) (k : Taken)
           → kept_says k ≡ cond p (make_reply room) (cond q (put_reply room c.form c.address c.len c.hop) (take_reply room c.form c.address c.len))
           → stays k ≡ true
           → cond p (left_by (make_reply room) [] room)
           (cond q (left_by (put_reply room c.form c.address c.len c.hop) (putting (shown room) c.address c.len c.hop) room)
           (left_by (take_reply room c.form c.address c.len) (taking (shown room) c.address c.len) room))
           ≡ room
-      go p q Done e s = absurd (false≢true s)
-      go true q Absent e s = absurd (never (rule 10 0 (leb 160 (length room)) ∷ []) e)
-      go true q (Refused n i) e s = make_left {room = room} {k = Refused n i} n i (record { reply = e; left = refl }) refl
-      go false true Absent e s = absurd (never (live_rules room (put_rules (fit room) (shown room) c.form c.address c.len c.hop)) e)
-      go false true (Refused n i) e s = put-left {room = room} {form = c.form} {a = c.address} {l = c.len} {h = c.hop} {k = Refused n i} n i (record { reply = e; left = refl }) refl
-      go false false Absent e s = absent_left {room = room} {form = c.form} {a = c.address} {l = c.len} {k = Absent} words (record { reply = e; left = refl }) refl
-      go false false (Refused n i) e s = take_left {room = room} {form = c.form} {a = c.address} {l = c.len} {k = Refused n i} n i (record { reply = e; left = refl }) refl
+      go p q (Ok true) e s = absurd (false≢true s)
+      go true q (Ok false) e s = absurd (never (rule 10 0 (leb 160 (length room)) ∷ []) e)
+      go false true (Ok false) e s = absurd (never (live_rules room (put_rules (fit room) (shown room) c.form c.address c.len c.hop)) e)
+      go false false (Ok false) e s =
+          absent_left {room = room} {form = c.form} {a = c.address} {l = c.len} {k = Ok false} words (record { reply = e; left = refl }) refl
+      go true q (Err r) e s = make_left {room = room} {k = Err r} (number_of r.cause) r.index (record { reply = e; left = refl }) refl
+      go false true (Err r) e s =
+          put-left {room = room} {form = c.form} {a = c.address} {l = c.len} {h = c.hop} {k = Err r} (number_of r.cause) r.index (record { reply = e; left = refl }) refl
+      go false false (Err r) e s =
+          take_left {room = room} {form = c.form} {a = c.address} {l = c.len} {k = Err r} (number_of r.cause) r.index (record { reply = e; left = refl }) refl
 
 -- ---- Any command: its line and the room then, by what is to be done.
 module _ (c : Command) (room : List ℕ) where

@@ -1,4 +1,3 @@
--- The laws of the cases of a live map. Copying: rooms that are copied. Laid: how long a line is. Carried: what a command does.
-pub mod Copying
+-- The laws of the cases of a live map. Laid: how long a line is. Carried: what a command does.
 pub mod Laid
 pub mod Carried

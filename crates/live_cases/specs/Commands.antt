@@ -1,13 +1,11 @@
 -- Commands on a live map: what each answers and leaves in the room, and the lines of one after another.
-use Rattle.std.specs.Prelude.{ℕ, zero, suc, ◌+◌, ◌*◌, ◌%◌, ◌^◌, Bool, true, false, cond, List, [], ◌++◌, eqb, leb, ltb, length, get_or, set}
+use Rattle.std.specs.Prelude.{ℕ, zero, suc, ◌+◌, ◌*◌, ◌%◌, ◌^◌, Bool, true, false, cond, List, [], ◌++◌, eqb, leb, ltb, length, get_or, set, not, Ok, Err}
 use Rattle.std.specs.Int.Bits.{bit_xor}
 use Rattle.refusals.specs.Rules.{Reply}
 use Rattle.records.specs.Wire.{join}
 use Rattle.liveroom.specs.Rooms.{shown}
-use Rattle.live.specs.declared.answers.Kept.{Kept}
-use Rattle.live.specs.declared.answers.Kept.TheVariants.{Done, Absent, Refused}
 use Rattle.live.specs.Tables.{putting, taking}
-use Rattle.live.specs.Calls.{left_by, make_reply, put_reply, take_reply, look_reply}
+use Rattle.live.specs.Calls.{Taken, left_by, make_reply, put_reply, take_reply, look_reply}
 use Rattle.live_cases.specs.declared.Command.{Command}
 use Rattle.live_cases.specs.Lines.{kept_line, look_line, flipped_line, unknown_line}
 
@@ -42,10 +40,9 @@ change_left c room =
     (left_by (take_reply room c.form c.address c.len) (taking (shown room) c.address c.len) room))
 
 -- Does the call leave the room as it was, by its answer?
-abbrev pub stays : Kept → Bool
-stays Done = false
-stays Absent = true
-stays (Refused number index) = true
+abbrev pub stays : Taken → Bool
+stays (Ok changed) = not changed
+stays (Err refusal) = true
 
 -- Any command: 3 lookup, 4 flip a bit, above 4 nothing. Its line, and the room then.
 unfoldable pub line_of : Command → List ℕ → List ℕ

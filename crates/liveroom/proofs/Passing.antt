@@ -1,5 +1,5 @@
 -- The pass over a room's records: what the first record and each later one add to the order and to the count of nodes.
-use Prim.Native.Nat.{ℕ, zero, suc, ◌+◌, ◌-◌, ◌≤◌, ◌<◌}
+use Prim.Native.Nat.{ℕ, ◌+◌, ◌≤◌, ◌<◌}
 use mathlib.Core.Path.{◌≡◌, refl, sym, ap, ◌∙◌}
 use mathlib.Core.Bool.{true, false, ◌&&◌}
 use mathlib.Core.List.{List, [], ◌∷◌}
@@ -13,7 +13,7 @@ use Rattle.nodecount.specs.Nodes.{nodes, new_nodes, bare, brought}
 use Rattle.nodecount.proofs.NodeCount.{root, passed, nodes_pass}
 use Rattle.nodecount.proofs.NodePass.{passed_bare}
 use Rattle.liveroom.specs.Rooms.{route_in, shown_from, sound, after, lawful}
-use Rattle.liveroom.specs.Inner.{passed_nodes, prior_at}
+use Rattle.liveroom.specs.Inner.{passed_nodes}
 use Rattle.liveroom.specs.Rooms.{Words}
 use Rattle.liveroom.proofs.Reading.{rest_in, rest_next, rest_end, rest_all}
 use Rattle.liveroom.proofs.Sound.{and-true, lawful_mapped, mapped_table, small-shown}
@@ -80,9 +80,3 @@ sound-short a l h e = leb-true l 32 (and-true {b = leb l 32} e).0
 
 pub follows_short : (p : Route) (a l h : ℕ) → (before p (route a l h) && sound (route a l h)) ≡ true → l ≤ 32
 follows_short p a l h e = sound-short a l h (and-true {b = before p (route a l h)} {c = sound (route a l h)} e).1
-
--- ---- The record before a place.
-
-pub prior_is : (room : List ℕ) (at : ℕ) → (at ≡ 0 → ⊥) → bare (route_in room (at - 1)).addr (route_in room (at - 1)).len ≡ prior_at room at
-prior_is room zero k = absurd (k refl)
-prior_is room (suc i) k = let e : suc i - 1 ≡ i = omega arith in ap (λ (j : ℕ). bare (route_in room j).addr (route_in room j).len) e

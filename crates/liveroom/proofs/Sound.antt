@@ -79,9 +79,6 @@ after_table p (cons {r = r} {t = t} s ss) e =
     front : Before p r → Ascending (r ∷ t) → Ascending (p ∷ r ∷ t)
     front lt (first bs o) = first (cons lt (all_map (λ u q. before_trans p r u lt q) bs)) (first bs o)
 
-tail_order : {r : Route} {t : List Route} → Ascending (r ∷ t) → Ascending t
-tail_order (first b o) = o
-
 pub lawful_mapped : {t : List Route} → All Small t → lawful t ≡ true → Mapped t
 lawful_mapped nil e = record { each = nil; order = empty }
 lawful_mapped (cons {r = r} s ss) e =

@@ -50,13 +50,6 @@ InRange room n = (i : ℕ) → i < n → ((route_in room i).len ≤ 32) × ((rou
 abbrev pub written : List ℕ → ℕ → Route → List ℕ
 written room i r = take (2 + 2 * i) room ++ (r.addr ∷ (r.len * 65536 + r.hop) ∷ drop (4 + 2 * i) room)
 
--- The words from..to moved up by two places, and the words from + 2..to moved down.
-abbrev pub raised : List ℕ → ℕ → ℕ → List ℕ
-raised room from to = take (from + 2) room ++ (take (to - from) (drop from room) ++ drop (to + 2) room)
-
-abbrev pub lowered : List ℕ → ℕ → ℕ → List ℕ
-lowered room from to = take from room ++ (take (to - from - 2) (drop (from + 2) room) ++ drop (to - 2) room)
-
 -- A room of n records with one made at place at, and with the one at place at taken away.
 abbrev pub inserted : List ℕ → ℕ → ℕ → Route → List ℕ
 inserted room n at r =

@@ -9,6 +9,7 @@ ghost use Rattle.liveroom.specs.Rooms.{shown_from, sound};
 ghost use Rattle.liveroom.specs.Inner.{Holds, held_nodes, passed_nodes, prior_at, with_at};
 
 use super::fields::{addr_in, comes_before, hop_in, len_in};
+use crate::MARK;
 use nodecount::new_nodes;
 use words::prefix::host_bits_clear;
 
@@ -16,25 +17,14 @@ use words::prefix::host_bits_clear;
 fn is_sound(addr: u32, len: u32, hop: u32) -> bool
     ensures { result ≡ sound (route addr len hop) }
 {
-    if 32 < len {
-        return false;
-    }
-    if host_bits_clear(addr, len as u8) {
-        hop <= 63
-    } else {
-        false
-    }
+    len <= 32 && host_bits_clear(addr, len as u8) && hop <= 63
 }
 
 // A sound route behind another.
 fn follows(addr: u32, len: u32, hop: u32, last_addr: u32, last_len: u32) -> bool
     ensures { result ≡ (before (bare last_addr last_len) (route addr len hop) && sound (route addr len hop)) }
 {
-    if comes_before(last_addr, last_len, addr, len) {
-        is_sound(addr, len, hop)
-    } else {
-        false
-    }
+    comes_before(last_addr, last_len, addr, len) && is_sound(addr, len, hop)
 }
 
 // The nodes that a route brings beside those of the route before it.
@@ -64,8 +54,7 @@ fn pass(room: &[u32], n: usize) -> usize
         return 0;
     }
     let mut count = 1 + brought(last_addr, last_len, 0, 0);
-    let mut i: usize = 1;
-    while i < n {
+    for i in 1..n {
         let addr = addr_in(room, i);
         let len = len_in(room, i);
         if !follows(addr, len, hop_in(room, i), last_addr, last_len) {
@@ -74,7 +63,6 @@ fn pass(room: &[u32], n: usize) -> usize
         count += brought(addr, len, last_addr, last_len);
         last_addr = addr;
         last_len = len;
-        i += 1;
     }
     count
 }
@@ -87,7 +75,7 @@ pub fn nodes_held(room: &[u32]) -> usize
     if size < 160 {
         return 0;
     }
-    if room[0] != 1818850917 {
+    if room[0] != MARK {
         return 0;
     }
     if 1024 < room[1] {

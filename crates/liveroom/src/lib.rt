@@ -6,3 +6,6 @@ pub mod changes;
 pub mod check;
 mod fields;
 pub mod matching;
+
+// The first word of a live map: "live" in four octets.
+pub const MARK: u32 = 0x6c697665;

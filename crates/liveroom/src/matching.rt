@@ -2,13 +2,12 @@
 
 ghost use Rattle.std.specs.Prelude.{◌≡◌};
 ghost use Rattle.theory.specs.Routes.{Ascending, Table, lookup};
-ghost use Rattle.refusals.specs.Rules.{gives};
-ghost use Rattle.lookup.specs.Calls.{lookup_says};
+ghost use Rattle.lookup.specs.Calls.{match_of};
 ghost use Rattle.liveroom.specs.Rooms.{shown_from};
 ghost use Rattle.liveroom.specs.Inner.{Holds, InRange, Placed, Shared, is_at};
 
 use super::fields::{addr_in, comes_before, hop_in, len_in};
-use lookup::answers::Lookup;
+use lookup::answers::Match;
 use words::prefix::{contains, masked};
 
 // The first of n records that does not stand before a prefix, by halving.
@@ -34,14 +33,7 @@ pub fn is_at(room: &[u32], n: usize, at: usize, addr: u32, len: u32) -> bool
     requires { Holds room.now n }
     ensures { result ≡ is_at room.now n at addr len }
 {
-    if n <= at {
-        return false;
-    }
-    if addr_in(room, at) == addr {
-        len_in(room, at) == len
-    } else {
-        false
-    }
+    at < n && addr_in(room, at) == addr && len_in(room, at) == len
 }
 
 // How many of their first bits two addresses share.
@@ -53,23 +45,24 @@ fn shared_bits(a: u32, b: u32) -> u32
 
 // The longest match among n records: the last that holds the address. Of those before one that does not, only such can hold it as are no longer than the
 // bits that it shares with the address, and these stand before the prefix of so many bits and one more.
-pub fn longest_in(room: &[u32], n: usize, address: u32) -> Lookup
+pub fn longest_in(room: &[u32], n: usize, address: u32) -> Option<Match>
     requires { Holds room.now n × (Table 32 (shown_from room.now 0 n) × InRange room.now n) }
-    ensures { lookup_says result ≡ gives (lookup 32 (shown_from room.now 0 n) address) }
+    ensures { match_of result ≡ lookup 32 (shown_from room.now 0 n) address }
 {
     let mut i = place(room, n, address, 33);
+    // A search finds the next place, so no range goes through them.
     while 0 < i {
         i -= 1;
         let addr = addr_in(room, i);
         let length = len_in(room, i) as u8;
         if contains(addr, length, address, 32) {
-            return Lookup::Route {
+            return Some(Match {
                 hop: hop_in(room, i) as u8,
-                length: length,
-            };
+                length,
+            });
         }
         let shared = shared_bits(addr, address);
         i = place(room, i, masked(address, shared as u8), shared + 1);
     }
-    Lookup::NoRoute
+    None
 }

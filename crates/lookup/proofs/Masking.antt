@@ -6,7 +6,9 @@ use mathlib.Core.List.{List}
 use Prim.Native.Nat.{ℕ, ◌%◌, ◌^◌}
 use Rattle.theory.specs.Routes.{Route as Entry, lookup}
 use Rattle.theory.specs.Reach.{reach}
-use Rattle.refusals.specs.Rules.{Rule, judge}
+use Rattle.std.specs.Prelude.{Option, Result}
+use Rattle.refusals.specs.Rules.{Rule, refuses, judge}
+use Rattle.refusals.specs.declared.Refusal.{Refusal}
 use Rattle.records.specs.Wire.{routes, masked_bytes}
 use Rattle.records.specs.Sized.{Bytes, width_in, masked_in}
 use Rattle.records.specs.declared.Form.{Form}
@@ -15,24 +17,21 @@ use Rattle.records.proofs.SizedReading.{form_size}
 use Rattle.table.specs.Conditions.{Accepted, AcceptedBy}
 use Rattle.table.proofs.SizedMasking.{in_table_carried, in_masked_routes, in_masked_rules}
 use Rattle.table.proofs.AtEight.{table_carried, masked-routes, masked_rules}
-use Rattle.lookup.specs.declared.answers.Lookup.{Lookup}
-use Rattle.lookup.specs.declared.answers.Lookup.TheVariants.{Refused as NotLooked}
-use Rattle.lookup.specs.declared.answers.AddressesHeld.{AddressesHeld}
-use Rattle.lookup.specs.declared.answers.AddressesHeld.TheVariants.{Refused as NotCounted}
+use Rattle.lookup.specs.declared.answers.Match.{Match as Found}
 use Rattle.lookup.specs.Calls.{match_in, lookup_says, lookup_reply, held_says, held_reply}
 use Rattle.lookup.proofs.Calls.{lookup_same, count_same}
 
 -- ---- The strict choice.
-pub lookup_carried : (long : Bool) (t : List ℕ) (x : ℕ) (r q : Lookup) → lookup_says r ≡ lookup_reply (refusing long) t x → lookup_says q ≡ lookup_reply (masking long) t x
-    → ((i : ℕ) → r ≡ NotLooked 6 i → ⊥) → q ≡ r
+pub lookup_carried : (long : Bool) (t : List ℕ) (x : ℕ) (r q : Result (Option Found) Refusal) → lookup_says r ≡ lookup_reply (refusing long) t x → lookup_says q ≡ lookup_reply (masking long) t x
+    → ((i : ℕ) → lookup_says r ≡ refuses 6 i → ⊥) → q ≡ r
 lookup_carried long t x r q one other h =
     let size = size_of (masking long) in
-    in_table_carried lookup_says lookup_same size false t (match_in size t x) r q one other (λ i e. h i (lookup_same r (NotLooked 6 i) e))
+    in_table_carried lookup_says lookup_same size false t (match_in size t x) r q one other h
 
-pub held_carried : (t : List ℕ) (r q : AddressesHeld) → held_says r ≡ held_reply strictly t → held_says q ≡ held_reply by_default t
-    → ((i : ℕ) → r ≡ NotCounted 6 i → ⊥) → q ≡ r
+pub held_carried : (t : List ℕ) (r q : Result ℕ Refusal) → held_says r ≡ held_reply strictly t → held_says q ≡ held_reply by_default t
+    → ((i : ℕ) → held_says r ≡ refuses 6 i → ⊥) → q ≡ r
 held_carried t r q one other h =
-    table_carried held_says count_same false t (reach 32 (routes t)) r q one other (λ i e. h i (count_same r (NotCounted 6 i) e))
+    table_carried held_says count_same false t (reach 32 (routes t)) r q one other h
 
 -- ---- The masked bytes, read by either choice, in place of the table.
 pub lookup-masked : (strict long s : Bool) (t : List ℕ) → Bytes t → AcceptedBy (record { strict = strict; long = long }) s t → (other : Bool) (x : ℕ)

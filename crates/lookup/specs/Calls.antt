@@ -1,14 +1,11 @@
 -- Lookup and addresses held: what each case of an answer says in document 01's terms, and which reply is right.
-use Rattle.std.specs.Prelude.{ℕ, ◌%◌, ◌^◌, false, List}
+use Rattle.std.specs.Prelude.{ℕ, ◌%◌, ◌^◌, false, List, Option, None, Some, Result}
 use Rattle.theory.specs.Routes.{Match, miss, hit, lookup}
 use Rattle.theory.specs.Reach.{reach}
-use Rattle.lookup.specs.declared.answers.Lookup.{Lookup}
-use Rattle.lookup.specs.declared.answers.Lookup.TheVariants.{Route as Found, NoRoute, Refused as NotLooked}
-use Rattle.lookup.specs.declared.answers.AddressesHeld.{AddressesHeld}
-use Rattle.lookup.specs.declared.answers.AddressesHeld.TheVariants.{Count, Refused as NotCounted}
-use Rattle.lookup.specs.declared.matching.Found.{Found as Best}
-use Rattle.lookup.specs.declared.matching.Found.TheVariants.{Nothing, Match as One}
-use Rattle.refusals.specs.Rules.{Reply, gives, refuses, judge}
+use Rattle.lookup.specs.declared.answers.Match.{Match as Found}
+use Rattle.refusals.specs.Rules.{Reply, judge}
+use Rattle.refusals.specs.Numbers.{reply_of}
+use Rattle.refusals.specs.declared.Refusal.{Refusal}
 use Rattle.records.specs.Sized.{width_in, routes_in}
 use Rattle.records.specs.Wire.{routes}
 use Rattle.records.specs.declared.Form.{Form}
@@ -17,11 +14,14 @@ use Rattle.table.specs.TableRules.{table_rules, form_rules}
 
 -- ---- Lookup.
 
+-- The match that was found, or none.
+abbrev pub match_of : Option Found → Match
+match_of None = miss
+match_of (Some found) = hit found.length found.hop
+
 -- It gives the longest match as length and hop, or that there is none, or a refusal.
-abbrev pub lookup_says : Lookup → Reply Match
-lookup_says (Found hop len) = gives (hit len hop)
-lookup_says NoRoute = gives miss
-lookup_says (NotLooked number index) = refuses number index
+abbrev pub lookup_says : Result (Option Found) Refusal → Reply Match
+lookup_says = reply_of match_of
 
 -- The longest match in a table of records of this size: the address is its lower bits, as many as the records' addresses have.
 abbrev pub match_in : ℕ → List ℕ → ℕ → Match
@@ -34,17 +34,9 @@ lookup_reply form t x = judge (form_rules form false t) (match_in (size_of form)
 -- ---- Addresses held.
 
 -- It gives the number of the addresses held, or a refusal.
-abbrev pub held_says : AddressesHeld → Reply ℕ
-held_says (Count n) = gives n
-held_says (NotCounted number index) = refuses number index
+abbrev pub held_says : Result ℕ Refusal → Reply ℕ
+held_says = reply_of (λ n. n)
 
 -- The right reply for a map's table of records of 8 bytes, by the form's choice on host bits.
 abbrev pub held_reply : Form → List ℕ → Reply ℕ
 held_reply form t = judge (table_rules form false t) (reach 32 (routes t))
-
--- ---- What the inner functions say.
-
--- The match that a search has found so far.
-abbrev pub match_of : Best → Match
-match_of Nothing = miss
-match_of (One hop len) = hit len hop

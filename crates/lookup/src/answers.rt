@@ -1,16 +1,8 @@
-// What the calls answer. A refusal has document 01's number, and the record's index for numbers 5 to 8 (else 0).
+// What a lookup finds.
 
-// Of a lookup: the longest match, that there is none, or the refusal.
-#[derive(Clone, Copy)]
-pub enum Lookup {
-    Route { hop: u8, length: u8 },
-    NoRoute,
-    Refused { number: u8, index: usize },
-}
-
-// Of addresses held: how many they are, or the refusal.
-#[derive(Clone, Copy)]
-pub enum AddressesHeld {
-    Count(u64),
-    Refused { number: u8, index: usize },
+// A longest match: its hop and its length.
+#[derive(Clone, Copy, Debug, PartialEq, Eq)]
+pub struct Match {
+    pub hop: u8,
+    pub length: u8,
 }

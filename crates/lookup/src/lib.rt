@@ -7,43 +7,24 @@ mod matching;
 ghost use Rattle.std.specs.Prelude.{◌≡◌, ◌-◌, ◌^◌, ◌≤◌};
 ghost use Rattle.theory.specs.Routes.{Table};
 ghost use Rattle.theory.specs.Reach.{reach};
-ghost use Rattle.refusals.specs.Rules.{gives};
 ghost use Rattle.records.specs.Wire.{routes};
-ghost use Rattle.lookup.specs.Calls.{match_of, lookup_says, lookup_reply, held_says, held_reply};
+ghost use Rattle.lookup.specs.Calls.{lookup_says, lookup_reply, held_says, held_reply};
 
-use answers::{AddressesHeld, Lookup};
-use matching::{Found, longest_in};
+use answers::Match;
+use matching::longest_in;
 use records::sized::key_of;
 use records::{Form, addr_at, len_at, size_of};
-use table::{Checked, check_sized, check_table};
+use refusals::Refusal;
+use table::{check_sized, check_table};
 
-// The answer that a match comes to.
-fn answer_of(found: Found) -> Lookup
-    ensures { lookup_says result ≡ gives (match_of found) }
-{
-    match found {
-        Found::Nothing => Lookup::NoRoute,
-        Found::Match { hop, length } => Lookup::Route {
-            hop: hop,
-            length: length,
-        },
-    }
-}
-
-// The longest match of an address in a map's table, read by the form; no route; or the refusal (3 to 8). In a table of records of 8 bytes only the lower
+// The longest match of an address in a map's table, read by the form; none; or the refusal (3 to 8). In a table of records of 8 bytes only the lower
 // 32 bits of the address count.
-pub fn lookup(table: &[u8], form: Form, address: u64) -> Lookup
+pub fn lookup(table: &[u8], form: Form, address: u64) -> Result<Option<Match>, Refusal>
     ensures { lookup_says result ≡ lookup_reply form table.now address }
 {
     let size = size_of(form);
-    let strict = form.strict;
-    match check_sized(table, size, strict, false) {
-        Checked::Valid(_) => answer_of(longest_in(table, size, key_of(address, size))),
-        Checked::Refused { number, index } => Lookup::Refused {
-            number: number,
-            index: index,
-        },
-    }
+    check_sized(table, size, form.strict, false)?;
+    Ok(longest_in(table, size, key_of(address, size)))
 }
 
 // The number of addresses of a prefix.
@@ -63,28 +44,21 @@ fn count_held(table: &[u8]) -> u64
     let n = table.len() / 8;
     let mut held: u64 = 0;
     let mut end: u64 = 0;
-    let mut i = 0;
-    while i < n {
+    for i in 0..n {
         let start = addr_at(table, i) as u64;
         if end <= start {
             let size = prefix_size(len_at(table, i));
             held += size;
             end = start + size;
         }
-        i += 1;
     }
     held
 }
 
 // The number of addresses with a longest match in a map's table, read by the form; or the refusal (3 to 8).
-pub fn addresses_held(table: &[u8], form: Form) -> AddressesHeld
+pub fn addresses_held(table: &[u8], form: Form) -> Result<u64, Refusal>
     ensures { held_says result ≡ held_reply form table.now }
 {
-    match check_table(table, form, false) {
-        Checked::Valid(_) => AddressesHeld::Count(count_held(table)),
-        Checked::Refused { number, index } => AddressesHeld::Refused {
-            number: number,
-            index: index,
-        },
-    }
+    check_table(table, form, false)?;
+    Ok(count_held(table))
 }

@@ -1,9 +1,8 @@
 // Mode 1: the maximal prefixes that a set's members cover.
 #![tactic(auto)]
 
-ghost use Rattle.std.specs.Prelude.{◌≡◌, ◌||◌, List, ℕ, ◌+◌, ◌-◌, ◌*◌, ◌≤◌, ◌<◌, length};
+ghost use Rattle.std.specs.Prelude.{◌≡◌, List, ℕ, ◌+◌, ◌-◌, ◌*◌, ◌≤◌, ◌<◌, length};
 ghost use Rattle.theory.specs.Routes.{held};
-ghost use Rattle.words.specs.Bits.{bit};
 ghost use Rattle.positions.specs.Walk.{walk};
 ghost use Rattle.positions.specs.Walks.{maximal_out, maximal_next};
 ghost use Rattle.nodes.specs.Node.{wide, run, slot_size, Node};
@@ -11,11 +10,11 @@ ghost use Rattle.nodes.specs.Output.{Wrote};
 ghost use Rattle.nodes.specs.Room.{BlockBy, Begins, nodes_deep, nodes_below, LaidBy, StoredBy};
 ghost use Rattle.maximal.specs.Maximal.{IsCoverage, coverage_word, uncovered, Entries};
 
-use cover::query::{open_slots, with_slot};
+use cover::query::open_slots;
 use gather::{gather_run, slot_key};
 use nodes::emit::{emit_slot, head_slots};
 use records::sized::past_sized;
-use words::bits::{has_bit, last_bit, next_bit};
+use words::bits::{has_bit, last_bit, next_bit, with_bit};
 use words::coverage::{fold_coverage, keep_of, member_coverage, parent_coverage};
 use words::ladder::push_l4;
 
@@ -63,7 +62,9 @@ pub fn collect_coverage(
             at,
         );
         at = child.top;
-        covered = with_slot(covered, c as u32, has_bit(child.coverage, 0));
+        if has_bit(child.coverage, 0) {
+            covered = with_bit(covered, c as u32);
+        }
         k = last_bit(walked, c);
     }
     let coverage = fold_coverage(g.present, covered | under);
@@ -86,20 +87,10 @@ fn entries_of(above: bool, coverage: u32) -> u32
     ensures { Entries above coverage result }
 {
     if above {
-        return 0;
+        0
+    } else {
+        keep_of(coverage, parent_coverage(coverage), 0)
     }
-    keep_of(coverage, parent_coverage(coverage), 0)
-}
-
-// Is slot c below a covered position: below one of the node, or is one above the node covered?
-fn is_absorbed(above: bool, pushed: u32, c: usize) -> bool
-    requires { c < 32 }
-    ensures { result ≡ (above || bit pushed c) }
-{
-    if above {
-        return true;
-    }
-    has_bit(pushed, c as u32)
 }
 
 // The second walk of mode 1: writes the maximal covered prefixes of a node and of all below it, none if `above` says that a position above
@@ -148,7 +139,7 @@ pub fn aggregate_set(
                 end[31 + c],
                 depth + 5,
                 slot,
-                is_absorbed(above, pushed, c),
+                above || has_bit(pushed, c as u32),
                 work,
                 at,
                 &mut out[here..],

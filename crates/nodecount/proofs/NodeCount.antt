@@ -41,10 +41,6 @@ true_both m n x y le e = rw (le-leb m n le, eq-eqb x y e)
 pub node-held : (w m x : ℕ) (s : Route) → 5 * m ≤ s.len → s.addr / 2 ^ (w - 5 * m) ≡ x / 2 ^ (w - 5 * m) → node_at w m x s ≡ true
 node-held w m x s le e = true_both m (levels s) _ _ (omega arith) e
 
--- It does not hold where s is too short.
-pub node-short : (w m x : ℕ) (s : Route) → s.len < 5 * m → node_at w m x s ≡ false
-node-short w m x s lt = rw (lt-leb m (levels s) (omega arith))
-
 -- Where s is long enough, the blocks decide.
 pub node-long : (w m x : ℕ) (s : Route) → 5 * m ≤ s.len → node_at w m x s ≡ eqb (s.addr / 2 ^ (w - 5 * m)) (x / 2 ^ (w - 5 * m))
 node-long w m x s le = rw (le-leb m (levels s) (omega arith))

@@ -15,11 +15,8 @@ fn is_shared(key: u64, last_key: u64, last_len: u8, m: u8) -> bool
     ensures { (w a b : ℕ) → w ≤ 64 → 5 * m ≤ w → key ≡ key_of w a → last_key ≡ key_of w b → result ≡ node_at w m a (bare b last_len) }
 {
     let depth = 5 * m;
-    if last_len < depth {
-        return false;
-    }
     let rest = 64 - depth;
-    last_key >> rest == key >> rest
+    depth <= last_len && last_key >> rest == key >> rest
 }
 
 // The nodes that a record brings beside those of the record before it: those below the deepest that both have.
@@ -28,12 +25,10 @@ pub fn new_nodes(key: u64, len: u8, last_key: u64, last_len: u8) -> usize
     ensures { (w a b : ℕ) → w ≤ 64 → len ≤ w → key ≡ key_of w a → last_key ≡ key_of w b → result ≡ new_nodes w (bare b last_len) (bare a len) }
 {
     let levels = len / 5;
-    let mut m = levels;
-    while 0 < m {
+    for m in (1..=levels).rev() {
         if is_shared(key, last_key, last_len, m) {
             return (levels - m) as usize;
         }
-        m -= 1;
     }
     levels as usize
 }
@@ -47,14 +42,12 @@ pub fn count_nodes(table: &[u8], size: usize) -> usize
     let mut count: usize = 1;
     let mut last_key: u64 = 0;
     let mut last_len: u8 = 0;
-    let mut i = 0;
-    while i < n {
+    for i in 0..n {
         let key = key_at(table, size, i);
         let len = length_at(table, size, i);
         count += new_nodes(key, len, last_key, last_len);
         last_key = key;
         last_len = len;
-        i += 1;
     }
     count
 }

@@ -54,10 +54,6 @@ HeadsBelow entries b marked =
     (c l : ℕ) → c < 32 → l < 5 → c % 2 ^ (5 - l) ≡ 0 → position l (c / 2 ^ (5 - l)) < b → bit entries (position l (c / 2 ^ (5 - l))) ≡ true
     → bit marked c ≡ true
 
--- Before the first there is none to mark.
-pub heads-start : (entries marked : ℕ) → HeadsBelow entries 0 marked
-heads-start entries marked c l within level begins below set = absurd (omega arith)
-
 -- Positions with no entry are passed over.
 pub heads_pass : (entries marked : ℕ) {b r : ℕ} → HeadsBelow entries b marked → NextBit entries b r → HeadsBelow entries r marked
 heads_pass entries marked {b} all next c l within level begins below set =

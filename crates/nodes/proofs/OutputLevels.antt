@@ -4,7 +4,6 @@ use mathlib.Core.Path.{◌≡◌, refl, sym, ◌∙◌}
 use mathlib.Core.Bool.{Bool, true, false}
 use mathlib.Core.List.{List, [], ◌∷◌}
 use native.Mathlib.Omega.{arith}
-use native.Mathlib.Nat.{zero-mod}
 use native.Mathlib.Numerals.{add-one}
 use lib.Dec.{lit<, eqb, leb, leb-zero, leb-suc-zero, leb-suc-suc}
 use lib.Count.{count_trailing_zeros, under}
@@ -78,12 +77,8 @@ trailing_divides (suc k) n (suc m) h = go (n % 2) refl (trailing_divides k (n / 
     go zero e rest = same (eqb (n / 2 % 2 ^ m) 0) refl e ∙ rest ∙ sym (leb-suc-suc m (count_trailing_zeros k (n / 2)))
     go (suc r) e rest = ne_eqb (n % 2 ^ suc m) 0 (λ z. omega (arith, split)) ∙ sym (leb-suc-zero m)
 
--- At the first slot a position of each level begins.
-pub all_begin : (c l : ℕ) → c ≡ 0 → eqb (c % 2 ^ (5 - l)) 0 ≡ leb 0 l
-all_begin c l e = eq-eqb (c % 2 ^ (5 - l)) 0 (rw e (zero-mod (2 ^ (5 - l)))) ∙ sym (leb-zero l)
-
 module _ (c : ℕ) (some : c ≡ 0 → ⊥) (within : c < 32) where
-  -- Another ends in fewer than 5 zeros,
+  -- A slot other than the first ends in fewer than 5 zeros,
   pub trailing_few : count_trailing_zeros 32 c < 5
   trailing_few =
       leb-false 5 (count_trailing_zeros 32 c)

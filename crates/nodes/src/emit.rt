@@ -77,10 +77,8 @@ pub fn emit_slot(
         return 0;
     }
     let mut n: usize = 0;
-    let mut l = first_level(c);
-    while l < 5 {
+    for l in first_level(c)..5 {
         n = emit_level(entries, hops, c, l, addr, depth, n, size, out);
-        l += 1;
     }
     n
 }

@@ -16,10 +16,8 @@ use Rattle.records.specs.declared.Form.{Form}
 use Rattle.records.specs.Forms.{size_of}
 use Rattle.table.specs.TableRules.{form_rules}
 use Rattle.nodecount.specs.Nodes.{nodes}
-use Rattle.calls.specs.declared.Rewritten.{Rewritten}
-use Rattle.calls.specs.declared.Rewritten.TheVariants.{Refused}
 use Rattle.calls.specs.Ending.{last_reply, Finished}
-use Rattle.calls.specs.Rewriting.{result_of, takes_set, rewrite_rules, reply_by, rewrite_reply, written_of, output_of, RewritesBy, Rewrites}
+use Rattle.calls.specs.Rewriting.{result_of, takes_set, rewrite_rules, reply_by, rewrite_reply, written_of, output_of, RewritesBy, Rewrites, Outcome, rewritten_says}
 use Rattle.calls.proofs.Settled.{rewritten_same}
 use Rattle.plain.specs.Rewriting.{is_known, plain_rules}
 use Rattle.plain.proofs.Calls.{plain_never_ten}
@@ -68,8 +66,8 @@ same_modes (suc (suc (suc (suc (suc (suc n)))))) three =
     )
 
 -- ---- A table t in a mode that is not 3, rewritten by each engine: by the first with a room of so many words, to r and o'; by the second to q and p'.
-module _ (form : Form) (t : List ℕ) (mode default : ℕ) (ranks o : List ℕ) (words : ℕ) (r : Rewritten) (o' w' : List ℕ) (first : Rewrites form t mode default ranks o words r o' w')
-    (q : Rewritten) (p' : List ℕ) (second : RewritesBy (size_of form) (plain_rules form t mode default ranks (length o)) t mode default ranks o q p')
+module _ (form : Form) (t : List ℕ) (mode default : ℕ) (ranks o : List ℕ) (words : ℕ) (r : Outcome) (o' w' : List ℕ) (first : Rewrites form t mode default ranks o words r o' w')
+    (q : Outcome) (p' : List ℕ) (second : RewritesBy (size_of form) (plain_rules form t mode default ranks (length o)) t mode default ranks o q p')
     (three : mode ≡ 3 → ⊥) where
   abbrev reply : Reply (List Route)
   reply = rewrite_reply form t mode default ranks (length o) words
@@ -93,11 +91,11 @@ module _ (form : Form) (t : List ℕ) (mode default : ℕ) (ranks o : List ℕ) 
 
   -- They give the same answer and the same output; or the first refuses by number 10, and the second ends as the output's room decides: with the result, or
   -- with number 11 where that does not fit.
-  pub engines_compared : ((q ≡ r) × (p' ≡ o')) ⊎ ((r ≡ Refused 10 0) × Finished (size_of form) t mode default ranks o q p')
+  pub engines_compared : ((q ≡ r) × (p' ≡ o')) ⊎ ((rewritten_says r ≡ refuses 10 0) × Finished (size_of form) t mode default ranks o q p')
   engines_compared = go replies
     where
       go : (reply ≡ plain) ⊎ ((reply ≡ refuses 10 0) × (plain ≡ last_reply (size_of form) t mode default ranks (length o)))
-          → ((q ≡ r) × (p' ≡ o')) ⊎ ((r ≡ Refused 10 0) × Finished (size_of form) t mode default ranks o q p')
+          → ((q ≡ r) × (p' ≡ o')) ⊎ ((rewritten_says r ≡ refuses 10 0) × Finished (size_of form) t mode default ranks o q p')
       go (inl e) =
           inl (
             rewritten_same q r (second.answer ∙ ap (written_of (records_in (size_of form) t)) (sym e) ∙ sym first.inner.answer),
@@ -105,7 +103,7 @@ module _ (form : Form) (t : List ℕ) (mode default : ℕ) (ranks o : List ℕ) 
           )
       go (inr e) =
           inr (
-            rewritten_same r (Refused 10 0) (first.inner.answer ∙ ap (written_of (records_in (size_of form) t)) e.0),
+            first.inner.answer ∙ ap (written_of (records_in (size_of form) t)) e.0,
             record {
               answer = second.answer ∙ ap (written_of (records_in (size_of form) t)) e.1;
               output = second.output ∙ ap (output_of (size_of form) o) e.1;
@@ -113,17 +111,17 @@ module _ (form : Form) (t : List ℕ) (mode default : ℕ) (ranks o : List ℕ) 
           )
 
   -- So wherever the first does not refuse by number 10 both give the same answer and the same output.
-  pub engines_agree : ((index : ℕ) → r ≡ Refused 10 index → ⊥) → (q ≡ r) × (p' ≡ o')
+  pub engines_agree : ((index : ℕ) → rewritten_says r ≡ refuses 10 index → ⊥) → (q ≡ r) × (p' ≡ o')
   engines_agree other = go engines_compared
     where
-      go : ((q ≡ r) × (p' ≡ o')) ⊎ ((r ≡ Refused 10 0) × Finished (size_of form) t mode default ranks o q p') → (q ≡ r) × (p' ≡ o')
+      go : ((q ≡ r) × (p' ≡ o')) ⊎ ((rewritten_says r ≡ refuses 10 0) × Finished (size_of form) t mode default ranks o q p') → (q ≡ r) × (p' ≡ o')
       go (inl same) = same
       go (inr (ten, more)) = absurd (other 0 ten)
 
   -- And wherever it does the second ends as the output's room decides.
-  pub engines_past_ten : (index : ℕ) → r ≡ Refused 10 index → Finished (size_of form) t mode default ranks o q p'
+  pub engines_past_ten : (index : ℕ) → rewritten_says r ≡ refuses 10 index → Finished (size_of form) t mode default ranks o q p'
   engines_past_ten index ten = go engines_compared
     where
-      go : ((q ≡ r) × (p' ≡ o')) ⊎ ((r ≡ Refused 10 0) × Finished (size_of form) t mode default ranks o q p') → Finished (size_of form) t mode default ranks o q p'
-      go (inl same) = absurd (plain_never_ten form t mode default ranks o q p' second index (same.0 ∙ ten))
+      go : ((q ≡ r) × (p' ≡ o')) ⊎ ((rewritten_says r ≡ refuses 10 0) × Finished (size_of form) t mode default ranks o q p') → Finished (size_of form) t mode default ranks o q p'
+      go (inl same) = absurd (plain_never_ten form t mode default ranks o q p' second index (ap rewritten_says same.0 ∙ ten))
       go (inr (e, more)) = more

@@ -12,23 +12,23 @@ use lib.Dec.{leb}
 use lib.IntN.{ℤ, pos}
 use lib.ListN.{length}
 use borrow.Author.Tests.{leb-false, lt-leb}
-use Rattle.refusals.specs.Rules.{Rule, rule}
+use Rattle.refusals.specs.declared.Cause.TheVariants.{Mode as NoMode, RetiredMode, Default, Ranks as BadRanks, OutputRoom}
+use Rattle.refusals.proofs.Caused.{AllCaused, caused_append}
+use Rattle.table.proofs.Caused.{table_caused}
+use Rattle.refusals.specs.Rules.{Rule, rule, refuses}
 use Rattle.refusals.specs.Order.{rank, First, None}
 use Rattle.refusals.proofs.Judged.{Broken}
 use Rattle.refusals.proofs.Ranked.{sound-each, singles, Ranked}
-use Rattle.records.specs.Sized.{records_in}
 use Rattle.records.specs.declared.Form.{Form}
 use Rattle.records.specs.Forms.{size_of}
 use Rattle.records.proofs.SizedReading.{form_size}
 use Rattle.table.proofs.SizedAccepted.{in_accepted_exactly}
 use Rattle.table.proofs.SizedTested.{in_table_numbers}
-use Rattle.calls.specs.declared.Rewritten.{Rewritten}
-use Rattle.calls.specs.declared.Rewritten.TheVariants.{Records, Refused}
 use Rattle.calls.specs.Conditions.{Answerable, Guarded}
-use Rattle.calls.specs.Rewriting.{result_of, takes_set, reply_by, written_of, output_of, count_of, change_of, RewritesBy}
+use Rattle.calls.specs.Rewriting.{result_of, takes_set, count_of, change_of, RewritesBy, Outcome, records_out, rewritten_says}
 use Rattle.calls.proofs.Engines.{by_gives, by_refused, by_accepted, by_untouched}
 use Rattle.calls.proofs.Refusals.{holds, lawful}
-use Rattle.calls.proofs.Settled.{rewritten_of, rewrite_by_settled}
+use Rattle.calls.proofs.Settled.{met_by, rewrite_by_settled}
 use Rattle.calls.proofs.Tested.{ranked_with, broken_with, breaks_mode, breaks_retired, breaks_default, breaks_ranks, breaks_table, breaks_last}
 use Rattle.plain.specs.Conditions.{IsMode, PlainCondition, no_mode, retired, large_default, bad_ranks, of_table, short_output}
 use Rattle.plain.specs.Rewriting.{is_known, plain_rules}
@@ -110,38 +110,53 @@ module _ (form : Form) (t : List ℕ) (mode default : ℕ) (ranks : List ℕ) (r
   pub plain_guarded : Guarded form (plain_rules form t mode default ranks room) t mode default ranks room
   plain_guarded rs e = (none→answerable ((by_gives (size_of form) (plain_rules form t mode default ranks room) plain_tests t mode default ranks).0 e).0).1
 
+-- The numbers of its rules are those of causes.
+plain_caused : (form : Form) (t : List ℕ) (mode default : ℕ) (ranks : List ℕ) (room : ℕ) → AllCaused (plain_rules form t mode default ranks room)
+unfolding plain_rules
+plain_caused form t mode default ranks room = (
+  (NoMode, refl),
+  (
+    (RetiredMode, refl),
+    (
+      (Default, refl),
+      (
+        (BadRanks, refl),
+        caused_append _ _ (table_caused (size_of form) form.strict (takes_set mode) t) ((OutputRoom, refl), tt),
+      ),
+    ),
+  ),
+)
+
 -- ---- No second answer and no second output satisfies the statement, and for every input some do.
 module _ (form : Form) (t : List ℕ) (mode default : ℕ) (ranks o : List ℕ) where
   abbrev rules : List Rule
   rules = plain_rules form t mode default ranks (length o)
 
-  pub plain_settled : (r r₁ : Rewritten) (o' o₁ : List ℕ) → RewritesBy (size_of form) (plain_rules form t mode default ranks (length o)) t mode default ranks o r o'
+  pub plain_settled : (r r₁ : Outcome) (o' o₁ : List ℕ) → RewritesBy (size_of form) (plain_rules form t mode default ranks (length o)) t mode default ranks o r o'
       → RewritesBy (size_of form) (plain_rules form t mode default ranks (length o)) t mode default ranks o r₁ o₁ → (r ≡ r₁) × (o' ≡ o₁)
   plain_settled = rewrite_by_settled (size_of form) rules t mode default ranks o
 
-  pub plain_met : (r : Rewritten) × ((o' : List ℕ) × RewritesBy (size_of form) (plain_rules form t mode default ranks (length o)) t mode default ranks o r o')
-  plain_met =
-      let a = rewritten_of (written_of (records_in (size_of form) t) (reply_by (size_of form) rules t mode default ranks)) in
-      (a.0, (output_of (size_of form) o (reply_by (size_of form) rules t mode default ranks), record { answer = a.1; output = refl }))
+  pub plain_met : (r : Outcome) × ((o' : List ℕ) × RewritesBy (size_of form) (plain_rules form t mode default ranks (length o)) t mode default ranks o r o')
+  plain_met = met_by (size_of form) rules (plain_caused form t mode default ranks (length o)) t mode default ranks o
 
-  module _ (r : Rewritten) (o' : List ℕ) (ok : RewritesBy (size_of form) (plain_rules form t mode default ranks (length o)) t mode default ranks o r o') where
+  module _ (r : Outcome) (o' : List ℕ) (ok : RewritesBy (size_of form) (plain_rules form t mode default ranks (length o)) t mode default ranks o r o') where
     -- ---- Refusals.
 
     -- It is refused with a number and an index exactly when they are those of the first condition that holds.
-    pub plain_refused : (number index : ℕ) → r ≡ Refused number index ↔ First (PlainCondition form t mode default ranks (length o)) number index
+    pub plain_refused : (number index : ℕ) → rewritten_says r ≡ refuses number index ↔ First (PlainCondition form t mode default ranks (length o)) number index
     plain_refused =
         by_refused (size_of form) rules (plain_tests form t mode default ranks (length o)) t mode default ranks o r o' ok (plain_ranked form t mode default ranks (length o)).order
 
     -- It is answered with records exactly when no condition holds.
-    pub plain_accepted : ((count : ℕ) × ((change : ℤ) × (r ≡ Records count change))) ↔ None (PlainCondition form t mode default ranks (length o))
+    pub plain_accepted : ((count : ℕ) × ((change : ℤ) × (r ≡ records_out count change))) ↔ None (PlainCondition form t mode default ranks (length o))
     plain_accepted = by_accepted (size_of form) rules (plain_tests form t mode default ranks (length o)) t mode default ranks o r o' ok
 
     -- A refusal leaves the output as it was, and has count 0 and change 0.
-    pub plain_untouched : (number index : ℕ) → r ≡ Refused number index → (o' ≡ o) × (count_of r ≡ 0) × (change_of r ≡ pos 0)
+    pub plain_untouched : (number index : ℕ) → rewritten_says r ≡ refuses number index → (o' ≡ o) × (count_of r ≡ 0) × (change_of r ≡ pos 0)
     plain_untouched = by_untouched (size_of form) rules t mode default ranks o r o' ok
 
     -- It gives the numbers 1 to 8, 11, 15 and 16 alone.
-    pub plain_numbers : (number index : ℕ) → r ≡ Refused number index → ((1 ≤ number) × (number ≤ 8)) ⊎ ((number ≡ 11) ⊎ ((number ≡ 15) ⊎ (number ≡ 16)))
+    pub plain_numbers : (number index : ℕ) → rewritten_says r ≡ refuses number index → ((1 ≤ number) × (number ≤ 8)) ⊎ ((number ≡ 11) ⊎ ((number ≡ 15) ⊎ (number ≡ 16)))
     plain_numbers number index e = go number index ((plain_refused number index).0 e).0
       where
         go : (n i : ℕ) → PlainCondition form t mode default ranks (length o) n i → ((1 ≤ n) × (n ≤ 8)) ⊎ ((n ≡ 11) ⊎ ((n ≡ 15) ⊎ (n ≡ 16)))
@@ -153,7 +168,7 @@ module _ (form : Form) (t : List ℕ) (mode default : ℕ) (ranks o : List ℕ) 
         go n i (bad_ranks h f) = inr (inr (inl refl))
 
     -- Never 10.
-    pub plain_never_ten : (index : ℕ) → r ≡ Refused 10 index → ⊥
+    pub plain_never_ten : (index : ℕ) → rewritten_says r ≡ refuses 10 index → ⊥
     plain_never_ten index e = go 10 refl (plain_numbers 10 index e)
       where
         go : (n : ℕ) → n ≡ 10 → ((1 ≤ n) × (n ≤ 8)) ⊎ ((n ≡ 11) ⊎ ((n ≡ 15) ⊎ (n ≡ 16))) → ⊥

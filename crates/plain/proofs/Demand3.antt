@@ -13,10 +13,8 @@ use Rattle.refusals.specs.Order.{None}
 use Rattle.records.specs.Sized.{width_in, routes_in, Bytes}
 use Rattle.records.specs.declared.Form.{Form}
 use Rattle.records.specs.Forms.{size_of}
-use Rattle.calls.specs.declared.Rewritten.{Rewritten}
-use Rattle.calls.specs.declared.Rewritten.TheVariants.{Records}
 use Rattle.calls.specs.Conditions.{Guarded}
-use Rattle.calls.specs.Rewriting.{rewrite_rules, RewritesBy}
+use Rattle.calls.specs.Rewriting.{rewrite_rules, RewritesBy, Outcome, records_out}
 use Rattle.calls.proofs.Engines.{again_by, again_answerable, drop_by, fill_by, set_by}
 use Rattle.calls.proofs.Refusals.{rewrite_guarded}
 use Rattle.plain.specs.Conditions.{IsMode, PlainCondition}
@@ -33,7 +31,7 @@ rules_of form (nodes words) t mode default ranks o = rewrite_rules form t mode d
 rules_of form plain t mode default ranks o = plain_rules form t mode default ranks (length o)
 
 -- A table t is rewritten by the engine to r and o'.
-abbrev pub RewritesWith : Form → Engine → List ℕ → ℕ → ℕ → List ℕ → List ℕ → Rewritten → List ℕ → Type 0
+abbrev pub RewritesWith : Form → Engine → List ℕ → ℕ → ℕ → List ℕ → List ℕ → Outcome → List ℕ → Type 0
 RewritesWith form e t mode default ranks o r o' = RewritesBy (size_of form) (rules_of form e t mode default ranks o) t mode default ranks o r o'
 
 -- Both engines' rules are guarded.
@@ -46,7 +44,7 @@ both_guarded form plain t mode default ranks o = plain_guarded form t mode defau
 module _ (form : Form) (ranks : List ℕ) (g : Engine) (t : List ℕ) (bytes : Bytes t) (o : List ℕ) (count : ℕ) (change : ℤ) (o' : List ℕ)
     (h : Engine) (s : List ℕ) (small : Bytes s) (p : List ℕ) (number : ℕ) (other : ℤ) (p' : List ℕ) where
   -- Mode 4: the same bytes exactly when they send all addresses the same way, no route included.
-  pub both_engines_drop : (d e : ℕ) → RewritesWith form g t 4 d ranks o (Records count change) o' → RewritesWith form h s 4 e ranks p (Records number other) p'
+  pub both_engines_drop : (d e : ℕ) → RewritesWith form g t 4 d ranks o (records_out count change) o' → RewritesWith form h s 4 e ranks p (records_out number other) p'
       → take (size_of form * count) o' ≡ take (size_of form * number) p'
       ↔ Alike (width_in (size_of form)) (answer (width_in (size_of form)) (routes_in (size_of form) t)) (answer (width_in (size_of form)) (routes_in (size_of form) s))
   both_engines_drop d e a b =
@@ -54,7 +52,7 @@ module _ (form : Form) (ranks : List ℕ) (g : Engine) (t : List ℕ) (bytes : B
       (both_guarded form g t 4 d ranks o) a (both_guarded form h s 4 e ranks p) b
 
   -- Mode 5, at one default: exactly when they do once unrouted addresses have the default.
-  pub both_engines_fill : (d : ℕ) → RewritesWith form g t 5 d ranks o (Records count change) o' → RewritesWith form h s 5 d ranks p (Records number other) p'
+  pub both_engines_fill : (d : ℕ) → RewritesWith form g t 5 d ranks o (records_out count change) o' → RewritesWith form h s 5 d ranks p (records_out number other) p'
       → take (size_of form * count) o' ≡ take (size_of form * number) p'
       ↔ Alike (width_in (size_of form)) (filled d (answer (width_in (size_of form)) (routes_in (size_of form) t))) (filled d (answer (width_in (size_of form)) (routes_in (size_of form) s)))
   both_engines_fill d a b =
@@ -62,7 +60,7 @@ module _ (form : Form) (ranks : List ℕ) (g : Engine) (t : List ℕ) (bytes : B
       (both_guarded form g t 5 d ranks o) a (both_guarded form h s 5 d ranks p) b
 
   -- Mode 1: exactly when they hold the same addresses.
-  pub both_engines_set : (d e : ℕ) → RewritesWith form g t 1 d ranks o (Records count change) o' → RewritesWith form h s 1 e ranks p (Records number other) p'
+  pub both_engines_set : (d e : ℕ) → RewritesWith form g t 1 d ranks o (records_out count change) o' → RewritesWith form h s 1 e ranks p (records_out number other) p'
       → take (size_of form * count) o' ≡ take (size_of form * number) p'
       ↔ ((x : ℕ) → x < 2 ^ width_in (size_of form) → held (width_in (size_of form)) (routes_in (size_of form) t) x ≡ held (width_in (size_of form)) (routes_in (size_of form) s) x)
   both_engines_set d e a b =
@@ -71,10 +69,10 @@ module _ (form : Form) (ranks : List ℕ) (g : Engine) (t : List ℕ) (bytes : B
 
 -- ---- A table t, rewritten without refusal by either engine.
 module _ (form : Form) (g : Engine) (t : List ℕ) (bytes : Bytes t) (mode default : ℕ) (ranks o : List ℕ) (count : ℕ) (change : ℤ) (o' : List ℕ)
-    (ok : RewritesWith form g t mode default ranks o (Records count change) o') where
+    (ok : RewritesWith form g t mode default ranks o (records_out count change) o') where
   -- What is written, rewritten again by either engine without refusal, is given back with change 0.
-  pub both_engines_again : (h : Engine) (p : List ℕ) (r : Rewritten) (p' : List ℕ) → RewritesWith form h (take (size_of form * count) o') mode default ranks p r p'
-      → (number : ℕ) (other : ℤ) → r ≡ Records number other → (r ≡ Records count (pos 0)) × (take (size_of form * count) p' ≡ take (size_of form * count) o')
+  pub both_engines_again : (h : Engine) (p : List ℕ) (r : Outcome) (p' : List ℕ) → RewritesWith form h (take (size_of form * count) o') mode default ranks p r p'
+      → (number : ℕ) (other : ℤ) → r ≡ records_out number other → (r ≡ records_out count (pos 0)) × (take (size_of form * count) p' ≡ take (size_of form * count) o')
   both_engines_again h p r p' b =
       again_by form (rules_of form g t mode default ranks o) t mode default ranks o (both_guarded form g t mode default ranks o) count change o' ok bytes
       (rules_of form h (take (size_of form * count) o') mode default ranks p) p (both_guarded form h (take (size_of form * count) o') mode default ranks p) r p' b
@@ -85,6 +83,6 @@ module _ (form : Form) (g : Engine) (t : List ℕ) (bytes : Bytes t) (mode defau
   plain_again_answered had few p fits =
       (plain_answerable form (take (size_of form * count) o') mode default ranks (length p)).1 (
         had,
-        again_answerable form (rules_of form g t mode default ranks o) t mode default ranks o (both_guarded form g t mode default ranks o) (Records count change) o' ok count change refl bytes few
+        again_answerable form (rules_of form g t mode default ranks o) t mode default ranks o (both_guarded form g t mode default ranks o) (records_out count change) o' ok count change refl bytes few
             (length p) fits,
       )

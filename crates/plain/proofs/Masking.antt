@@ -7,7 +7,7 @@ use Prim.Native.Nat.{ℕ, ◌*◌, ◌/◌}
 use lib.Dec.{eqb, leb}
 use lib.ListN.{length}
 use Rattle.theory.specs.Ranks.{is_ranking}
-use Rattle.refusals.specs.Rules.{Rule, rule}
+use Rattle.refusals.specs.Rules.{Rule, rule, refuses}
 use Rattle.refusals.proofs.Waived.{waived, waived_append}
 use Rattle.records.specs.Sized.{masked_in, Bytes}
 use Rattle.records.specs.declared.Form.{Form}
@@ -16,9 +16,7 @@ use Rattle.records.proofs.SizedReading.{form_size}
 use Rattle.table.specs.TableRules.{form_rules}
 use Rattle.table.specs.Conditions.{AcceptedBy}
 use Rattle.table.proofs.SizedMasking.{in_strict_waived, in_masked_routes, in_masked_length, in_masked_rules}
-use Rattle.calls.specs.declared.Rewritten.{Rewritten}
-use Rattle.calls.specs.declared.Rewritten.TheVariants.{Refused}
-use Rattle.calls.specs.Rewriting.{result_of, takes_set, reply_by, written_of, output_of, RewritesBy}
+use Rattle.calls.specs.Rewriting.{result_of, takes_set, reply_by, written_of, output_of, RewritesBy, Outcome, rewritten_says}
 use Rattle.calls.proofs.Masking.{choosing, by_waived}
 use Rattle.plain.specs.Rewriting.{is_known, plain_rules}
 use Rattle.plain.proofs.Calls.{plain_settled}
@@ -40,10 +38,10 @@ plain_waived long t mode default ranks room =
     last = rule 11 0 (leb (size_of (masking long) * length (result_of (size_of (masking long)) t mode default ranks)) room) ∷ []
 
 -- A rewrite that is not refused by 6 under the strict choice is the default's: the answer and the output.
-pub plain_carried : (long : Bool) (t : List ℕ) (mode default : ℕ) (ranks o : List ℕ) (r q : Rewritten) (o' p' : List ℕ)
+pub plain_carried : (long : Bool) (t : List ℕ) (mode default : ℕ) (ranks o : List ℕ) (r q : Outcome) (o' p' : List ℕ)
     → RewritesBy (size_of (masking long)) (plain_rules (refusing long) t mode default ranks (length o)) t mode default ranks o r o'
     → RewritesBy (size_of (masking long)) (plain_rules (masking long) t mode default ranks (length o)) t mode default ranks o q p'
-    → ((i : ℕ) → r ≡ Refused 6 i → ⊥) → (q ≡ r) × (p' ≡ o')
+    → ((i : ℕ) → rewritten_says r ≡ refuses 6 i → ⊥) → (q ≡ r) × (p' ≡ o')
 plain_carried long t mode default ranks o r q o' p' one other h =
     plain_settled (masking long) t mode default ranks o q r p' o' other
     (subst (λ (rules : List Rule). RewritesBy (size_of (masking long)) rules t mode default ranks o r o') (plain_waived long t mode default ranks (length o))
@@ -51,7 +49,7 @@ plain_carried long t mode default ranks o r q o' p' one other h =
 
 -- The masked bytes of a table that is accepted as a set or as a map, under either choice, satisfy the table's own statement, and no other answer does.
 pub plain_masked : (form : Form) (s : Bool) (t : List ℕ) → Bytes t → AcceptedBy form s t
-    → (other : Bool) (mode default : ℕ) (ranks o : List ℕ) (r : Rewritten) (o' : List ℕ)
+    → (other : Bool) (mode default : ℕ) (ranks o : List ℕ) (r : Outcome) (o' : List ℕ)
     → RewritesBy (size_of form) (plain_rules (choosing other form.long) (masked_in (size_of form) t) mode default ranks (length o)) (masked_in (size_of form) t) mode default ranks o r o'
     → RewritesBy (size_of form) (plain_rules (masking form.long) t mode default ranks (length o)) t mode default ranks o r o'
 unfolding reply_by plain_rules result_of

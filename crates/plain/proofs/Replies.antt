@@ -1,11 +1,15 @@
 -- The call's rules, one after the other: which refuses, and that past them only the output's room decides. Assumes nothing.
 use Prim.Native.Nat.{ℕ, ◌*◌}
-use mathlib.Core.Path.{◌≡◌}
-use mathlib.Core.Bool.{true, false, not, ◌||◌}
+use mathlib.Core.Path.{◌≡◌, refl, sym, ap}
+use mathlib.Core.Bool.{true, false, not, ◌||◌, Bool, true≢false}
 use mathlib.Core.List.{List, [], ◌∷◌}
 use lib.Dec.{eqb, leb}
 use lib.ListN.{length}
+use mathlib.Core.Logic.{inl, inr, ◌⊎◌}
 use Rattle.theory.specs.Ranks.{is_ranking}
+use Rattle.refusals.specs.declared.Cause.{Cause}
+use Rattle.refusals.specs.declared.Cause.TheVariants.{RetiredMode, Mode as NoMode}
+use Rattle.refusals.specs.Numbers.{number_of}
 use Rattle.refusals.specs.Rules.{Rule, rule, gives, refuses}
 use Rattle.records.specs.declared.Form.{Form}
 use Rattle.records.specs.Forms.{size_of}
@@ -13,7 +17,7 @@ use Rattle.table.specs.Checking.{check_reply_in}
 use Rattle.calls.specs.Ending.{last_reply}
 use Rattle.calls.specs.Rewriting.{result_of, takes_set, reply_by}
 use Rattle.calls.proofs.Ending.{refused_mode, refused_retired, refused_default, refused_ranks, refused_table, last_decide}
-use Rattle.plain.specs.Rewriting.{is_known, plain_rules}
+use Rattle.plain.specs.Rewriting.{is_known, plain_rules, has_mode}
 
 module _ (form : Form) (t : List ℕ) (mode default : ℕ) (ranks : List ℕ) (room : ℕ) where
   -- The rule of the output.
@@ -57,3 +61,19 @@ module _ (form : Form) (t : List ℕ) (mode default : ℕ) (ranks : List ℕ) (r
               → reply_by (size_of form) (plain_rules form t mode default ranks room) t mode default ranks ≡ last_reply (size_of form) t mode default ranks room
           unfolding reply_by plain_rules
           only_output valid = last_decide (is_known mode) form t mode default ranks last (result_of (size_of form) t mode default ranks) known used ok ranked valid
+
+-- A number that names no mode of this engine is refused by what it is.
+pub named_by : (form : Form) (t : List ℕ) (mode default : ℕ) (ranks : List ℕ) (room : ℕ) (c : Cause)
+    → ((c ≡ RetiredMode) × (mode ≡ 2)) ⊎ ((c ≡ NoMode) × (is_known mode ≡ false))
+    → reply_by (size_of form) (plain_rules form t mode default ranks room) t mode default ranks ≡ refuses (number_of c) 0
+named_by form t mode default ranks room c (inl (e, two)) = rw e (retired_mode form t mode default ranks room (ap is_known two) two)
+named_by form t mode default ranks room c (inr (e, none)) = rw e (not_a_mode form t mode default ranks room none)
+
+-- A mode that the engine has is known, and not the retired one.
+pub had_known : (mode : ℕ) → has_mode mode ≡ true → (is_known mode ≡ true) × (mode ≡ 2 → ⊥)
+had_known mode e = (go (eqb mode 1) (eqb mode 2) (eqb mode 4 || eqb mode 5) e, λ two. let z : ◌≡◌ {A = Bool} false true = rw two at e in true≢false (sym z))
+  where
+    go : (a b c : Bool) → (a || c) ≡ true → (a || (b || c)) ≡ true
+    go true b c h = refl
+    go false true c h = refl
+    go false false c h = h

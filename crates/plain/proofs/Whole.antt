@@ -28,9 +28,8 @@ use Rattle.runs.specs.Runs.{run}
 use Rattle.runs.proofs.Halves.{whole_run}
 use Rattle.theory.proofs.Numbered.{member_numbered}
 use Rattle.runs.proofs.Records.{run-whole, run_numbered}
-use Rattle.calls.specs.declared.Rewritten.TheVariants.{Records}
 use Rattle.calls.specs.Ending.{Fills, Finished}
-use Rattle.calls.specs.Rewriting.{InUse, result_of, takes_set}
+use Rattle.calls.specs.Rewriting.{InUse, result_of, takes_set, records_out}
 use Rattle.calls.proofs.Ending.{laid-output, long_enough, finished_written}
 use Rattle.plain.specs.Conditions.{IsMode}
 use Rattle.plain.specs.Output.{Put}
@@ -144,7 +143,7 @@ module _ {size : ℕ} (is : IsSize size) (t : List ℕ) (mode fill : ℕ) (ranks
     whole-count = put.counted ∙ ap length (whole-result had)
 
     -- and, where they fit, the end of a rewrite.
-    pub whole_finished : {change : ℤ} → k ≤ length o / size → change ≡ pos k -ℤ pos (records_in size t) → Finished size t mode fill ranks o (Records k change) o'
+    pub whole_finished : {change : ℤ} → k ≤ length o / size → change ≡ pos k -ℤ pos (records_in size t) → Finished size t mode fill ranks o (records_out k change) o'
     whole_finished fits differ =
         finished_written size is t mode fill ranks o whole-count fits differ
         (put.written (long_enough size is (length o) k fits) ∙ rw (whole-result had, whole-count) (laid-output size is (result_of size t mode fill ranks) o))

@@ -1,12 +1,16 @@
 -- The rules of the second engine. Its statement is `RewritesBy` of the crate calls, by these rules.
-use Rattle.std.specs.Prelude.{ℕ, ◌*◌, ◌≡◌, Bool, not, ◌||◌, List, [], ◌∷◌, ◌++◌, eqb, leb, length}
+use Rattle.std.specs.Prelude.{ℕ, ◌*◌, ◌≡◌, Bool, not, ◌||◌, List, [], ◌∷◌, ◌++◌, eqb, leb, length, true, false, ◌⊎◌, Result, MatchResult}
 use Rattle.theory.specs.Ranks.{is_ranking}
 use Rattle.theory.specs.Routes.{All}
+use Rattle.refusals.specs.declared.Cause.{Cause}
+use Rattle.refusals.specs.declared.Cause.TheVariants.{RetiredMode, Mode as NoMode}
 use Rattle.refusals.specs.Rules.{Rule, rule}
 use Rattle.records.specs.Sized.{routes_in}
 use Rattle.records.specs.declared.Form.{Form}
 use Rattle.records.specs.Forms.{size_of}
 use Rattle.table.specs.TableRules.{form_rules}
+use Rattle.calls.specs.declared.engine.Mode.{Mode}
+use Rattle.calls.specs.Modes.{mode_number}
 use Rattle.calls.specs.Rewriting.{result_of, takes_set}
 
 -- Is it a mode of this engine?
@@ -16,6 +20,12 @@ has_mode mode = eqb mode 1 || (eqb mode 4 || eqb mode 5)
 -- Is it one, or the retired mode?
 abbrev pub is_known : ℕ → Bool
 is_known mode = eqb mode 1 || (eqb mode 2 || (eqb mode 4 || eqb mode 5))
+
+-- A number names a mode of this engine, or it is the retired mode's or none's.
+abbrev pub KnownBy : ℕ → Result Mode Cause → Type 0
+KnownBy number r =
+    MatchResult r (λ m. (mode_number m ≡ number) × (has_mode number ≡ true))
+    (λ c. ((c ≡ RetiredMode) × (number ≡ 2)) ⊎ ((c ≡ NoMode) × (is_known number ≡ false)))
 
 -- The rules 1, 16, 2, 15, 3 to 8 and 11, for an output of `room` bytes: there is no work room, so no rule 10. Mode 1 does not read the ranks.
 unfoldable pub plain_rules : Form → List ℕ → ℕ → ℕ → List ℕ → ℕ → List Rule

@@ -6,26 +6,28 @@
 // A hop is a u8, NO_HOP for none. A candidate set is a u64 with a bit for each hop, 0 for a hole.
 #![tactic(auto)]
 
-ghost use Rattle.std.specs.Prelude.{◌≡◌, true, not, ◌-◌, ◌≤◌, ◌<◌, length};
+ghost use Rattle.std.specs.Prelude.{◌≡◌, true, ◌-◌, ◌≤◌, ◌<◌, length};
 ghost use Rattle.theory.specs.Results.{Cand};
 ghost use Rattle.theory.specs.Routes.{Table};
 ghost use Rattle.records.specs.Forms.{size_of};
 ghost use Rattle.records.specs.Sized.{IsSize, width_in, records_in, route_in, routes_in};
 ghost use Rattle.hops.specs.Sets.{ShowsSet};
 ghost use Rattle.calls.specs.Ending.{Fills, Finished};
+ghost use Rattle.calls.specs.Modes.{mode_number};
 ghost use Rattle.calls.specs.Rewriting.{RewritesBy};
 ghost use Rattle.plain.specs.Positions.{Hopped, address_in, Position, set_at, entry_at, entries_at, PartOf};
 ghost use Rattle.plain.specs.Output.{Put};
-ghost use Rattle.plain.specs.Rewriting.{has_mode, is_known, plain_rules, Bare};
+ghost use Rattle.plain.specs.Rewriting.{has_mode, KnownBy, plain_rules, Bare};
 
 use calls::Rewritten;
-use calls::engine::{fill_of, most_records, no_hop, no_ranks};
+use calls::engine::Mode;
 use hops::ranking::lowest;
 use hops::{NO_HOP, alone, assign, combine, has};
 use records::sized::{hop_of, past_sized, put_sized};
 use records::{Form, size_of};
+use refusals::{Cause, Refusal};
 use runs::{past_own, right_half, split};
-use table::{Checked, check_sized};
+use table::check_sized;
 
 // The candidate set of a hole.
 const HOLE: u64 = 0;
@@ -183,20 +185,14 @@ fn write(
     }
 }
 
-// Is the mode none that this engine has, nor the retired one?
-fn no_mode(mode: u32) -> bool
-    ensures { result ≡ not (is_known mode) }
+// The mode that a number names, if this engine has it.
+fn known(number: u32) -> Result<Mode, Cause>
+    ensures { KnownBy number result }
 {
-    if mode == 1 {
-        return false;
+    match Mode::try_from(number)? {
+        Mode::ConsistentMap => Err(Cause::Mode),
+        mode => Ok(mode),
     }
-    if mode == 2 {
-        return false;
-    }
-    if mode == 4 {
-        return false;
-    }
-    mode != 5
 }
 
 // The rewrite of a table that keeps the rules and has so many records. Where the output might be too short, a first walk into nothing counts the result's
@@ -204,19 +200,19 @@ fn no_mode(mode: u32) -> bool
 fn rewrite_checked(
     table: &[u8],
     size: usize,
-    mode: u32,
+    mode: Mode,
     fill: u8,
     ranks: &[u16],
     before: usize,
     output: &mut [u8],
-) -> Rewritten
-    requires size { IsSize size × (has_mode mode ≡ true) }
-    requires table { Table (width_in size) (routes_in size table.now) × (Hopped size table.now × Bare size table.now mode) }
-    requires fills { Fills mode fill }
+) -> Result<Rewritten, Refusal>
+    requires size { IsSize size × (has_mode (mode_number mode) ≡ true) }
+    requires table { Table (width_in size) (routes_in size table.now) × (Hopped size table.now × Bare size table.now (mode_number mode)) }
+    requires fills { Fills (mode_number mode) fill }
     requires before_value { before ≡ records_in size table.now }
-    ensures { Finished size table.now mode fill ranks.now output.old result output.new }
+    ensures { Finished size table.now (mode_number mode) fill ranks.now output.old result output.new }
 {
-    if output.len() / size < most_records(mode, before) {
+    if output.len() / size < mode.most_records(before) {
         let mut nothing = [0u8; 0];
         let count = write(
             table,
@@ -231,17 +227,14 @@ fn rewrite_checked(
             &mut nothing,
         );
         if output.len() / size < count {
-            return Rewritten::Refused {
-                number: 11,
-                index: 0,
-            };
+            return Err(Cause::OutputRoom.at(0));
         }
     }
     let written = write(table, size, 0, before, 0, 0, fill, NO_HOP, ranks, output);
-    Rewritten::Records {
+    Ok(Rewritten {
         count: written,
         change: (written as i64) - (before as i64),
-    }
+    })
 }
 
 // Rewrites a table in mode 1, 4 or 5 into the output: the number of records written from its start, and how many more they are than the table's; or a
@@ -254,45 +247,13 @@ pub fn rewrite(
     default: u32,
     ranks: &[u16],
     output: &mut [u8],
-) -> Rewritten
+) -> Result<Rewritten, Refusal>
     ensures { RewritesBy (size_of form) (plain_rules form table.now mode default ranks.now (length output.old)) table.now mode default ranks.now output.old result output.new }
 {
-    if no_mode(mode) {
-        return Rewritten::Refused {
-            number: 1,
-            index: 0,
-        };
-    }
-    if mode == 2 {
-        return Rewritten::Refused {
-            number: 16,
-            index: 0,
-        };
-    }
-    if no_hop(mode, default) {
-        return Rewritten::Refused {
-            number: 2,
-            index: 0,
-        };
-    }
-    if no_ranks(mode, ranks) {
-        return Rewritten::Refused {
-            number: 15,
-            index: 0,
-        };
-    }
-    let strict = form.strict;
+    let mode = known(mode)?;
+    let fill = mode.fill(default)?;
+    mode.check_ranks(ranks)?;
     let size = size_of(form);
-    match check_sized(table, size, strict, mode == 1) {
-        Checked::Refused { number, index } => Rewritten::Refused { number, index },
-        Checked::Valid(records) => rewrite_checked(
-            table,
-            size,
-            mode,
-            fill_of(mode, default),
-            ranks,
-            records,
-            output,
-        ),
-    }
+    let records = check_sized(table, size, form.strict, mode.takes_set())?;
+    rewrite_checked(table, size, mode, fill, ranks, records, output)
 }

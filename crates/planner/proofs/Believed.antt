@@ -7,6 +7,8 @@ use native.Mathlib.Nat.{div-add-mod'}
 use native.Mathlib.Omega.{arith}
 use lib.ListN.{length}
 use borrow.Author.Tests.{eq-eqb, le-leb}
+use Rattle.std.specs.Prelude.{Result, Ok}
+use Rattle.refusals.specs.declared.Refusal.{Refusal}
 use Rattle.theory.specs.Results.{start_of}
 use Rattle.theory.specs.Routes.{Route, Valid, All, nil, cons}
 use Rattle.theory.proofs.Lists.{all_append}
@@ -23,15 +25,12 @@ use Rattle.steps.specs.Planned.{together, rising, taking_of, plan}
 use Rattle.steps.proofs.Rungs.{match_start}
 use Rattle.steps.proofs.Levels.{falling_all}
 use Rattle.steps.proofs.Plan.{planned_hitless}
-use Rattle.plans.specs.declared.answers.Step.{Step}
-use Rattle.plans.specs.declared.answers.Judged.{Judged}
-use Rattle.plans.specs.declared.answers.Judged.TheVariants.{Yes}
 use Rattle.plans.specs.Following.{step_at}
 use Rattle.plans.specs.Judging.{step_of, tables_rules, Accepts, Judges}
 use Rattle.plans.proofs.Rules.{kept, all_kept}
 use Rattle.plans.proofs.Calls.{yes_exactly}
 use Rattle.planner.specs.Planning.{struct_of, plan_of}
-use Rattle.planner.proofs.Answers.{both_given}
+use Rattle.plans.proofs.Rules.{both_given}
 
 -- A route of an accepted table.
 abbrev Good : Route → Type 0
@@ -104,7 +103,7 @@ module _ (form : Form) where
 
     -- So the checker says yes to it.
     pub plan_believed : judge (tables_rules form t u) true ≡ gives true → together (routes t) (routes u) ≤ 1024
-        → (q : Judged) → Judges form t u (plan_of t u) q → q ≡ Yes
+        → (q : Result Bool Refusal) → Judges form t u (plan_of t u) q → q ≡ Ok true
     plan_believed ok few q judges =
         let both = both_given form t u {a = true} ok in
         (yes_exactly form t u (plan_of t u) q judges (all_kept form t u (plan_of t u) true both.0.1 both.1.1 plan_fine.keep)).1 (plan_accepts few)

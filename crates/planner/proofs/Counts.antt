@@ -7,6 +7,7 @@ use native.Mathlib.Omega.{arith}
 use lib.Dec.{ltb}
 use lib.ListN.{length, length-append, length-map}
 use borrow.Author.Tests.{lt-ltb, le-ltb}
+use Rattle.std.specs.Prelude.{None, Some}
 use Rattle.theory.specs.Routes.{Route, Answer, via, Table}
 use Rattle.theory.specs.Shapes.{routed}
 use Rattle.theory.specs.Results.{part}
@@ -20,7 +21,6 @@ use Rattle.steps.proofs.Entries.{ascending_distinct, member-entry, true_answer}
 use Rattle.steps.proofs.Tables.{as_long}
 use Rattle.steps.proofs.Phase.{down, up, ordered_distinct}
 use Rattle.steps.proofs.Levels.{falling_ordered, rising_ordered, falling-entry, rising-entry}
-use Rattle.planner.specs.declared.Planned.TheVariants.{Steps, GaveUp}
 use Rattle.planner.specs.Planning.{struct_of, plan_of, chosen}
 
 -- No more are due than there are.
@@ -75,13 +75,13 @@ module _ (t u : List ℕ) (from : Table 32 (routes t)) (to : Table 32 (routes u)
     steps : puts + takes ≡ length (plan_of t u)
     steps = omega (arith, plan-length)
 
-    pub chosen_full : 1024 < records u + takes → GaveUp ≡ chosen t u n
+    pub chosen_full : 1024 < records u + takes → None ≡ chosen t u n
     chosen_full lt = rw (lt-ltb 1024 (together (routes t) (routes u)) (omega (arith, all)))
 
-    pub chosen-short : n < puts + takes → GaveUp ≡ chosen t u n
+    pub chosen-short : n < puts + takes → None ≡ chosen t u n
     chosen-short lt =
         rw (lt-ltb n (length (plan_of t u)) (omega (arith, steps))) (rw (or-true (ltb 1024 (together (routes t) (routes u)))))
 
-    pub chosen-plan : records u + takes ≤ 1024 → puts + takes ≤ n → Steps (puts + takes) ≡ chosen t u n
+    pub chosen-plan : records u + takes ≤ 1024 → puts + takes ≤ n → Some (puts + takes) ≡ chosen t u n
     chosen-plan le fit =
-        rw (le-ltb 1024 (together (routes t) (routes u)) (omega (arith, all)), le-ltb n (length (plan_of t u)) (omega (arith, steps))) (ap Steps steps)
+        rw (le-ltb 1024 (together (routes t) (routes u)) (omega (arith, all)), le-ltb n (length (plan_of t u)) (omega (arith, steps))) (ap Some steps)

@@ -5,6 +5,8 @@ use mathlib.Core.Path.{◌≡◌, refl, sym, ap, ap₂, ◌∙◌}
 use mathlib.Core.Bool.{false}
 use mathlib.Core.List.{List, ◌++◌, map}
 use lib.ListN.{length}
+use Rattle.std.specs.Prelude.{Option, Result}
+use Rattle.refusals.specs.declared.Refusal.{Refusal}
 use Rattle.refusals.specs.Rules.{Rule, Reply, gives, refuses, judge}
 use Rattle.records.specs.Wire.{records, masked_bytes}
 use Rattle.records.specs.Sized.{Bytes}
@@ -15,10 +17,8 @@ use Rattle.table.specs.Conditions.{Accepted}
 use Rattle.table.proofs.AtEight.{table_carried, masked-routes, masked_rules}
 use Rattle.plans.specs.declared.answers.Step.{Step}
 use Rattle.plans.specs.Judging.{of_new, tables_rules}
-use Rattle.planner.specs.declared.Planned.{Planned}
-use Rattle.planner.specs.declared.Planned.TheVariants.{Refused}
-use Rattle.planner.specs.Planning.{plan_of, chosen, written_by, over, Plans}
-use Rattle.planner.proofs.Answers.{planned_same, old_broken, new_broken, none_broken}
+use Rattle.planner.specs.Planning.{plan_of, chosen, written_by, over, Plans, planned_says}
+use Rattle.plans.proofs.Rules.{old_broken, new_broken, none_broken}
 use Rattle.planner.proofs.Calls.{plan_settled}
 
 -- A check under the strict choice that is not refused by 6 is the default's.
@@ -28,16 +28,16 @@ reply_carried t six =
 
 module _ (t u : List ℕ) (room : List Step) where
   -- What is not refused by 6 or 26 is the default's, answer and room.
-  pub plan_carried : (r q : Planned) (zs ws : List Step) → Plans strictly t u room r zs → Plans by_default t u room q ws
-      → ((i : ℕ) → r ≡ Refused 6 i → ⊥) → ((i : ℕ) → r ≡ Refused 26 i → ⊥) → (q ≡ r) × (ws ≡ zs)
+  pub plan_carried : (r q : Result (Option ℕ) Refusal) (zs ws : List Step) → Plans strictly t u room r zs → Plans by_default t u room q ws
+      → ((i : ℕ) → planned_says r ≡ refuses 6 i → ⊥) → ((i : ℕ) → planned_says r ≡ refuses 26 i → ⊥) → (q ≡ r) × (ws ≡ zs)
   plan_carried r q zs ws one other six more =
       plan_settled by_default t u room q r ws zs other (record { answer = one.answer ∙ sym same; steps = one.steps })
     where
-      a : Planned
+      a : Option ℕ
       a = chosen t u (length room)
 
-      says : {n i : ℕ} → judge (tables_rules strictly t u) a ≡ refuses n i → r ≡ Refused n i
-      says {n} {i} e = planned_same r (Refused n i) (one.answer ∙ e)
+      says : {n i : ℕ} → judge (tables_rules strictly t u) a ≡ refuses n i → planned_says r ≡ refuses n i
+      says e = one.answer ∙ e
 
       same : judge (tables_rules by_default t u) a ≡ judge (tables_rules strictly t u) a
       same = go (check_reply strictly false t) refl (check_reply strictly false u) refl
@@ -63,12 +63,12 @@ module _ (t u : List ℕ) (room : List Step) where
     rules other = ap₂ (λ (rs ss : List Rule). rs ++ map of_new ss) (masked_rules form false t bytes ok other false) (masked_rules form false u bytes' ok' other false)
 
     -- The masked bytes, read by any form, in place of accepted tables: the default's answer and room.
-    pub plan-masked : (other : Form) (r q : Planned) (zs ws : List Step) → Plans by_default t u room r zs
+    pub plan-masked : (other : Form) (r q : Result (Option ℕ) Refusal) (zs ws : List Step) → Plans by_default t u room r zs
         → Plans other (masked_bytes t) (masked_bytes u) room q ws → (q ≡ r) × (ws ≡ zs)
     plan-masked other r q zs ws one two =
         plan_settled by_default t u room q r ws zs
         (record {
-          answer = two.answer ∙ ap₂ (λ (rs : List Rule) (p : Planned). judge rs p) (rules other) choice;
+          answer = two.answer ∙ ap₂ (λ (rs : List Rule) (p : Option ℕ). judge rs p) (rules other) choice;
           steps = two.steps ∙ ap (λ (ss : List Step). over (written_by q ss) room) steps;
         }) one
       where

@@ -2,36 +2,47 @@
 #![tactic(auto)]
 
 mod due;
-mod proposal;
 
-ghost use Rattle.planner.specs.Planning.{Plans};
+ghost use Rattle.std.specs.Prelude.{◌≡◌, false, length};
+ghost use Rattle.records.specs.Wire.{routes};
+ghost use Rattle.table.specs.Conditions.{Lawful};
+ghost use Rattle.planner.specs.Planning.{plan_of, chosen, steps_by, over, Plans};
 
-use due::{from_level, next_step};
+use due::{count_due, write_plan};
 use plans::answers::Step;
-use proposal::{count_of, propose};
+use plans::check_tables;
 use records::Form;
+use refusals::Refusal;
 
-// A plan of so many steps; the planner gives up; or the refusal, with its number and the index of the record at fault (0 where none is).
-#[derive(Clone, Copy)]
-pub enum Planned {
-    Steps { count: usize },
-    GaveUp,
-    Refused { number: u8, index: usize },
+// The most routes that a table may have.
+const MOST: usize = 1024;
+
+// The plan between two accepted tables, written: its number of steps, or none.
+fn plan_accepted(installed: &[u8], new: &[u8], steps: &mut [Step]) -> Option<usize>
+    requires { Lawful false (routes installed.now) × Lawful false (routes new.now) }
+    ensures answer { result ≡ chosen installed.now new.now (length steps.old) }
+    ensures steps { steps.new ≡ over (steps_by result (plan_of installed.now new.now)) steps.old }
+{
+    let puts = count_due(new, installed, true);
+    let takes = count_due(installed, new, false);
+    if MOST < new.len() / 8 + takes || steps.len() < puts + takes {
+        return None;
+    }
+    let count = puts + takes;
+    write_plan(installed, new, &mut steps[..count]);
+    Some(count)
 }
 
-// Writes a plan of steps from the installed table to the new one: its number of steps, or that it gives up, or the refusal (3 to 8, 23 to 28). Where it
-// does not give a plan, and behind one, the steps are as they were.
-pub fn plan(installed: &[u8], new: &[u8], form: Form, steps: &mut [Step]) -> Planned
+// Writes a plan of steps from the installed table to the new one: its number of steps, or none where the planner gives up, or the refusal (3 to 8, 23 to 28).
+// Where it does not give a plan, and behind one, the steps are as they were.
+pub fn plan(
+    installed: &[u8],
+    new: &[u8],
+    form: Form,
+    steps: &mut [Step],
+) -> Result<Option<usize>, Refusal>
     ensures { Plans form installed.now new.now steps.old result steps.new }
 {
-    let answer = propose(installed, new, form, steps.len());
-    let count = count_of(answer);
-    let mut p = from_level(66);
-    let mut j = 0;
-    while j < count {
-        p = next_step(installed, new, p);
-        steps[j] = p.step;
-        j += 1;
-    }
-    answer
+    check_tables(installed, new, form)?;
+    Ok(plan_accepted(installed, new, steps))
 }

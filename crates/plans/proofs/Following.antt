@@ -1,40 +1,46 @@
--- What the steps followed for a prefix come to: for its class, the marks are those of the table after the steps so far, and the pass is good exactly if the class
--- has had its old or its new answer; for the prefix itself, what it has; for a cover, a put prefix that is longer. Assumes nothing.
+-- What the steps followed for a prefix come to: for its class, the marks are those of the table after the steps so far, and it is good exactly if the class has had
+-- its old or its new answer; for the prefix itself, what it has. Assumes nothing.
 use Prim.Native.Nat.{ℕ, zero, suc, ◌+◌, ◌-◌, ◌*◌, ◌/◌, ◌^◌, ◌≤◌, ◌<◌}
 use mathlib.Core.Path.{◌≡◌, refl, sym, ap, ap₂, subst, ◌∙◌}
 use mathlib.Core.Bool.{Bool, true, false, cond, not, ◌||◌, ◌&&◌, true≢false, false≢true, or-true}
-use mathlib.Core.List.{List, map}
+use mathlib.Core.List.{List, [], ◌∷◌, map}
 use mathlib.Core.Logic.{◌⊎◌, inl, inr}
+use native.Mathlib.Decide.{dec_lt}
 use native.Mathlib.Nat.{eq-or-lt_of_le}
 use native.Mathlib.Omega.{arith}
 use lib.Dec.{eqb, ltb}
-use lib.ListN.{length, length-map, get_or-map}
-use borrow.Author.Tests.{eqb-true, eqb-false, eq-eqb, ne_eqb, lt-ltb, ltb-true, ltb-false}
+use lib.ListN.{length, length-map, get_or-map, take}
+use borrow.Author.Tests.{eqb-true, eqb-false, eq-eqb, ne_eqb}
+use borrow.Author.Count.{below_more}
+use Rattle.std.specs.Prelude.{Option, Some, None}
+use Rattle.std.proofs.lemmas.List.{get_or-take}
 use Rattle.theory.specs.Results.{start_of}
-use Rattle.theory.specs.Routes.{Route, Answer, none, via, All}
-use Rattle.theory.proofs.Blocks.{in→block, aligned-start, in_start}
+use Rattle.theory.specs.Routes.{Route, Answer, none, via, All, Table}
+use Rattle.theory.proofs.Blocks.{pow_pos, in→block, aligned-start, in_start, start_is}
 use Rattle.theory.proofs.Lists.{all_member}
+use Rattle.theory.proofs.Parts.{all_part}
 use Rattle.words.specs.Prefix.{agree}
+use Rattle.words.proofs.PrefixLaws.{start_small}
 use Rattle.positions.specs.Runs.{no_hop, or_else}
+use Rattle.records.specs.Wire.{routes}
 use Rattle.records.specs.Sized.{route}
-use Rattle.steps.specs.Steps.{Step as Move, putting, taking, same, entry, apply, after}
+use Rattle.table.proofs.SizedTables.{hops-below}
+use Rattle.steps.specs.Steps.{Step as Move, putting, taking, same, entry, apply, after, Sound, Sounds}
 use Rattle.steps.specs.Views.{rung, best}
 use Rattle.steps.proofs.Entries.{and-true, entry_step, entry-member, true_same, same_false}
+use Rattle.steps.proofs.Tables.{all_put}
 use Rattle.steps.proofs.Rungs.{best_alike}
-use Rattle.steps.proofs.Turns.{after_step}
-use Rattle.steps.proofs.Classes.{of_class}
+use Rattle.steps.proofs.Turns.{nth, after_step, sounds_from, table-after}
 use Rattle.rungs.specs.Rungs.{number_of, row}
 use Rattle.rungs.proofs.Rows.{row-hop, Small, number_one, top-best}
 use Rattle.plans.specs.declared.answers.Step.{Step}
-use Rattle.checking.specs.declared.Purpose.{Purpose}
-use Rattle.checking.specs.declared.Purpose.TheVariants.{Presence, Answers, Cover}
 use Rattle.checking.specs.declared.marks.Marks.{Marks}
-use Rattle.checking.specs.declared.Pass.{Pass}
-use Rattle.checking.specs.Marks.{fine_of, is_fine, marked_of}
-use Rattle.checking.specs.Passes.{puts, left_of, finding_of, found_now, owned_of, answered_of, nearer_of, passed_by, passed_of}
-use Rattle.checking.specs.Checking.{best_in, class_pass}
-use Rattle.plans.specs.Following.{step_at, next_of, followed_of}
+use Rattle.checking.specs.declared.Class.{Class}
+use Rattle.checking.specs.Marks.{fine_of, marked_of}
+use Rattle.checking.specs.Checking.{puts, left_of, best_in, class_before, answered_of}
+use Rattle.plans.specs.Following.{step_at}
 use Rattle.plans.specs.Judging.{step_of}
+use Rattle.plans.specs.Deciding.{MayFollow, table_after, prefix_of, For, LeftAt, LastLeft, class_answer}
 use Rattle.plans.proofs.Marking.{Marked, worse_is, marked_next, marked_alike, row-marked}
 
 -- A table whose hops are below no_hop.
@@ -82,9 +88,6 @@ module _ (a b c : Answer) (sa : Small a) (sb : Small b) (sc : Small c) where
 abbrev pub leaves : Step → Answer
 leaves s = cond (puts s.put) (via s.hop) none
 
-abbrev pub prefix_of : Step → ℕ
-prefix_of s = start_of (32 - s.len) s.addr
-
 pub step_entry : (s : Step) (v : List Route) (a l : ℕ) → entry (apply (step_of s) v) a l ≡ cond (same (prefix_of s) s.len a l) (leaves s) (entry v a l)
 step_entry s v a l = go (puts s.put)
   where
@@ -112,76 +115,119 @@ rung_step s v x l =
         same_false (prefix_of s) s.len (start_of (32 - l) x) l (λ p r. eqb-false (x / 2 ^ (32 - s.len)) (s.addr / 2 ^ (32 - s.len)) q
         (sym (start-block (32 - s.len) x) ∙ sym (ap (λ (n : ℕ). n / 2 ^ (32 - s.len)) (rw (sym d) at p)) ∙ start-block (32 - s.len) s.addr))
 
--- ---- Steps whose tables keep hops below no_hop.
+-- ---- The steps and the tables on the way.
 
-module _ (old new : List Route) (ss : List Step) (few : Hopped old) (more : Hopped new) (hopped : (k : ℕ) → Hopped (after k (map step_of ss) old))
-    (short : (j : ℕ) → j < length ss → (step_at ss j).len ≤ 32) where
+pub start_twice : (k a : ℕ) → start_of k (start_of k a) ≡ start_of k a
+start_twice k a = start_is k (start_of k a) (start_of k a) (aligned-start k a) (omega arith, omega (arith, pow_pos k))
+
+-- What holds of a table's routes and of those put holds after any number of steps.
+all_after : (P : Route → Type 0) (k : ℕ) (ms : List Move) {v : List Route} → ((j : ℕ) (r : Route) → j < length ms → nth ms j ≡ putting r → P r) → All P v → All P (after k ms v)
+all_after P zero ms f z = z
+all_after P (suc k) [] f z = z
+all_after P (suc k) (putting r ∷ ms) f z = all_after P k ms (λ j q lt e. f (suc j) q (omega arith) e) (all_put r (f zero r (omega arith) refl) z)
+all_after P (suc k) (taking a l ∷ ms) f z =
+    all_after P k ms (λ j q lt e. f (suc j) q (omega arith) e) (all_part (λ r. not (same r.addr r.len a l)) (λ r y e. y) z)
+
+-- A step's put is the route of its prefix.
+pub put_is : (s : Step) (r : Route) → step_of s ≡ putting r → (puts s.put ≡ true) × (r.addr ≡ prefix_of s) × (r.len ≡ s.len) × (r.hop ≡ s.hop)
+put_is s r e = go (puts s.put) refl e
+  where
+    go : (b : Bool) → puts s.put ≡ b → cond b (putting (route (prefix_of s) s.len s.hop)) (taking (prefix_of s) s.len) ≡ putting r
+        → (puts s.put ≡ true) × (r.addr ≡ prefix_of s) × (r.len ≡ s.len) × (r.hop ≡ s.hop)
+    go true q p = (q, cc, cc, cc)
+    go false q p = let z : ◌≡◌ {A = ℕ} 0 1 = cc in absurd (omega arith)
+
+step_sound : (s : Step) → s.len ≤ 32 → s.addr < 2 ^ 32 → Sound 32 (step_of s)
+step_sound s le small = go (puts s.put)
+  where
+    go : (b : Bool) → Sound 32 (cond b (putting (route (prefix_of s) s.len s.hop)) (taking (prefix_of s) s.len))
+    go true = record { short = le; clean = aligned-start (32 - s.len) s.addr; small = start_small 32 (32 - s.len) s.addr small }
+    go false = tt
+
+pub nth_is : (ss : List Step) (j : ℕ) → nth (map step_of ss) j ≡ step_of (step_at ss j)
+nth_is ss j = get_or-map step_of ss j (record { addr = 0; len = 0; hop = 0; put = 0; unread = 0 })
+
+pub next-table : (t : List ℕ) (ss : List Step) (k : ℕ) → k < length ss → table_after t ss (suc k) ≡ apply (step_of (step_at ss k)) (table_after t ss k)
+next-table t ss k lt =
+    after_step k (map step_of ss) (routes t) (omega (arith, length-map ss step_of)) ∙ ap (λ (s : Move). apply s (table_after t ss k)) (nth_is ss k)
+
+module _ {t u : List ℕ} {ss : List Step} (may : MayFollow t u ss) where
+  pub few : Hopped (routes t)
+  few = hops-below false may.old_lawful.hops
+
+  pub more : Hopped (routes u)
+  more = hops-below false may.new_lawful.hops
+
+  pub sound : Sounds 32 (map step_of ss)
+  sound = sounds_from 32 (map step_of ss) (λ j lt. let h : j < length ss = omega (arith, length-map ss step_of) in
+      subst (Sound 32) (sym (nth_is ss j)) (step_sound (step_at ss j) (may.short j h) (may.small j h)))
+
+  pub tables : (k : ℕ) → Table 32 (table_after t ss k)
+  tables k = table-after k (map step_of ss) sound may.old_lawful.table
+
+  pub hopped : (k : ℕ) → Hopped (table_after t ss k)
+  hopped k = all_after (λ r. r.hop < no_hop) k (map step_of ss) (λ j r lt e. let h : j < length ss = omega (arith, length-map ss step_of) in
+      let z = put_is (step_at ss j) r (sym (nth_is ss j) ∙ e) in
+      let y : r.hop ≡ (step_at ss j).hop = z.3 in
+      omega (arith, may.hopped j h z.0)) few
+
+  pub small_at : (k a l : ℕ) → Small (entry (table_after t ss k) a l)
+  small_at k a l = small-entry (hopped k) a l
+
+-- ---- A class on its way.
+
+-- The class has its old or its new answer after j steps.
+abbrev pub ClassAt : List ℕ → List ℕ → List Step → ℕ → ℕ → ℕ → Type 0
+ClassAt t u ss x d j =
+    (class_answer (table_after t ss j) x d ≡ class_answer (routes t) x d) ⊎ (class_answer (table_after t ss j) x d ≡ class_answer (routes u) x d)
+
+-- c is the class of the prefix of address x and length d after k steps.
+pub record Tracks (t u : List ℕ) (ss : List Step) (x d k : ℕ) (c : Class) : Type 0 where
+  pub own : c.own ≡ number_of (rung 32 (table_after t ss k) x d)
+  pub fine : c.fine ≡ fine_of (number_of (class_answer (routes t) x d)) (number_of (class_answer (routes u) x d))
+  pub marks : Marked (number_of (class_answer (routes t) x d)) (number_of (class_answer (routes u) x d)) (rung 32 (table_after t ss k) x) d c.marks
+  pub good : c.good ≡ true → (j : ℕ) → j ≤ k → ClassAt t u ss x d j
+  pub bad : c.good ≡ false → ((j : ℕ) → ClassAt t u ss x d j) → ⊥
+
+left-number : (b : Bool) (h : ℕ) → left_of b h ≡ number_of (cond b (via h) none)
+left-number true h = refl
+left-number false h = refl
+
+module _ {t u : List ℕ} {ss : List Step} (may : MayFollow t u ss) where
   abbrev T : ℕ → List Route
-  T k = after k (map step_of ss) old
+  T k = table_after t ss k
 
   abbrev S : ℕ → Step
   S j = step_at ss j
 
-  next-table : (k : ℕ) → k < length ss → T (suc k) ≡ apply (step_of (S k)) (T k)
-  next-table k lt =
-      after_step k (map step_of ss) old (omega (arith, length-map ss step_of))
-      ∙ ap (λ (s : Move). apply s (T k)) (get_or-map step_of ss k (record { addr = 0; len = 0; hop = 0; put = 0; unread = 0 }))
-
-  left-number : (b : Bool) (h : ℕ) → left_of b h ≡ number_of (cond b (via h) none)
-  left-number true h = refl
-  left-number false h = refl
-
-  -- ---- A class on its way.
-
   abbrev was : ℕ → ℕ → Answer
-  was x d = of_class 32 old x d
+  was x d = class_answer (routes t) x d
 
   abbrev goal : ℕ → ℕ → Answer
-  goal x d = of_class 32 new x d
-
-  -- The class has its old or its new answer after j steps.
-  abbrev pub ClassAt : ℕ → ℕ → ℕ → Type 0
-  ClassAt x d j = (of_class 32 (T j) x d ≡ was x d) ⊎ (of_class 32 (T j) x d ≡ goal x d)
-
-  -- The pass p for the class of the prefix of address x and length d has followed k steps.
-  pub record Tracks (x d k : ℕ) (p : Pass) : Type 0 where
-    pub at : p.x ≡ x
-    pub long : p.len ≡ d
-    pub for_answers : p.purpose ≡ Answers
-    pub own : p.found ≡ number_of (rung 32 (T k) x d)
-    pub fine : p.fine ≡ fine_of (number_of (was x d)) (number_of (goal x d))
-    pub marks : Marked (number_of (was x d)) (number_of (goal x d)) (rung 32 (T k) x) d p.marks
-    pub good : p.good ≡ true → (j : ℕ) → j ≤ k → ClassAt x d j
-    pub bad : p.good ≡ false → ((j : ℕ) → ClassAt x d j) → ⊥
+  goal x d = class_answer (routes u) x d
 
   rung-small : (k x l : ℕ) → Small (rung 32 (T k) x l)
-  rung-small k x l = small-entry (hopped k) (start_of (32 - l) x) l
+  rung-small k x l = small_at may k (start_of (32 - l) x) l
 
-  pub tracks_start : (x d : ℕ) → d ≤ 32 → Tracks x d 0 (class_pass (rung 32 old x) (rung 32 new x) x d)
+  pub tracks_start : (x d : ℕ) → d ≤ 32 → Tracks t u ss x d 0 (class_before (row (rung 32 (routes t) x) 0 33) (row (rung 32 (routes u) x) 0 33) d)
   tracks_start x d le =
       record {
-        at = refl;
-        long = refl;
-        for_answers = refl;
-        own = row-hop (rung 32 old x) d le;
-        fine = ap₂ fine_of (best-number few x d le) (best-number more x d le);
-        marks = rw (best-number few x d le, best-number more x d le)
-            (row-marked (number_of (was x d)) (number_of (goal x d)) d (rung 32 old x) (row (rung 32 old x) 0 33) le (λ l h. row-hop (rung 32 old x) l h));
-        good = λ e j h. let z : j ≡ 0 = omega arith in inl (ap (λ (k : ℕ). of_class 32 (T k) x d) z);
+        own = row-hop (rung 32 (routes t) x) d le;
+        fine = ap₂ fine_of (best-number (few may) x d le) (best-number (more may) x d le);
+        marks = rw (best-number (few may) x d le, best-number (more may) x d le)
+            (row-marked (number_of (was x d)) (number_of (goal x d)) d (rung 32 (routes t) x) (row (rung 32 (routes t) x) 0 33) le (λ l h. row-hop (rung 32 (routes t) x) l h));
+        good = λ e j h. let z : j ≡ 0 = omega arith in inl (ap (λ (k : ℕ). class_answer (T k) x d) z);
         bad = λ e. absurd (true≢false e);
       }
 
-  module _ {x d k : ℕ} {p : Pass} (le : d ≤ 32) (z : Tracks x d k p) (lt : k < length ss) where
+  module _ {x d k : ℕ} {c : Class} (le : d ≤ 32) (z : Tracks t u ss x d k c) (lt : k < length ss) where
     rung-next : (l : ℕ) → rung 32 (T (suc k)) x l ≡ cond (eqb (S k).len l && agree 32 (S k).len x (S k).addr) (leaves (S k)) (rung 32 (T k) x l)
-    rung-next l = ap (λ (v : List Route). rung 32 v x l) (next-table k lt) ∙ rung_step (S k) (T k) x l
+    rung-next l = ap (λ (v : List Route). rung 32 v x l) (next-table t ss k lt) ∙ rung_step (S k) (T k) x l
 
     -- Nothing changes for the class.
-    tracks_other : ((l : ℕ) → l ≤ d → rung 32 (T (suc k)) x l ≡ rung 32 (T k) x l) → Tracks x d (suc k) p
-    tracks_other same-rung =
+    tracks_alike : ((l : ℕ) → l ≤ d → rung 32 (T (suc k)) x l ≡ rung 32 (T k) x l) → Tracks t u ss x d (suc k) c
+    tracks_alike same-rung =
         record {
-          at = z.at;
-          long = z.long;
-          for_answers = z.for_answers;
           own = z.own ∙ ap number_of (sym (same-rung d (omega arith)));
           fine = z.fine;
           marks = marked_alike z.marks same-rung;
@@ -189,25 +235,22 @@ module _ (old new : List Route) (ss : List Step) (few : Hopped old) (more : Hopp
           bad = z.bad;
         }
       where
-        same_answer : of_class 32 (T (suc k)) x d ≡ of_class 32 (T k) x d
+        same_answer : class_answer (T (suc k)) x d ≡ class_answer (T k) x d
         same_answer = best_alike (rung 32 (T (suc k)) x) (rung 32 (T k) x) d same-rung
 
-        kept : ClassAt x d k → ClassAt x d (suc k)
+        kept : ClassAt t u ss x d k → ClassAt t u ss x d (suc k)
         kept (inl q) = inl (same_answer ∙ q)
         kept (inr q) = inr (same_answer ∙ q)
 
-        go : p.good ≡ true → (j : ℕ) → (j ≡ suc k) ⊎ (j < suc k) → ClassAt x d j
+        go : c.good ≡ true → (j : ℕ) → (j ≡ suc k) ⊎ (j < suc k) → ClassAt t u ss x d j
         go g j (inl q) = rw q (kept (z.good g k (omega arith)))
         go g j (inr h) = z.good g j (omega arith)
 
     -- A prefix that holds all of the class is put or taken.
-    tracks_held : agree 32 (S k).len x (S k).addr ≡ true → (S k).len ≤ d → Tracks x d (suc k) (answered_of p (puts (S k).put) (S k).len (S k).hop)
+    pub tracks_held : agree 32 (S k).len x (S k).addr ≡ true → (S k).len ≤ d → Tracks t u ss x d (suc k) (answered_of c d (puts (S k).put) (S k).len (S k).hop)
     tracks_held e in-d =
         record {
-          at = z.at;
-          long = z.long;
-          for_answers = z.for_answers;
-          own = own_now (eqb (S k).len p.len) refl;
+          own = own_now (eqb (S k).len d) refl;
           fine = z.fine;
           marks = marks_now;
           good = λ g j h. go worse refl g j (eq-or-lt_of_le h);
@@ -233,14 +276,14 @@ module _ (old new : List Route) (ss : List Step) (few : Hopped old) (more : Hopp
         number_now = left-number (puts (S k).put) (S k).hop ∙ ap number_of (sym (here (S k).len refl))
 
         m : Marks
-        m = marked_of p.fine p.marks (S k).len now
+        m = marked_of c.fine c.marks (S k).len now
 
         marks_now : Marked (number_of (was x d)) (number_of (goal x d)) f d m
         marks_now = rw z.fine (marked_next le z.marks (S k).len now in-d number_now there)
 
-        own_now : (b : Bool) → eqb (S k).len p.len ≡ b → cond b now p.found ≡ number_of (f d)
-        own_now true q = number_now ∙ ap (λ (l : ℕ). number_of (f l)) (eqb-true (S k).len p.len q ∙ z.long)
-        own_now false q = z.own ∙ ap number_of (sym (there d (λ i. eqb-false (S k).len p.len q (sym i ∙ sym z.long))))
+        own_now : (b : Bool) → eqb (S k).len d ≡ b → cond b now c.own ≡ number_of (f d)
+        own_now true q = number_now ∙ ap (λ (l : ℕ). number_of (f l)) (eqb-true (S k).len d q)
+        own_now false q = z.own ∙ ap number_of (sym (there d (λ i. eqb-false (S k).len d q (sym i))))
 
         worse : Bool
         worse = ltb m.fair m.foul
@@ -255,21 +298,21 @@ module _ (old new : List Route) (ss : List Step) (few : Hopped old) (more : Hopp
         now_small = best-small f d (λ l. rung-small (suc k) x l)
 
         was_small : Small (was x d)
-        was_small = best-small (rung 32 old x) d (λ l. small-entry few (start_of (32 - l) x) l)
+        was_small = best-small (rung 32 (routes t) x) d (λ l. small-entry (few may) (start_of (32 - l) x) l)
 
         goal_small : Small (goal x d)
-        goal_small = best-small (rung 32 new x) d (λ l. small-entry more (start_of (32 - l) x) l)
+        goal_small = best-small (rung 32 (routes u) x) d (λ l. small-entry (more may) (start_of (32 - l) x) l)
 
         un_not : (b c : Bool) → b ≡ not c → b ≡ false → c ≡ true
         un_not b true q h = refl
         un_not b false q h = absurd (true≢false (sym q ∙ h))
 
-        go : (b : Bool) → worse ≡ b → cond b false p.good ≡ true → (j : ℕ) → (j ≡ suc k) ⊎ (j < suc k) → ClassAt x d j
+        go : (b : Bool) → worse ≡ b → cond b false c.good ≡ true → (j : ℕ) → (j ≡ suc k) ⊎ (j < suc k) → ClassAt t u ss x d j
         go true q g j h = absurd (false≢true g)
         go false q g j (inl i) = rw i (one_of_to (best f d) (was x d) (goal x d) now_small was_small goal_small (un_not worse one worse_not q))
         go false q g j (inr h) = z.good g j (omega arith)
 
-        fails : (b : Bool) → worse ≡ b → cond b false p.good ≡ false → ((j : ℕ) → ClassAt x d j) → ⊥
+        fails : (b : Bool) → worse ≡ b → cond b false c.good ≡ false → ((j : ℕ) → ClassAt t u ss x d j) → ⊥
         fails false q g every = z.bad g every
         fails true q g every =
             true≢false (sym q ∙ worse_not ∙ ap not (one_of_from (best f d) (was x d) (goal x d) now_small was_small goal_small (every (suc k))))
@@ -285,209 +328,97 @@ module _ (old new : List Route) (ss : List Step) (few : Hopped old) (more : Hopp
     longer_step gt l h =
         rung-next l ∙ ap (λ (b : Bool). cond (b && agree 32 (S k).len x (S k).addr) (leaves (S k)) (rung 32 (T k) x l)) (ne_eqb (S k).len l (λ q. omega arith))
 
-    tracks_next : Tracks x d (suc k) (next_of p (S k))
-    tracks_next = go (agree 32 (S k).len p.x (S k).addr) refl
+    -- Its prefix does not hold x, or is longer.
+    pub tracks_other : ((S k).len ≤ d → agree 32 (S k).len x (S k).addr ≡ true → ⊥) → Tracks t u ss x d (suc k) c
+    tracks_other n = go (dec_lt d (S k).len)
       where
-        at_x : agree 32 (S k).len p.x (S k).addr ≡ agree 32 (S k).len x (S k).addr
-        at_x = ap (λ (y : ℕ). agree 32 (S k).len y (S k).addr) z.at
+        not_held : (S k).len ≤ d → (b : Bool) → agree 32 (S k).len x (S k).addr ≡ b → Tracks t u ss x d (suc k) c
+        not_held h true e = absurd (n h e)
+        not_held h false e = tracks_alike (λ l le. unheld e l)
 
-        by_length : agree 32 (S k).len x (S k).addr ≡ true → (b : Bool) → ltb p.len (S k).len ≡ b
-            → Tracks x d (suc k) (cond b p (answered_of p (puts (S k).put) (S k).len (S k).hop))
-        by_length e true q = tracks_other (longer_step (let g = ltb-true p.len (S k).len q in omega (arith, z.long)))
-        by_length e false q = tracks_held e (let g = ltb-false p.len (S k).len q in omega (arith, z.long))
+        go : Dec (d < (S k).len) → Tracks t u ss x d (suc k) c
+        go (yes gt) = tracks_alike (longer_step gt)
+        go (no ge) = not_held (omega arith) (agree 32 (S k).len x (S k).addr) refl
 
-        go : (b : Bool) → agree 32 (S k).len p.x (S k).addr ≡ b → Tracks x d (suc k) (cond b (passed_of p (puts (S k).put) (S k).len (S k).hop) p)
-        go true e =
-            subst (λ (s : Purpose). Tracks x d (suc k) (passed_by s p (puts (S k).put) (S k).len (S k).hop)) (sym z.for_answers)
-            (by_length (sym at_x ∙ e) (ltb p.len (S k).len) refl)
-        go false e = tracks_other (λ l h. unheld (sym at_x ∙ e) l)
+-- ---- A prefix by itself on its way.
 
-  -- Any number of steps from the first on.
-  pub tracks_followed : {x d : ℕ} {p : Pass} → d ≤ 32 → Tracks x d 0 p → (k : ℕ) → k ≤ length ss → Tracks x d k (followed_of ss p 0 k)
-  unfolding followed_of
-  tracks_followed le z zero h = z
-  tracks_followed le z (suc k) h =
+-- The test of a step is whether it is for the prefix.
+module _ {x d : ℕ} (own : start_of (32 - d) x ≡ x) (s : Step) {b : Bool} (is : b ≡ (eqb s.len d && agree 32 d x s.addr)) where
+  pub for_true : b ≡ true → (prefix_of s ≡ x) × (s.len ≡ d)
+  for_true e =
+      let z = and-true (eqb s.len d) _ (sym is ∙ e) in
+      let l : s.len ≡ d = eqb-true s.len d z.0 in
+      (ap (λ (m : ℕ). start_of (32 - m) s.addr) l ∙ ap (λ (n : ℕ). n * 2 ^ (32 - d)) (sym (eqb-true _ _ z.1)) ∙ own, l)
+
+  pub for_false : b ≡ false → (prefix_of s ≡ x) × (s.len ≡ d) → ⊥
+  for_false e f = true≢false (sym (ap₂ ◌&&◌ (eq-eqb s.len d f.1) (eq-eqb _ _ block)) ∙ sym is ∙ e)
+    where
+      block : x / 2 ^ (32 - d) ≡ s.addr / 2 ^ (32 - d)
+      block =
+          ap (λ (a : ℕ). a / 2 ^ (32 - d)) (sym f.0 ∙ ap (λ (m : ℕ). start_of (32 - m) s.addr) f.1) ∙ start-block (32 - d) s.addr
+
+-- What the last step for it left.
+module _ (ss : List Step) (x d k : ℕ) where
+  pub last_own : For ss x d k → LastLeft ss x d (k + 1) (Some (left_of (puts (step_at ss k).put) (step_at ss k).hop))
+  last_own f = record { step = k; before = omega arith; own = f; last = λ i gt lt. absurd (omega arith); is = refl }
+
+  pub last_other : (For ss x d k → ⊥) → (r : Option ℕ) → LastLeft ss x d k r → LastLeft ss x d (k + 1) r
+  last_other n None f = below_more _ _ f n
+  last_other n (Some v) z = record { step = z.step; before = omega (arith, z.before); own = z.own; last = λ i gt lt. go i gt (dec_lt i k) lt; is = z.is }
+    where
+      go : (i : ℕ) → z.step < i → Dec (i < k) → i < k + 1 → For ss x d i → ⊥
+      go i gt (yes h) lt = z.last i gt h
+      go i gt (no h) lt = let e : i ≡ k = omega arith in rw e n
+
+abbrev nowhere : Step
+nowhere = record { addr = 0; len = 0; hop = 0; put = 0; unread = 0 }
+
+-- The first k of the steps are those of a shorter list.
+pub last_take : (ss : List Step) (x d k : ℕ) → k ≤ length ss → (r : Option ℕ) → LastLeft (take k ss) x d k r → LastLeft ss x d k r
+last_take ss x d k le None f = λ j lt q. f j lt (rw (get_or-take k ss j nowhere lt) q)
+last_take ss x d k le (Some v) z =
+    let h = z.before in
+    let e = get_or-take k ss z.step nowhere h in
+    record {
+      step = z.step;
+      before = h;
+      own = rw e at z.own;
+      last = λ i gt lt q. z.last i gt lt (rw (get_or-take k ss i nowhere lt) q);
+      is = rw e at z.is;
+    }
+
+module _ (t : List ℕ) (ss : List Step) (x d : ℕ) where
+  entry_next : (k : ℕ) → k < length ss → entry (table_after t ss (suc k)) x d
+      ≡ cond (same (prefix_of (step_at ss k)) (step_at ss k).len x d) (leaves (step_at ss k)) (entry (table_after t ss k) x d)
+  entry_next k lt = ap (λ (v : List Route). entry v x d) (next-table t ss k lt) ∙ step_entry (step_at ss k) (table_after t ss k) x d
+
+  pub entry-own : (k : ℕ) → k < length ss → For ss x d k → left_of (puts (step_at ss k).put) (step_at ss k).hop ≡ number_of (entry (table_after t ss (suc k)) x d)
+  entry-own k lt q =
+      left-number (puts (step_at ss k).put) (step_at ss k).hop
+      ∙ ap number_of (sym (entry_next k lt ∙ ap (λ (b : Bool). cond b (leaves (step_at ss k)) (entry (table_after t ss k) x d))
+      (true_same (prefix_of (step_at ss k)) (step_at ss k).len x d q.0 q.1)))
+
+  pub entry-other : (k : ℕ) → k < length ss → (For ss x d k → ⊥) → entry (table_after t ss (suc k)) x d ≡ entry (table_after t ss k) x d
+  entry-other k lt n =
+      entry_next k lt ∙ ap (λ (b : Bool). cond b (leaves (step_at ss k)) (entry (table_after t ss k) x d)) (same_false (prefix_of (step_at ss k)) (step_at ss k).len x d (λ a l. n (a, l)))
+
+  -- Where no step from j to k is for it, nothing changes there.
+  pub entry-still : (j m : ℕ) → j + m ≤ length ss → ((i : ℕ) → j ≤ i → i < j + m → For ss x d i → ⊥) → entry (table_after t ss (j + m)) x d ≡ entry (table_after t ss j) x d
+  entry-still j zero le n = ap (λ (k : ℕ). entry (table_after t ss k) x d) (omega arith)
+  entry-still j (suc m) le n =
+      let e : j + suc m ≡ suc (j + m) = omega arith in
+      ap (λ (k : ℕ). entry (table_after t ss k) x d) e ∙ entry-other (j + m) (omega arith) (n (j + m) (omega arith) (omega arith))
+      ∙ entry-still j m (omega arith) (λ i ge lt. n i ge (omega arith))
+
+  -- So what the last step left is what is there, or without one what was.
+  pub last-number : {k v : ℕ} → k ≤ length ss → LeftAt ss x d k v → v ≡ number_of (entry (table_after t ss k) x d)
+  last-number {k} {v} le z =
+      let h = z.before in
+      let e : suc z.step + (k - suc z.step) ≡ k = omega arith in
+      z.is ∙ entry-own z.step (omega arith) z.own
+      ∙ ap number_of (sym (rw e at (entry-still (suc z.step) (k - suc z.step) (omega arith) (λ i ge lt. z.last i (omega arith) (omega arith)))))
+
+  pub none-left : {k : ℕ} → k ≤ length ss → ((j : ℕ) → j < k → For ss x d j → ⊥) → entry (table_after t ss k) x d ≡ entry (routes t) x d
+  none-left {k} le n =
       let e : 0 + k ≡ k = omega arith in
-      rw e (tracks_next le (tracks_followed le z k (omega arith)) (omega arith))
-
-  -- ---- A prefix by itself on its way.
-
-  -- Step j is for the prefix of address x and length d.
-  abbrev pub For : ℕ → ℕ → ℕ → Type 0
-  For x d j = (prefix_of (S j) ≡ x) × ((S j).len ≡ d)
-
-  -- The pass p, which began with v found, has seen no step for the prefix among the first k, or has found what the last one left.
-  pub data Seen (x d k v found : ℕ) : Type 0 where
-    not_seen : found ≡ v → ((j : ℕ) → j < k → For x d j → ⊥) → entry (T k) x d ≡ entry old x d → Seen x d k v found
-    seen : (j : ℕ) → j < k → For x d j → found ≡ number_of (entry (T k) x d) → Seen x d k v found
-
-  pub record Finds (x d k v fine : ℕ) (p : Pass) : Type 0 where
-    pub at : p.x ≡ x
-    pub long : p.len ≡ d
-    pub for_presence : p.purpose ≡ Presence
-    pub set : p.fine ≡ fine
-    pub saw : Seen x d k v p.found
-    pub good : p.good ≡ true → (j : ℕ) → j ≤ k → (entry (T j) x d ≡ entry old x d) ⊎ (is_fine fine (number_of (entry (T j) x d)) ≡ true)
-
-  pub finds-start : (x d v fine : ℕ) → Finds x d 0 v fine (finding_of Presence x d v fine)
-  finds-start x d v fine =
-      record {
-        at = refl;
-        long = refl;
-        for_presence = refl;
-        set = refl;
-        saw = not_seen refl (λ j lt. absurd (omega arith)) refl;
-        good = λ e j h. let z : j ≡ 0 = omega arith in inl (ap (λ (k : ℕ). entry (T k) x d) z);
-      }
-
-  module _ {x d k v fine : ℕ} {p : Pass} (own : start_of (32 - d) x ≡ x) (z : Finds x d k v fine p) (lt : k < length ss) where
-    entry_next : entry (T (suc k)) x d ≡ cond (same (prefix_of (S k)) (S k).len x d) (leaves (S k)) (entry (T k) x d)
-    entry_next = ap (λ (t : List Route). entry t x d) (next-table k lt) ∙ step_entry (S k) (T k) x d
-
-    -- The step is not for the prefix.
-    finds_other : (For x d k → ⊥) → Finds x d (suc k) v fine p
-    finds_other n =
-        record {
-          at = z.at;
-          long = z.long;
-          for_presence = z.for_presence;
-          set = z.set;
-          saw = saw_on z.saw;
-          good = λ g j h. go g j (eq-or-lt_of_le h);
-        }
-      where
-        still : entry (T (suc k)) x d ≡ entry (T k) x d
-        still = entry_next ∙ ap (λ (b : Bool). cond b (leaves (S k)) (entry (T k) x d)) (same_false (prefix_of (S k)) (S k).len x d (λ a l. n (a, l)))
-
-        saw_on : Seen x d k v p.found → Seen x d (suc k) v p.found
-        saw_on (not_seen e f q) = not_seen e (λ j h. pick j (eq-or-lt_of_le h)) (still ∙ q)
-          where
-            pick : (j : ℕ) → (suc j ≡ suc k) ⊎ (suc j < suc k) → For x d j → ⊥
-            pick j (inl i) = let i : j ≡ k = omega arith in rw i n
-            pick j (inr h) = f j (omega arith)
-        saw_on (seen j h q e) = seen j (omega arith) q (e ∙ ap number_of (sym still))
-
-        go : p.good ≡ true → (j : ℕ) → (j ≡ suc k) ⊎ (j < suc k) → (entry (T j) x d ≡ entry old x d) ⊎ (is_fine fine (number_of (entry (T j) x d)) ≡ true)
-        go g j (inl q) = rw (q, still) (z.good g k (omega arith))
-        go g j (inr h) = z.good g j (omega arith)
-
-    -- It is.
-    finds-own : For x d k → Finds x d (suc k) v fine (owned_of p (left_of (puts (S k).put) (S k).hop))
-    finds-own q =
-        record {
-          at = z.at;
-          long = z.long;
-          for_presence = z.for_presence;
-          set = z.set;
-          saw = seen k (omega arith) q number;
-          good = λ g j h. go (is_fine p.fine now) refl g j (eq-or-lt_of_le h);
-        }
-      where
-        now : ℕ
-        now = left_of (puts (S k).put) (S k).hop
-
-        number : now ≡ number_of (entry (T (suc k)) x d)
-        number =
-            left-number (puts (S k).put) (S k).hop
-            ∙ ap number_of (sym (entry_next ∙ ap (λ (b : Bool). cond b (leaves (S k)) (entry (T k) x d)) (true_same (prefix_of (S k)) (S k).len x d q.0 q.1)))
-
-        go : (b : Bool) → is_fine p.fine now ≡ b → cond b p.good false ≡ true → (j : ℕ) → (j ≡ suc k) ⊎ (j < suc k)
-            → (entry (T j) x d ≡ entry old x d) ⊎ (is_fine fine (number_of (entry (T j) x d)) ≡ true)
-        go true e g j (inl i) = rw i (inr (ap₂ is_fine (sym z.set) (sym number) ∙ e))
-        go true e g j (inr h) = z.good g j (omega arith)
-        go false e g j h = absurd (false≢true g)
-
-    finds-next : Finds x d (suc k) v fine (next_of p (S k))
-    finds-next = go (agree 32 (S k).len p.x (S k).addr) refl
-      where
-        at_x : agree 32 (S k).len p.x (S k).addr ≡ agree 32 (S k).len x (S k).addr
-        at_x = ap (λ (y : ℕ). agree 32 (S k).len y (S k).addr) z.at
-
-        by_length : agree 32 (S k).len x (S k).addr ≡ true → (b : Bool) → eqb (S k).len p.len ≡ b
-            → Finds x d (suc k) v fine (cond b (owned_of p (left_of (puts (S k).put) (S k).hop)) p)
-        by_length e true q =
-            let l : (S k).len ≡ d = eqb-true (S k).len p.len q ∙ z.long in
-            finds-own (ap (λ (b : ℕ). b * 2 ^ (32 - (S k).len)) (sym (eqb-true _ _ e)) ∙ ap (λ (m : ℕ). start_of (32 - m) x) l ∙ own, l)
-        by_length e false q = finds_other (λ f. eqb-false (S k).len p.len q (f.1 ∙ sym z.long))
-
-        go : (b : Bool) → agree 32 (S k).len p.x (S k).addr ≡ b → Finds x d (suc k) v fine (cond b (passed_of p (puts (S k).put) (S k).len (S k).hop) p)
-        go true e =
-            subst (λ (s : Purpose). Finds x d (suc k) v fine (passed_by s p (puts (S k).put) (S k).len (S k).hop)) (sym z.for_presence)
-            (by_length (sym at_x ∙ e) (eqb (S k).len p.len) refl)
-        go false e =
-            finds_other (λ f. eqb-false (x / 2 ^ (32 - (S k).len)) ((S k).addr / 2 ^ (32 - (S k).len)) (sym at_x ∙ e)
-            (ap (λ (a : ℕ). a / 2 ^ (32 - (S k).len)) (sym f.0) ∙ start-block (32 - (S k).len) (S k).addr))
-
-  pub finds_followed : {x d v fine : ℕ} {p : Pass} → start_of (32 - d) x ≡ x → Finds x d 0 v fine p → (k : ℕ) → k ≤ length ss → Finds x d k v fine (followed_of ss p 0 k)
-  unfolding followed_of
-  finds_followed own z zero h = z
-  finds_followed own z (suc k) h =
-      let e : 0 + k ≡ k = omega arith in
-      rw e (finds-next own (finds_followed own z k (omega arith)) (omega arith))
-
-  -- ---- The shortest put prefix above a length that holds an address.
-
-  -- Step j puts a prefix longer than d that holds x.
-  pub record Longer (x d j : ℕ) : Type 0 where
-    pub put : puts (S j).put ≡ true
-    pub holds : agree 32 (S j).len x (S j).addr ≡ true
-    pub long : d < (S j).len
-
-  pub data Least (x d k found : ℕ) : Type 0 where
-    no_one : found ≡ 33 → ((j : ℕ) → j < k → Longer x d j → ⊥) → Least x d k found
-    one : (j : ℕ) → j < k → Longer x d j → found ≡ (S j).len → Least x d k found
-
-  pub record Covers (x d k : ℕ) (p : Pass) : Type 0 where
-    pub at : p.x ≡ x
-    pub long : p.len ≡ d
-    pub for_cover : p.purpose ≡ Cover
-    pub least : Least x d k p.found
-
-  pub covers_start : (x d : ℕ) → Covers x d 0 (finding_of Cover x d 33 0)
-  covers_start x d = record { at = refl; long = refl; for_cover = refl; least = no_one refl (λ j lt. absurd (omega arith)) }
-
-  module _ {x d k : ℕ} {p : Pass} (z : Covers x d k p) (lt : k < length ss) where
-    covers_other : (Longer x d k → p.found ≡ 33 → ⊥) → Covers x d (suc k) p
-    covers_other n = record { at = z.at; long = z.long; for_cover = z.for_cover; least = go z.least }
-      where
-        go : Least x d k p.found → Least x d (suc k) p.found
-        go (no_one e f) = no_one e (λ j h. pick j (eq-or-lt_of_le h))
-          where
-            pick : (j : ℕ) → (suc j ≡ suc k) ⊎ (suc j < suc k) → Longer x d j → ⊥
-            pick j (inl q) = let i : j ≡ k = omega arith in rw i (λ y. n y e)
-            pick j (inr h) = f j (omega arith)
-        go (one j h y e) = one j (omega arith) y e
-
-    covers_next : Covers x d (suc k) (next_of p (S k))
-    covers_next = go (agree 32 (S k).len p.x (S k).addr) refl
-      where
-        at_x : agree 32 (S k).len p.x (S k).addr ≡ agree 32 (S k).len x (S k).addr
-        at_x = ap (λ (y : ℕ). agree 32 (S k).len y (S k).addr) z.at
-
-        by : agree 32 (S k).len x (S k).addr ≡ true → (b : Bool) → nearer_of (puts (S k).put) (S k).len p.len p.found ≡ b
-            → Covers x d (suc k) (cond b (found_now p (S k).len p.good) p)
-        by e true q =
-            let y = and-true (puts (S k).put) _ q in
-            let w = and-true (ltb p.len (S k).len) _ y.1 in
-            record {
-              at = z.at;
-              long = z.long;
-              for_cover = z.for_cover;
-              least = one k (omega arith) (record { put = y.0; holds = e; long = (let g = ltb-true p.len (S k).len w.0 in omega (arith, z.long)) }) refl;
-            }
-        by e false q =
-            covers_other (λ y f. true≢false (sym (ap₂ ◌&&◌ y.put (ap₂ ◌&&◌ (lt-ltb p.len (S k).len (let g = y.long in omega (arith, z.long)))
-            (lt-ltb (S k).len p.found (omega (arith, short k lt))))) ∙ q))
-
-        go : (b : Bool) → agree 32 (S k).len p.x (S k).addr ≡ b → Covers x d (suc k) (cond b (passed_of p (puts (S k).put) (S k).len (S k).hop) p)
-        go true e =
-            subst (λ (s : Purpose). Covers x d (suc k) (passed_by s p (puts (S k).put) (S k).len (S k).hop)) (sym z.for_cover)
-            (by (sym at_x ∙ e) (nearer_of (puts (S k).put) (S k).len p.len p.found) refl)
-        go false e = covers_other (λ y f. true≢false (sym y.holds ∙ sym at_x ∙ e))
-
-  pub covers_followed : {x d : ℕ} {p : Pass} → Covers x d 0 p → (k : ℕ) → k ≤ length ss → Covers x d k (followed_of ss p 0 k)
-  unfolding followed_of
-  covers_followed z zero h = z
-  covers_followed z (suc k) h =
-      let e : 0 + k ≡ k = omega arith in
-      rw e (covers_next (covers_followed z k (omega arith)) (omega arith))
+      rw e at (entry-still 0 k (omega arith) (λ i ge lt. n i (omega arith)))

@@ -1,6 +1,5 @@
--- The laws of plans: the marks of a class, the steps followed for a prefix, the rules, what a check finds out; what its statement settles, and which refusals it gives.
+-- The laws of plans: the marks of a class, the steps followed for a prefix, the rules, what the checker finds out; what its statement settles, and which refusals it gives.
 pub mod Marking
-pub mod Followed
 pub mod Following
 pub mod Rules
 pub mod Deciding

@@ -76,13 +76,6 @@ least k x e = go (dec_lt x (2 ^ k))
 
 -- ---- A set of two answers' hops.
 
-alone_small : (h : ℕ) → alone_of h < 2 ^ 64
-alone_small h = go (ltb h no_hop)
-  where
-    go : (b : Bool) → cond b (1 * 2 ^ h % 2 ^ 64) 0 < 2 ^ 64
-    go true = mod-lt (1 * 2 ^ h) (pow_pos 64)
-    go false = pow_pos 64
-
 alone_bit : (h i : ℕ) → i < 64 → bit (alone_of h) i ≡ eqb i h
 alone_bit h i lt = go (ltb h no_hop) refl
   where

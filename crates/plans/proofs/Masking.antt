@@ -9,7 +9,10 @@ use native.Mathlib.Omega.{arith}
 use lib.Dec.{leb}
 use borrow.Author.Tests.{eq-eqb}
 use Rattle.theory.specs.Results.{start_of}
-use Rattle.refusals.specs.Rules.{Rule, rule, judge}
+use Rattle.std.specs.Prelude.{Result, Ok, Err}
+use Rattle.refusals.specs.declared.Refusal.{Refusal}
+use Rattle.refusals.specs.Numbers.{number_of}
+use Rattle.refusals.specs.Rules.{Rule, rule, judge, refuses}
 use Rattle.refusals.specs.Order.{None}
 use Rattle.records.specs.Wire.{masked_bytes}
 use Rattle.records.specs.Sized.{Bytes}
@@ -18,16 +21,13 @@ use Rattle.records.specs.Forms.{by_default, strictly}
 use Rattle.table.specs.Conditions.{TableCondition, Accepted}
 use Rattle.table.specs.SizedConditions.{not_whole, too_many, of_record, too_long, host_bits, bad_tail, not_after}
 use Rattle.table.proofs.AtEight.{masked-routes, masked_rules}
-use Rattle.steps.specs.Steps as steps
-use Rattle.checking.specs.Passes.{puts}
+use Rattle.checking.specs.Checking.{puts}
 use Rattle.checking.specs.Checking.{host_kept_of, hop_kept_of}
 use Rattle.plans.specs.declared.answers.Step.{Step}
-use Rattle.plans.specs.declared.answers.Judged.{Judged}
-use Rattle.plans.specs.declared.answers.Judged.TheVariants.{Yes, No, Refused}
-use Rattle.plans.specs.Judging.{step_of, step_rules, of_new, tables_rules, check_rules, Accepts, Judges}
+use Rattle.plans.specs.Judging.{step_of, step_rules, of_new, tables_rules, check_rules, Accepts, Judges, judged_says}
 use Rattle.plans.specs.Conditions.{of_installed, of_new_lem, PlanCondition, of_tables, of_step}
-use Rattle.plans.proofs.Calls.{yes_kept, no_kept}
-use Rattle.plans.proofs.Deciding.{start_twice}
+use Rattle.plans.proofs.Calls.{yes_kept, no_kept, judged_same}
+use Rattle.plans.proofs.Following.{start_twice}
 use Rattle.plans.proofs.Refusals.{kept-exactly, check_refused, check_yes, check_no}
 
 -- ---- The strict choice and the default.
@@ -63,26 +63,29 @@ module _ (t u : List ℕ) (ss : List Step) where
   looser six more step (of_step lt f) = absurd (step refl)
 
   -- What is not refused by 6, 26 or 13 is the default's.
-  pub check_carried : (r q : Judged) → Judges strictly t u ss r → Judges by_default t u ss q
-      → ((i : ℕ) → r ≡ Refused 6 i → ⊥) → ((i : ℕ) → r ≡ Refused 26 i → ⊥) → ((i : ℕ) → r ≡ Refused 13 i → ⊥) → q ≡ r
+  pub check_carried : (r q : Result Bool Refusal) → Judges strictly t u ss r → Judges by_default t u ss q
+      → ((i : ℕ) → judged_says r ≡ refuses 6 i → ⊥) → ((i : ℕ) → judged_says r ≡ refuses 26 i → ⊥) → ((i : ℕ) → judged_says r ≡ refuses 13 i → ⊥) → q ≡ r
   check_carried r q one other six more step = go r refl
     where
       none : None (PlanCondition strictly t u ss) → None (PlanCondition by_default t u ss)
       none f n i c = f n i (stricter c)
 
-      go : (v : Judged) → r ≡ v → q ≡ r
-      go Yes e =
+      go : (v : Result Bool Refusal) → r ≡ v → q ≡ r
+      go (Ok true) e =
           let f = (kept-exactly strictly t u ss).0 (yes_kept strictly t u ss r one e) in
           (check_yes by_default t u ss q other (none f)).1 ((check_yes strictly t u ss r one f).0 e) ∙ sym e
-      go No e =
+      go (Ok false) e =
           let f = (kept-exactly strictly t u ss).0 (no_kept strictly t u ss r one e) in
           (check_no by_default t u ss q other (none f)).1 ((check_no strictly t u ss r one f).0 e) ∙ sym e
-      go (Refused n i) e =
-          let f = (check_refused strictly t u ss r one n i).0 e in
-          (check_refused by_default t u ss q other n i).1 (
-            looser (λ d. six i (e ∙ ap (λ (k : ℕ). Refused k i) d)) (λ d. more i (e ∙ ap (λ (k : ℕ). Refused k i) d)) (λ d. step i (e ∙ ap (λ (k : ℕ). Refused k i) d)) f.0,
-            λ m j l c. f.1 m j l (stricter c),
-          ) ∙ sym e
+      go (Err x) e =
+          let n = number_of x.cause in
+          let i = x.index in
+          let said : judged_says r ≡ refuses n i = ap judged_says e in
+          let f = (check_refused strictly t u ss r one n i).0 said in
+          let by : (k : ℕ) → n ≡ k → judged_says r ≡ refuses k i = λ k d. said ∙ ap (λ (m : ℕ). refuses m i) d in
+          judged_same q r
+          ((check_refused by_default t u ss q other n i).1 (looser (λ d. six i (by 6 d)) (λ d. more i (by 26 d)) (λ d. step i (by 13 d)) f.0, λ m j l c. f.1 m j l (stricter c))
+          ∙ sym said)
 
 -- ---- Masked.
 
@@ -118,7 +121,7 @@ module _ (form : Form) (t u : List ℕ) (bt : Bytes t) (bu : Bytes u) (ok : Acce
       (same_step_rules other 0 ss)
 
   -- They satisfy the statement of the tables and steps by default, and no other answer does.
-  pub check_same : (r : Judged) → Judges other (masked_bytes t) (masked_bytes u) (map masked_step ss) r → Judges by_default t u ss r
+  pub check_same : (r : Result Bool Refusal) → Judges other (masked_bytes t) (masked_bytes u) (map masked_step ss) r → Judges by_default t u ss r
   check_same r a =
       record {
         word = a.word;

@@ -1,19 +1,20 @@
 -- Which refusals the checker gives: the first number in the documents' order whose condition holds, exactly then. Assumes nothing.
 use Prim.Native.Nat.{ℕ, ◌≤◌}
-use mathlib.Core.Path.{◌≡◌, refl, sym, ◌∙◌}
-use mathlib.Core.Bool.{true, false}
+use mathlib.Core.Path.{◌≡◌, refl, sym, ◌∙◌, ap}
+use mathlib.Core.Bool.{true, false, Bool}
 use mathlib.Core.List.{List}
 use mathlib.Core.Logic.{◌⊎◌, inl, inr, ◌↔◌}
 use native.Mathlib.Omega.{arith}
-use Rattle.refusals.specs.Rules.{gives, judge}
+use Rattle.std.specs.Prelude.{Result, Ok, Err}
+use Rattle.refusals.specs.declared.Refusal.{Refusal}
+use Rattle.refusals.specs.Numbers.{number_of}
+use Rattle.refusals.specs.Rules.{gives, judge, refuses}
 use Rattle.refusals.specs.Order.{First, None}
 use Rattle.refusals.proofs.Judged.{gives-exactly}
-use Rattle.refusals.proofs.Answered.{refused_exactly}
+use Rattle.refusals.proofs.Answered.{says_refused}
 use Rattle.records.specs.declared.Form.{Form}
 use Rattle.table.proofs.AtEight.{table-numbers}
 use Rattle.plans.specs.declared.answers.Step.{Step}
-use Rattle.plans.specs.declared.answers.Judged.{Judged}
-use Rattle.plans.specs.declared.answers.Judged.TheVariants.{Yes, No, Refused}
 use Rattle.plans.specs.Judging.{check_rules, judged_says, Accepts, Judges}
 use Rattle.plans.specs.Conditions.{TablesCondition, of_installed, of_new_lem, PlanCondition, of_tables, of_step}
 use Rattle.plans.proofs.Calls.{judged_same, yes_exactly}
@@ -31,30 +32,31 @@ module _ (form : Form) (t u : List ℕ) (ss : List Step) where
       let exactly = gives-exactly (check_rules form t u ss) (check_tests form t u ss) true in
       (λ e. (exactly.0 e).0, λ f. exactly.1 (f, refl))
 
-  module _ (r : Judged) (s : Judges form t u ss r) where
+  module _ (r : Result Bool Refusal) (s : Judges form t u ss r) where
     -- It refuses with a number and an index exactly when their condition holds and none before it in the documents' order does.
-    pub check_refused : (number index : ℕ) → r ≡ Refused number index ↔ First (PlanCondition form t u ss) number index
-    check_refused number index =
-        refused_exactly judged_says judged_same (check_rules form t u ss) (check_tests form t u ss) (check_ranked form t u ss).order s.word
-        r s.answer (Refused number index) number index refl
+    pub check_refused : (number index : ℕ) → judged_says r ≡ refuses number index ↔ First (PlanCondition form t u ss) number index
+    check_refused = says_refused judged_says judged_same (check_rules form t u ss) (check_tests form t u ss) (check_ranked form t u ss).order s.word r s.answer
 
     -- Where none holds it says yes exactly to a plan without a detour, and else no.
-    pub check_yes : None (PlanCondition form t u ss) → r ≡ Yes ↔ Accepts t u ss
+    pub check_yes : None (PlanCondition form t u ss) → r ≡ Ok true ↔ Accepts t u ss
     check_yes f = yes_exactly form t u ss r s (kept-exactly.1 f)
 
-    pub check_no : None (PlanCondition form t u ss) → r ≡ No ↔ (Accepts t u ss → ⊥)
+    pub check_no : None (PlanCondition form t u ss) → r ≡ Ok false ↔ (Accepts t u ss → ⊥)
     check_no f = (λ e a. yes_not_no (sym ((check_yes f).1 a) ∙ e), λ n. go r refl n)
       where
-        yes_not_no : Yes ≡ No → ⊥
+        answer : Bool → Result Bool Refusal
+        answer = Ok
+
+        yes_not_no : answer true ≡ answer false → ⊥
         yes_not_no e = let z : ◌≡◌ {A = ℕ} 0 1 = cc in omega arith
 
-        go : (q : Judged) → r ≡ q → (Accepts t u ss → ⊥) → r ≡ No
-        go Yes e n = absurd (n ((check_yes f).0 e))
-        go No e n = e
-        go (Refused k i) e n = absurd (f k i ((check_refused k i).0 e).0)
+        go : (q : Result Bool Refusal) → r ≡ q → (Accepts t u ss → ⊥) → r ≡ Ok false
+        go (Ok true) e n = absurd (n ((check_yes f).0 e))
+        go (Ok false) e n = e
+        go (Err x) e n = absurd (f (number_of x.cause) x.index ((check_refused (number_of x.cause) x.index).0 (ap judged_says e)).0)
 
     -- It gives the numbers 3 to 8, 23 to 28 and 13 alone.
-    pub check_numbers : (number index : ℕ) → r ≡ Refused number index → (((3 ≤ number) × (number ≤ 8)) ⊎ ((23 ≤ number) × (number ≤ 28))) ⊎ (number ≡ 13)
+    pub check_numbers : (number index : ℕ) → judged_says r ≡ refuses number index → (((3 ≤ number) × (number ≤ 8)) ⊎ ((23 ≤ number) × (number ≤ 28))) ⊎ (number ≡ 13)
     check_numbers number index e = go number index ((check_refused number index).0 e).0
       where
         go : (n i : ℕ) → PlanCondition form t u ss n i → (((3 ≤ n) × (n ≤ 8)) ⊎ ((23 ≤ n) × (n ≤ 28))) ⊎ (n ≡ 13)

@@ -1,18 +1,22 @@
 -- The rules of the two tables and of the steps, one after the other. Assumes nothing.
 use Prim.Native.Nat.{ℕ, zero, suc, ◌+◌, ◌<◌}
-use mathlib.Core.Path.{◌≡◌, refl, ap, ◌∙◌}
+use mathlib.Core.Path.{◌≡◌, refl, ap, ◌∙◌, sym}
 use mathlib.Core.Bool.{Bool, true, false}
-use mathlib.Core.List.{List, [], ◌∷◌, map}
+use mathlib.Core.List.{List, [], ◌∷◌, map, append-nil}
 use native.Mathlib.Omega.{arith}
 use lib.ListN.{length}
-use Rattle.refusals.specs.Rules.{Rule, gives, refuses, judge}
+use Rattle.refusals.specs.declared.Cause.{Cause}
+use Rattle.refusals.specs.Numbers.{number_of, in_new_of}
+use Rattle.refusals.proofs.Replies.{in_new_number}
+use Rattle.table.proofs.AtEight.{refused_exactly, table-numbers}
+use Rattle.refusals.specs.Rules.{Rule, Reply, gives, refuses, judge}
 use Rattle.refusals.proofs.Judged.{all_next, some-here}
 use Rattle.records.specs.Wire.{records}
 use Rattle.records.specs.declared.Form.{Form}
 use Rattle.table.specs.Checking.{check_reply}
 use Rattle.table.specs.TableRules.{table_rules}
 use Rattle.plans.specs.declared.answers.Step.{Step}
-use Rattle.checking.specs.Passes.{puts}
+use Rattle.checking.specs.Checking.{puts}
 use Rattle.plans.specs.Following.{step_at}
 use Rattle.checking.specs.Checking.{step_kept}
 use Rattle.plans.specs.Judging.{step_rules, of_new, tables_rules, check_rules}
@@ -88,3 +92,45 @@ module _ (form : Form) (t u : List ℕ) (ss : List Step) {A : Type 0} (a : A) wh
       unfolding check_rules
       step_refused d lt k e =
           all_next a a {c = a} (tables_rules form t u) (step_rules form 0 ss) tables_kept ∙ steps-broken form a 0 d ss lt k e ∙ ap (refuses 13) (omega arith)
+
+-- ---- The tables alone.
+
+module _ (form : Form) (t u : List ℕ) {A : Type 0} (a : A) where
+  tables_whole : judge (tables_rules form t u) a ≡ judge (check_rules form t u []) a
+  unfolding check_rules step_rules
+  tables_whole = ap (λ (rs : List Rule). judge rs a) (sym (append-nil (tables_rules form t u)))
+
+  pub old_broken : {k i : ℕ} → check_reply form false t ≡ refuses k i → judge (tables_rules form t u) a ≡ refuses k i
+  old_broken e = tables_whole ∙ old_refused form t u [] a e
+
+  module _ {m : ℕ} (valid : check_reply form false t ≡ gives m) where
+    pub new_broken : {k i : ℕ} → check_reply form false u ≡ refuses k i → judge (tables_rules form t u) a ≡ refuses (k + 20) i
+    new_broken e = tables_whole ∙ new_refused form t u [] a valid e
+
+    pub none_broken : {l : ℕ} → check_reply form false u ≡ gives l → judge (tables_rules form t u) a ≡ gives a
+    none_broken e = tables_whole ∙ all_kept form t u [] a valid e (λ j lt. absurd (omega arith))
+
+module _ (form : Form) (t u : List ℕ) where
+  -- Where no rule is broken both checks give.
+  pub both_given : {a : Bool} → judge (tables_rules form t u) a ≡ gives a
+      → ((m : ℕ) × (check_reply form false t ≡ gives m)) × ((l : ℕ) × (check_reply form false u ≡ gives l))
+  both_given {a} k = go (check_reply form false t) refl (check_reply form false u) refl
+    where
+      go : (x : Reply ℕ) → check_reply form false t ≡ x → (y : Reply ℕ) → check_reply form false u ≡ y
+          → ((m : ℕ) × (check_reply form false t ≡ gives m)) × ((l : ℕ) × (check_reply form false u ≡ gives l))
+      go (refuses n i) e y f = let z : refuses n i ≡ gives a = sym (old_broken form t u a e) ∙ k in let o : ◌≡◌ {A = ℕ} 0 1 = cc in absurd (omega arith)
+      go (gives m) e (refuses n i) f =
+          let z : refuses (n + 20) i ≡ gives a = sym (new_broken form t u a e f) ∙ k in let o : ◌≡◌ {A = ℕ} 0 1 = cc in absurd (omega arith)
+      go (gives m) e (gives l) f = ((m, e), (l, f))
+
+  -- A fault of the new table by its cause there.
+  pub new_by_cause : {m : ℕ} → check_reply form false t ≡ gives m → (c : Cause) (i : ℕ) → check_reply form false u ≡ refuses (number_of c) i
+      → judge (tables_rules form t u) true ≡ refuses (number_of (in_new_of c)) i
+  new_by_cause valid c i e =
+      let range = table-numbers form false u (number_of c) i ((refused_exactly form false u (records u) (number_of c) i).0 e).0 in
+      new_broken form t u true valid e ∙ ap (λ (n : ℕ). refuses n i) (sym (in_new_number c range.0 range.1))
+
+  -- Rules of tables that are broken refuse the steps too.
+  pub tables_first : (ss : List Step) {n i : ℕ} → judge (tables_rules form t u) true ≡ refuses n i → judge (check_rules form t u ss) true ≡ refuses n i
+  unfolding check_rules
+  tables_first ss {n} {i} e = some-here true true n i (tables_rules form t u) (step_rules form 0 ss) e

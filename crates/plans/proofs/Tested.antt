@@ -17,7 +17,7 @@ use Rattle.records.specs.declared.Form.{Form}
 use Rattle.table.specs.SizedConditions.{TableConditionIn, not_whole, too_many, of_record, too_long, host_bits, bad_tail, not_after}
 use Rattle.table.specs.TableRules.{table_rules}
 use Rattle.table.proofs.AtEight.{table_tests, table_ranked}
-use Rattle.checking.specs.Passes.{puts}
+use Rattle.checking.specs.Checking.{puts}
 use Rattle.checking.specs.Checking.{host_kept_of, hop_kept_of}
 use Rattle.plans.specs.declared.answers.Step.{Step}
 use Rattle.plans.specs.Judging.{step_rules, of_new, tables_rules, check_rules}

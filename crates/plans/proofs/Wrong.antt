@@ -8,6 +8,8 @@ use mathlib.Core.Logic.{◌⊎◌, inl, inr}
 use native.Mathlib.Omega.{arith}
 use lib.ListN.{length}
 use borrow.Author.Tests.{eq-eqb}
+use Rattle.std.specs.Prelude.{Result, Ok}
+use Rattle.refusals.specs.declared.Refusal.{Refusal}
 use Rattle.theory.specs.Routes.{hit, miss, longer, under, lookup, none, via}
 use Rattle.words.specs.Prefix.{agree}
 use Rattle.refusals.specs.Rules.{gives, judge}
@@ -18,8 +20,6 @@ use Rattle.table.specs.SizedRules.{record_rules_in, rules_from_in, table_rules_i
 use Rattle.steps.specs.Steps.{after, OldOrNew}
 use Rattle.steps.proofs.Turns.{after_every}
 use Rattle.plans.specs.declared.answers.Step.{Step}
-use Rattle.plans.specs.declared.answers.Judged.{Judged}
-use Rattle.plans.specs.declared.answers.Judged.TheVariants.{Yes}
 use Rattle.plans.specs.Judging.{step_of, step_rules, tables_rules, check_rules, Accepts, Judges}
 use Rattle.plans.proofs.Calls.{yes_exactly, cut_anywhere}
 
@@ -50,9 +50,9 @@ unfolding routes_in routes_from_in route_in raw_in number
 ends-right = refl
 
 -- but between the two steps 10.0.0.1 has no route.
-pub only_the_end : (strict : Bool) → Judges (by strict) old_hop new_hop dropped Yes → ⊥
+pub only_the_end : (strict : Bool) → Judges (by strict) old_hop new_hop dropped (Ok true) → ⊥
 unfolding routes_in routes_from_in route_in raw_in number
-only_the_end strict s = go (cut_anywhere (by strict) old_hop new_hop dropped Yes s refl 1 167772161 (omega arith))
+only_the_end strict s = go (cut_anywhere (by strict) old_hop new_hop dropped (Ok true) s refl 1 167772161 (omega arith))
   where
     go : (none ≡ via 1) ⊎ (none ≡ via 2) → ⊥
     go (inl e) = let z : ◌≡◌ {A = ℕ} 0 1 = cc in omega arith
@@ -81,9 +81,9 @@ starts-right = after_every (λ v. OldOrNew 32 (routes over_one) (routes over_thr
     go (suc (suc (suc k))) le = absurd (omega arith)
 
 -- but 10.128.0.0 goes by hop 2 between the steps.
-pub only_the_starts : (strict : Bool) → Judges (by strict) over_one over_three astray Yes → ⊥
+pub only_the_starts : (strict : Bool) → Judges (by strict) over_one over_three astray (Ok true) → ⊥
 unfolding routes_in routes_from_in route_in raw_in number
-only_the_starts strict s = go (cut_anywhere (by strict) over_one over_three astray Yes s refl 1 176160768 (omega arith))
+only_the_starts strict s = go (cut_anywhere (by strict) over_one over_three astray (Ok true) s refl 1 176160768 (omega arith))
   where
     go : (via 2 ≡ via 1) ⊎ (via 2 ≡ via 3) → ⊥
     go (inl e) = let z : ◌≡◌ {A = ℕ} 2 1 = cc in omega arith
@@ -137,5 +137,5 @@ detour_accepted =
     same (suc (suc zero)) le x lt = inl refl
     same (suc (suc (suc k))) le x lt = absurd (omega arith)
 
-pub length_and_hop : (strict : Bool) (r : Judged) → Judges (by strict) whole whole detour r → r ≡ Yes
+pub length_and_hop : (strict : Bool) (r : Result Bool Refusal) → Judges (by strict) whole whole detour r → r ≡ Ok true
 length_and_hop strict r s = (yes_exactly (by strict) whole whole detour r s (detour_kept strict)).1 detour_accepted

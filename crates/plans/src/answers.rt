@@ -1,9 +1,9 @@
-// A step, and what the checker answers. A refusal has its number, and the index of the record or step at fault (0 where none is).
+// A step of a plan.
 
 // A step: put the route of this prefix and hop, or take the prefix away. `put` is 0 for a take and anything else for a put; a take's hop is not read. Eight bytes
 // without padding: any eight bytes are a step.
 #[repr(C)]
-#[derive(Clone, Copy)]
+#[derive(Clone, Copy, Debug, PartialEq, Eq)]
 pub struct Step {
     pub addr: u32,
     pub len: u8,
@@ -11,12 +11,4 @@ pub struct Step {
     pub put: u8,
     // Never read.
     pub unread: u8,
-}
-
-// Yes, no, or the refusal.
-#[derive(Clone, Copy)]
-pub enum Judged {
-    Yes,
-    No,
-    Refused { number: u8, index: usize },
 }

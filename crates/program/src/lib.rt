@@ -8,10 +8,12 @@ ghost use Rattle.records.specs.Forms.{size_of};
 ghost use Rattle.text.specs.Text.{Put};
 ghost use Rattle.program.specs.Printed.{printed, printed_in};
 
+pub use calls::engine::Mode;
 use records::{Form, size_of};
 use std::io;
 use std::io::Read;
 use streams::read_full;
+use text::Style;
 use text::answers::put_rewritten;
 
 // Lays what is printed for a table into the buffer, from its start, and says where it ends. The output and the room are lent, and no ranks.
@@ -27,29 +29,15 @@ fn answer_on(
     requires { 3 * length output.old + 36 ≤ length out.old }
     ensures { Put (printed_in form mode default (length output.old) (length work.old) table.now) 0 result out.old out.new }
 {
-    let ranks = [0u16; 0];
-    let answered = aggregate::rewrite(table, form, mode, default, &ranks, output, work);
-    put_rewritten(answered, output, size_of(form), false, 1 < mode, 0, out)
+    let answered = aggregate::rewrite(table, form, mode, default, &[], output, work);
+    let style = Style {
+        hex: false,
+        hops: 1 < mode,
+    };
+    put_rewritten(answered, output, size_of(form), style, 0, out)
 }
 
-// The same with as much of the output as 1,025 records have.
-fn answer_part(
-    table: &[u8],
-    form: Form,
-    mode: u32,
-    default: u32,
-    output: &mut [u8],
-    work: &mut [u32],
-    out: &mut [u8],
-) -> usize
-    requires { (16400 ≤ length output.old) × (49236 ≤ length out.old) }
-    ensures { Put (printed_in form mode default (1025 * size_of form) (length work.old) table.now) 0 result out.old out.new }
-{
-    let room = 1025 * size_of(form);
-    answer_on(table, form, mode, default, &mut output[..room], work, out)
-}
-
-// The same, with an output of its own.
+// The same, with an output of its own that has room for 1,025 records.
 pub fn answer_in(
     table: &[u8],
     form: Form,
@@ -62,26 +50,22 @@ pub fn answer_in(
     ensures { Put (printed_in form mode default (1025 * size_of form) (length work.old) table.now) 0 result out.old out.new }
 {
     let mut output = [0u8; 16400];
-    answer_part(table, form, mode, default, &mut output, work, out)
+    let room = 1025 * size_of(form);
+    answer_on(table, form, mode, default, &mut output[..room], work, out)
 }
 
 // The same in the mode's program.
+#[tactic(auto, unfolding(crate::specs::Printed::printed))]
 fn answer(table: &[u8], long: bool, mode: u32, out: &mut [u8]) -> usize
     requires { 49236 ≤ length out.old }
     ensures { Put (printed long mode table.now) 0 result out.old out.new }
 {
+    let form = Form {
+        strict: false,
+        long,
+    };
     let mut work = [0u32; 16384];
-    answer_in(
-        table,
-        Form {
-            strict: false,
-            long: long,
-        },
-        mode,
-        0,
-        &mut work,
-        out,
-    )
+    answer_in(table, form, mode, 0, &mut work, out)
 }
 
 // The bytes of 1,025 records.

@@ -1,29 +1,12 @@
 -- Laws of laying bytes over a list: records that are written one after another are the bytes of their routes. Assumes nothing.
 use mathlib.Core.Path.{◌≡◌, sym, ap, ap₂, ◌∙◌}
-use mathlib.Core.List.{List, [], ◌∷◌, ◌++◌, append-nil, append_assoc}
-use Prim.Native.Nat.{ℕ, suc, ◌+◌, ◌-◌, ◌≤◌}
+use mathlib.Core.List.{List, [], ◌++◌, append-nil, append_assoc}
+use Prim.Native.Nat.{ℕ, ◌+◌, ◌-◌, ◌≤◌}
 use native.Mathlib.Nat.{add_assoc}
 use native.Mathlib.Omega.{arith}
-use lib.ListN.{length, take, drop, set, length-append, length-drop, take-append-drop, drop_of_length-le}
-use lib.Seq.{sets-eq, length-take-le, take_all, take_at, drop_at, drop-drop, take-add}
+use lib.ListN.{length, take, drop, length-append, length-drop, take-append-drop, drop_of_length-le}
+use lib.Seq.{length-take-le, take_all, take_at, drop_at, drop-drop, take-add}
 use Rattle.records.specs.Sized.{laid}
-
--- Eight bytes stored one by one are laid.
-pub stored_eight : (o : List ℕ) (k a b c d e f g h : ℕ) → k + 8 ≤ length o
-    → set (set (set (set (set (set (set (set o k a) (k + 1) b) (k + 2) c) (k + 3) d) (k + 4) e) (k + 5) f) (k + 6) g) (k + 7) h
-    ≡ laid k (a ∷ b ∷ c ∷ d ∷ e ∷ f ∷ g ∷ h ∷ []) o
-unfolding laid
-stored_eight o k a b c d e f g h fits =
-    let e1 : k + 1 ≡ suc k = omega arith in
-    let e2 : k + 2 ≡ suc (suc k) = omega arith in
-    let e3 : k + 3 ≡ suc (suc (suc k)) = omega arith in
-    let e4 : k + 4 ≡ suc (suc (suc (suc k))) = omega arith in
-    let e5 : k + 5 ≡ suc (suc (suc (suc (suc k)))) = omega arith in
-    let e6 : k + 6 ≡ suc (suc (suc (suc (suc (suc k))))) = omega arith in
-    let e7 : k + 7 ≡ suc (suc (suc (suc (suc (suc (suc k)))))) = omega arith in
-    rw (e1, e2, e3, e4, e5, e6, e7)
-    (sets-eq (a ∷ b ∷ c ∷ d ∷ e ∷ f ∷ g ∷ h ∷ []) o k fits
-    ∙ append_assoc (take k o) (a ∷ b ∷ c ∷ d ∷ e ∷ f ∷ g ∷ h ∷ []) (drop (k + 8) o))
 
 -- Nothing laid changes nothing.
 pub laid_none : (k : ℕ) (o : List ℕ) → laid k [] o ≡ o

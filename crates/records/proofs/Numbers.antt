@@ -1,15 +1,15 @@
 -- Octets and the number that they write, first octet first, over how many they are. Assumes nothing.
 use mathlib.Core.Path.{◌≡◌, refl, sym, ap, ap₂, ◌∙◌}
-use mathlib.Core.Bool.{true, false, and-eq-true_iff}
+use mathlib.Core.Bool.{true, and-eq-true_iff}
 use mathlib.Core.List.{List, [], ◌∷◌, ◌++◌, append_assoc}
-use Prim.Native.Nat.{ℕ, zero, suc, ◌+◌, ◌-◌, ◌*◌, ◌/◌, ◌%◌, ◌^◌, ◌≤◌, ◌<◌}
+use Prim.Native.Nat.{ℕ, zero, suc, ◌+◌, ◌*◌, ◌/◌, ◌%◌, ◌^◌, ◌≤◌, ◌<◌}
 use native.Mathlib.Nat.{add-zero, zero-add, add_assoc, pow-suc}
 use native.Mathlib.Numerals.{add-one}
 use native.Mathlib.Omega.{arith}
 use lib.Dec.{eqb}
 use lib.ListN.{length, get_or, take, drop, replicate, length-append, length-drop}
 use lib.Seq.{get_or_at, get_or-drop, take-suc, drop-cons}
-use borrow.Author.Tests.{eqb-true, eq-eqb, ne_eqb}
+use borrow.Author.Tests.{eqb-true, eq-eqb}
 use Rattle.records.specs.Wire.{join}
 use Rattle.records.specs.Sized.{number, clear, octets_of, Bytes}
 
@@ -112,26 +112,6 @@ zero_clear t k (suc n) z =
     let more : clear t (suc k) n ≡ true =
     zero_clear t (suc k) n (λ j h. let same : suc k + j ≡ k + suc j = omega arith in ap (λ (m : ℕ). get_or t m 0) same ∙ z (suc j) (omega arith)) in
     rw (eq-eqb (get_or t k 0) 0 here, more)
-
--- Byte by byte, from byte k up to the end: a byte that is zero is passed, one that is not decides, and none is left.
-module _ (t : List ℕ) (k end : ℕ) where
-  pub clear_pass : k < end → get_or t k 0 ≡ 0 → clear t k (end - k) ≡ clear t (k + 1) (end - (k + 1))
-  unfolding clear
-  clear_pass lt z =
-      let e : end - k ≡ suc (end - (k + 1)) = omega arith in
-      rw (e, eq-eqb (get_or t k 0) 0 z, add-one)
-
-  pub clear_stop : k < end → (get_or t k 0 ≡ 0 → ⊥) → clear t k (end - k) ≡ false
-  unfolding clear
-  clear_stop lt n =
-      let e : end - k ≡ suc (end - (k + 1)) = omega arith in
-      rw (e, ne_eqb (get_or t k 0) 0 n)
-
-  pub clear_end : end ≤ k → clear t k (end - k) ≡ true
-  unfolding clear
-  clear_end le =
-      let e : end - k ≡ 0 = omega arith in
-      rw e
 
 -- So many zeros, in a list.
 pub take-zeros : (t : List ℕ) (k n : ℕ) → k + n ≤ length t → ((j : ℕ) → j < n → get_or t (k + j) 0 ≡ 0) → take n (drop k t) ≡ replicate n 0

@@ -8,6 +8,7 @@ ghost use Rattle.records.specs.Forms.{size_of};
 ghost use Rattle.records.specs.Wire.{join, records, raw_at, route_at, record_of};
 ghost use Rattle.records.specs.Sized.{IsSize, route, laid};
 
+use sized::write_eight;
 use words::prefix::masked;
 
 // How a table's bytes are read: under the strict choice a record with host bits is refused, else they are masked; a long table has records of 16
@@ -30,7 +31,7 @@ pub fn size_of(form: Form) -> usize
 pub fn join4(a: u8, b: u8, c: u8, d: u8) -> u32
     ensures { result ≡ join a b c d }
 {
-    (((a as u32) * 256 + (b as u32)) * 256 + (c as u32)) * 256 + (d as u32)
+    u32::from_be_bytes([a, b, c, d])
 }
 
 // The address of record i as its bytes have it.
@@ -71,30 +72,6 @@ pub fn write_record(out: &mut [u8], at: usize, addr: u32, len: u8, hop: u8)
     requires { 8 * at + 8 ≤ length out.old }
     ensures { out.new ≡ laid (8 * at) (record_of (route addr len hop)) out.old }
 {
-    let k = 8 * at;
-    out[k] = (addr / 16777216 % 256) as u8;
-    out[k + 1] = (addr / 65536 % 256) as u8;
-    out[k + 2] = (addr / 256 % 256) as u8;
-    out[k + 3] = (addr % 256) as u8;
-    out[k + 4] = len;
-    out[k + 5] = hop;
-    out[k + 6] = 0;
-    out[k + 7] = 0;
-}
-
-// Writes a record at the start of the output, if there is room for it.
-pub fn put_record(out: &mut [u8], addr: u32, len: u8, hop: u8)
-    ensures { 8 ≤ length out.old → out.new ≡ laid 0 (record_of (route addr len hop)) out.old }
-{
-    if 8 <= out.len() {
-        write_record(out, 0, addr, len, hop);
-    }
-}
-
-// Where `count` records end in an output of `len` bytes; its end, where they do not fit.
-pub fn past(count: usize, len: usize) -> usize
-    ensures upper_bound { result ≤ len }
-    ensures value { count * 8 ≤ len → result ≡ count * 8 }
-{
-    if count <= len / 8 { count * 8 } else { len }
+    let [a, b, c, d] = addr.to_be_bytes();
+    write_eight(out, 8 * at, [a, b, c, d, len, hop, 0, 0]);
 }

@@ -8,20 +8,12 @@ ghost use Rattle.records.specs.Sized.{IsSize, width_in, number, records_in, raw_
 use crate::{addr_at, raw_addr_at, write_record};
 use words::key::masked_key;
 
-// Eight octets as a number, the first the most significant.
-fn join8(a: u8, b: u8, c: u8, d: u8, e: u8, f: u8, g: u8, h: u8) -> u64
-    ensures { result ≡ join a b c d * 4294967296 + join e f g h }
-{
-    let top = (((a as u64) * 256 + (b as u64)) * 256 + (c as u64)) * 256 + (d as u64);
-    (((top * 256 + (e as u64)) * 256 + (f as u64)) * 256 + (g as u64)) * 256 + (h as u64)
-}
-
 // The eight octets from byte k on.
 pub fn oct_at(table: &[u8], k: usize) -> u64
     requires { k + 8 ≤ length table.now }
     ensures { result ≡ number table.now k 8 }
 {
-    join8(
+    u64::from_be_bytes([
         table[k],
         table[k + 1],
         table[k + 2],
@@ -30,7 +22,7 @@ pub fn oct_at(table: &[u8], k: usize) -> u64
         table[k + 5],
         table[k + 6],
         table[k + 7],
-    )
+    ])
 }
 
 // The key of record i as its bytes have it.
@@ -86,18 +78,13 @@ pub fn key_of(address: u64, size: usize) -> u64
 }
 
 // Writes eight bytes from byte k on. The others stay.
-fn write_eight(out: &mut [u8], k: usize, a: u8, b: u8, c: u8, d: u8, e: u8, f: u8, g: u8, h: u8)
+pub fn write_eight(out: &mut [u8], k: usize, bytes: [u8; 8])
     requires { k + 8 ≤ length out.old }
-    ensures { out.new ≡ laid k («a» ∷ «b» ∷ «c» ∷ «d» ∷ «e» ∷ «f» ∷ «g» ∷ «h» ∷ []) out.old }
+    ensures { out.new ≡ laid k bytes out.old }
 {
-    out[k] = a;
-    out[k + 1] = b;
-    out[k + 2] = c;
-    out[k + 3] = d;
-    out[k + 4] = e;
-    out[k + 5] = f;
-    out[k + 6] = g;
-    out[k + 7] = h;
+    for (j, byte) in bytes.iter().enumerate() {
+        out[k + j] = *byte;
+    }
 }
 
 // Writes a record of 16 bytes from byte k on. The other bytes stay.
@@ -105,19 +92,8 @@ fn write_long(out: &mut [u8], k: usize, key: u64, len: u8, hop: u8)
     requires { k + 16 ≤ length out.old }
     ensures { out.new ≡ laid k (record_in 16 (route key len hop)) out.old }
 {
-    write_eight(
-        out,
-        k,
-        (key / 72057594037927936 % 256) as u8,
-        (key / 281474976710656 % 256) as u8,
-        (key / 1099511627776 % 256) as u8,
-        (key / 4294967296 % 256) as u8,
-        (key / 16777216 % 256) as u8,
-        (key / 65536 % 256) as u8,
-        (key / 256 % 256) as u8,
-        (key % 256) as u8,
-    );
-    write_eight(out, k + 8, len, hop, 0, 0, 0, 0, 0, 0);
+    write_eight(out, k, key.to_be_bytes());
+    write_eight(out, k + 8, [len, hop, 0, 0, 0, 0, 0, 0]);
 }
 
 // Writes a record at record index `at` of the output: the address is what is left of the key. The other bytes stay.

@@ -28,3 +28,9 @@ module _ {R A : Type 0} (says : R → Reply A) (same : (b c : R) → says b ≡ 
     refused_exactly b n i p =
         let exactly = refuses-exactly rs tests a order n i in
         (λ q. exactly.0 (sym e ∙ ap says q ∙ p), λ f. same r b (e ∙ exactly.1 f ∙ sym p))
+
+    -- The same by what the answer says.
+    pub says_refused : (n i : ℕ) → says r ≡ refuses n i ↔ First Holds n i
+    says_refused n i =
+        let exactly = refuses-exactly rs tests a order n i in
+        (λ q. exactly.0 (sym e ∙ q), λ f. e ∙ exactly.1 f)

@@ -3,7 +3,9 @@
 -- what is not refused by a number is answered as if the number were not given at all.
 pub mod Shown
 pub mod Judged
+pub mod Replies
 pub mod Ranked
+pub mod Caused
 pub mod Answered
 pub mod Waived
 pub mod Examples

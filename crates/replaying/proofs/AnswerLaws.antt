@@ -1,68 +1,57 @@
 -- Whose text is kept, and what a call leaves in the rooms that were filled before it. Assumes nothing.
-use mathlib.Core.Path.{◌≡◌, refl, sym, ap, ◌∙◌}
+use mathlib.Core.Path.{◌≡◌, refl, ap, ◌∙◌}
 use mathlib.Core.Bool.{true}
 use mathlib.Core.List.{List}
-use Prim.Native.Nat.{ℕ, ◌*◌}
+use Prim.Native.Nat.{ℕ, ◌*◌, ◌≤◌}
 use native.Mathlib.Nat.{mul-zero}
 use native.Mathlib.Omega.{arith}
 use borrow.Author.Tests.{eq-eqb, ne_eqb}
 use lib.ListN.{length, drop, replicate}
 use lib.Seq.{drop_at}
 use Rattle.theory.specs.Routes.{Route}
+use Rattle.std.specs.Prelude.{Bool, Result, Ok, Err}
 use Rattle.refusals.specs.Rules.{Rule, Reply, gives, refuses}
+use Rattle.refusals.specs.Numbers.{number_of}
+use Rattle.refusals.specs.declared.Refusal.{Refusal}
 use Rattle.records.specs.Sized.{records_in, bytes_in}
 use Rattle.records.specs.Forms.{size_of}
 use Rattle.records.specs.declared.Form.{Form}
 use Rattle.records.proofs.SizedReading.{form_size}
 use Rattle.records.proofs.SizedWritten.{in_length_bytes}
 use Rattle.rooms.specs.Rooms.{all_are}
-use Rattle.lookup.specs.Calls.{lookup_says, lookup_reply, held_says, held_reply}
-use Rattle.lookup.specs.declared.answers.Lookup.{Lookup}
-use Rattle.lookup.specs.declared.answers.Lookup.TheVariants.{Route as Found, NoRoute, Refused as NotLooked}
-use Rattle.lookup.specs.declared.answers.AddressesHeld.{AddressesHeld}
-use Rattle.lookup.specs.declared.answers.AddressesHeld.TheVariants.{Count, Refused as NotCounted}
 use Rattle.calls.specs.Covering.{covers_says, cover_reply, Queried}
-use Rattle.calls.specs.declared.Covers.{Covers}
-use Rattle.calls.specs.declared.Covers.TheVariants.{Covered, Uncovered, Refused as NotAnswered}
 use Rattle.calls.specs.Conditions.{Guarded}
-use Rattle.calls.specs.Rewriting.{count_of, result_of, reply_by, written_of, output_of, RewritesBy, Rewrites}
-use Rattle.calls.specs.declared.Rewritten.{Rewritten}
-use Rattle.calls.specs.declared.Rewritten.TheVariants.{Records, Refused}
+use Rattle.calls.specs.Rewriting.{Outcome, count_of, result_of, reply_by, written_of, output_of, RewritesBy, Rewrites}
 use Rattle.calls.proofs.Engines.{by_records}
 use Rattle.holes.specs.Listing.{listed_count, Lists}
-use Rattle.holes.specs.declared.Listed.{Listed}
-use Rattle.holes.specs.declared.Listed.TheVariants.{Records as Listing, Refused as NotListed}
 use Rattle.holes.proofs.Calls.{refusal_changes_nothing, unrouted_rest}
-use Rattle.text.specs.Answers.{covers_text, lookup_text, held_text}
+use Rattle.text.specs.Answers.{said, cover_line, covers_text}
 use Rattle.kept.proofs.KeptLaws.{all_replicate, all_dropped}
-use Rattle.kept.specs.Kept.{byte, call_by, form_by, address_of, words_of, room_of}
-use Rattle.replaying.specs.Answers.{covers_of, lookup_of, held_of, rewrite_answer, cover_answer, lookup_answer, held_answer, answer_text}
+use Rattle.kept.specs.declared.call.Call.{Call}
+use Rattle.kept.specs.declared.call.Call.TheVariants.{Rewrite, Covers, Lookup, AddressesHeld, Unrouted, Plain, Load, CheckPlan, Plan, SpecialUse, Live}
+use Rattle.kept.specs.Kept.{byte, call_number, call_by, form_by, address_of, words_of, room_of}
+use Rattle.replaying.specs.Answers.{rewrite_answer, cover_answer, lookup_answer, held_answer, answer_text}
 
 -- ---- Whose text it is: an answer that says the right reply has its text.
 
-covers_back : (r : Covers) → covers_of (covers_says r) ≡ r
-covers_back Covered = refl
-covers_back Uncovered = refl
-covers_back (NotAnswered number index) = refl
-
-pub covers_kept : (r : Covers) (form : Form) (t : List ℕ) (address len words : ℕ) → covers_says r ≡ cover_reply form t address len words
+pub covers_kept : (r : Result Bool Refusal) (form : Form) (t : List ℕ) (address len words : ℕ) → covers_says r ≡ cover_reply form t address len words
     → covers_text r ≡ cover_answer form t address len words
-covers_kept r form t address len words e = ap covers_text (sym (covers_back r) ∙ ap covers_of e)
+unfolding covers_text
+covers_kept r form t address len words e = ap (said cover_line) e
 
-lookup_back : (r : Lookup) → lookup_of (lookup_says r) ≡ r
-lookup_back (Found hop len) = refl
-lookup_back NoRoute = refl
-lookup_back (NotLooked number index) = refl
-
-pub lookup-kept : (r : Lookup) (form : Form) (t : List ℕ) (address : ℕ) → lookup_says r ≡ lookup_reply form t address → lookup_text r ≡ lookup_answer form t address
-lookup-kept r form t address e = ap lookup_text (sym (lookup_back r) ∙ ap lookup_of e)
-
-held_back : (r : AddressesHeld) → held_of (held_says r) ≡ r
-held_back (Count n) = refl
-held_back (NotCounted number index) = refl
-
-pub held_kept : (r : AddressesHeld) (form : Form) (t : List ℕ) → held_says r ≡ held_reply form t → held_text r ≡ held_answer form t
-held_kept r form t e = ap held_text (sym (held_back r) ∙ ap held_of e)
+-- Any other call has a number from 3 on.
+pub other_call : (call : Call) → (call ≡ Rewrite → ⊥) → (call ≡ Covers → ⊥) → (call ≡ Lookup → ⊥) → 3 ≤ call_number call
+other_call Rewrite a b c = absurd (a refl)
+other_call Covers a b c = absurd (b refl)
+other_call Lookup a b c = absurd (c refl)
+other_call AddressesHeld a b c = omega arith
+other_call Unrouted a b c = omega arith
+other_call Plain a b c = omega arith
+other_call Load a b c = omega arith
+other_call CheckPlan a b c = omega arith
+other_call Plan a b c = omega arith
+other_call SpecialUse a b c = omega arith
+other_call Live a b c = omega arith
 
 -- The text of a case is that of its call.
 module _ (head query t ranks : List ℕ) where
@@ -93,11 +82,11 @@ module _ (head query t ranks : List ℕ) where
 -- ---- What a call leaves in the rooms.
 
 -- Both calls leave the room zero.
-pub rewrite_zero : {form : Form} {t : List ℕ} {mode default : ℕ} {ranks o : List ℕ} {words : ℕ} {r : Rewritten} {o' w' : List ℕ}
+pub rewrite_zero : {form : Form} {t : List ℕ} {mode default : ℕ} {ranks o : List ℕ} {words : ℕ} {r : Outcome} {o' w' : List ℕ}
     → Rewrites form t mode default ranks o words r o' w' → all_are 0 w' ≡ true
 rewrite_zero {words = words} ok = ap (all_are 0) ok.zero ∙ all_replicate 0 words
 
-pub covers_zero : {form : Form} {t : List ℕ} {address len words : ℕ} {r : Covers} {w' : List ℕ} → Queried form t address len words r w' → all_are 0 w' ≡ true
+pub covers_zero : {form : Form} {t : List ℕ} {address len words : ℕ} {r : Result Bool Refusal} {w' : List ℕ} → Queried form t address len words r w' → all_are 0 w' ≡ true
 covers_zero {words = words} ok = ap (all_are 0) ok.zero ∙ all_replicate 0 words
 
 -- A refusal leaves the output.
@@ -111,26 +100,26 @@ module _ (form : Form) (rules : List Rule) (t : List ℕ) (mode default : ℕ) (
   abbrev size : ℕ
   size = size_of form
 
-  pub output-filled : (r : Rewritten) → RewritesBy size rules t mode default ranks o r o' → all_are v (drop (size * count_of r) o') ≡ true
-  output-filled (Records count change) ok =
-      let f = by_records form rules t mode default ranks o guarded (Records count change) o' ok count change refl in
+  pub output-filled : (r : Outcome) → RewritesBy size rules t mode default ranks o r o' → all_are v (drop (size * count_of r) o') ≡ true
+  output-filled (Ok w) ok =
+      let f = by_records form rules t mode default ranks o guarded (Ok w) o' ok w.count w.change refl in
       let rs = result_of size t mode default ranks in
       ap (λ (m : ℕ). all_are v (drop (size * m) o')) f.1
       ∙ ap (λ (l : List ℕ). all_are v (drop (size * length rs) l)) f.3
       ∙ ap (all_are v) (drop_at (bytes_in size rs) (drop (size * length rs) o) (size * length rs) (in_length_bytes size (form_size form) rs))
       ∙ ap (λ (l : List ℕ). all_are v (drop (size * length rs) l)) filled
       ∙ all_dropped v (size * length rs) n
-  output-filled (Refused number index) ok =
+  output-filled (Err e) ok =
       let none : drop (size * 0) o' ≡ o' = ap (λ (m : ℕ). drop m o') (mul-zero size) in
-      ap (all_are v) (none ∙ ok.output ∙ output-left size (records_in size t) number index o (reply_by size rules t mode default ranks) ok.answer ∙ filled) ∙ all_replicate v n
+      ap (all_are v) (none ∙ ok.output ∙ output-left size (records_in size t) (number_of e.cause) e.index o (reply_by size rules t mode default ranks) ok.answer ∙ filled) ∙ all_replicate v n
 
 -- The same of a list of what has no route.
 module _ (form : Form) (t o o' : List ℕ) (v n : ℕ) (filled : o ≡ replicate n v) where
-  pub list_filled : (r : Listed) → Lists form t o r o' → all_are v (drop (size_of form * listed_count r) o') ≡ true
-  list_filled (Listing count) ok =
-      ap (all_are v) (unrouted_rest form t o (Listing count) o' ok count refl)
+  pub list_filled : (r : Result ℕ Refusal) → Lists form t o r o' → all_are v (drop (size_of form * listed_count r) o') ≡ true
+  list_filled (Ok count) ok =
+      ap (all_are v) (unrouted_rest form t o (Ok count) o' ok count refl)
       ∙ ap (λ (l : List ℕ). all_are v (drop (size_of form * count) l)) filled
       ∙ all_dropped v (size_of form * count) n
-  list_filled (NotListed number index) ok =
+  list_filled (Err e) ok =
       ap (λ (m : ℕ). all_are v (drop m o')) (mul-zero (size_of form))
-      ∙ ap (all_are v) (refusal_changes_nothing form t o (NotListed number index) o' ok number index refl ∙ filled) ∙ all_replicate v n
+      ∙ ap (all_are v) (refusal_changes_nothing form t o (Err e) o' ok (number_of e.cause) e.index refl ∙ filled) ∙ all_replicate v n

@@ -1,39 +1,18 @@
 -- What the program replay keeps for a case with a call that takes tables of both sizes, or with addresses held: the text of the right answer. Addresses of
 -- 64 bits are in hex digits.
-use Rattle.std.specs.Prelude.{ℕ, Bool, true, false, cond, List, eqb, ltb}
-use Rattle.theory.specs.Routes.{Match, miss, hit}
-use Rattle.refusals.specs.Rules.{Reply, gives, refuses, judge}
+use Rattle.std.specs.Prelude.{ℕ, true, cond, List, eqb, ltb}
+use Rattle.refusals.specs.Rules.{judge}
 use Rattle.records.specs.Sized.{records_in}
 use Rattle.records.specs.declared.Form.{Form}
 use Rattle.records.specs.Forms.{size_of}
 use Rattle.lookup.specs.Calls.{lookup_reply, held_reply}
-use Rattle.lookup.specs.declared.answers.Lookup.{Lookup}
-use Rattle.lookup.specs.declared.answers.Lookup.TheVariants.{Route as Found, NoRoute, Refused as NotLooked}
-use Rattle.lookup.specs.declared.answers.AddressesHeld.{AddressesHeld}
-use Rattle.lookup.specs.declared.answers.AddressesHeld.TheVariants.{Count, Refused as NotCounted}
 use Rattle.calls.specs.Rewriting.{reply_by, rewrite_reply}
 use Rattle.calls.specs.Covering.{cover_reply}
-use Rattle.calls.specs.declared.Covers.{Covers}
-use Rattle.calls.specs.declared.Covers.TheVariants.{Covered, Uncovered, Refused as NotAnswered}
 use Rattle.holes.specs.Listing.{holes_of, unrouted_rules}
 use Rattle.plain.specs.Rewriting.{plain_rules}
-use Rattle.text.specs.Answers.{reply_text, covers_text, lookup_text, held_text, list_text}
+use Rattle.text.specs.Text.{addresses_line}
+use Rattle.text.specs.Answers.{said, reply_text, cover_line, match_line, list_text}
 use Rattle.kept.specs.Kept.{byte, call_by, form_by, address_of, words_of, room_of}
-
--- The answers that say a reply.
-abbrev pub covers_of : Reply Bool → Covers
-covers_of (gives true) = Covered
-covers_of (gives false) = Uncovered
-covers_of (refuses number index) = NotAnswered number index
-
-abbrev pub lookup_of : Reply Match → Lookup
-lookup_of (gives miss) = NoRoute
-lookup_of (gives (hit len hop)) = Found hop len
-lookup_of (refuses number index) = NotLooked number index
-
-abbrev pub held_of : Reply ℕ → AddressesHeld
-held_of (gives n) = Count n
-held_of (refuses number index) = NotCounted number index
 
 -- Of each call; the hops are left out in mode 1.
 abbrev pub rewrite_answer : Form → List ℕ → ℕ → ℕ → List ℕ → ℕ → ℕ → List ℕ
@@ -46,13 +25,13 @@ plain_answer form t mode default ranks room =
     (reply_by (size_of form) (plain_rules form t mode default ranks room) t mode default ranks)
 
 abbrev pub cover_answer : Form → List ℕ → ℕ → ℕ → ℕ → List ℕ
-cover_answer form t address len words = covers_text (covers_of (cover_reply form t address len words))
+cover_answer form t address len words = said cover_line (cover_reply form t address len words)
 
 abbrev pub lookup_answer : Form → List ℕ → ℕ → List ℕ
-lookup_answer form t address = lookup_text (lookup_of (lookup_reply form t address))
+lookup_answer form t address = said match_line (lookup_reply form t address)
 
 abbrev pub held_answer : Form → List ℕ → List ℕ
-held_answer form t = held_text (held_of (held_reply form t))
+held_answer form t = said addresses_line (held_reply form t)
 
 abbrev pub list_answer : Form → List ℕ → ℕ → List ℕ
 list_answer form t room = list_text (size_of form) true true (judge (unrouted_rules form t room) (holes_of (size_of form) t))

@@ -13,24 +13,28 @@ ghost use Rattle.replaying.specs.Answers.{rewrite_answer, plain_answer, cover_an
 
 use aggregate::{covers, rewrite};
 use calls::Rewritten;
-use holes::{Listed, unrouted};
+use holes::unrouted;
+use kept::call::Call;
 use kept::{
-    FILLED_BYTE, FILLED_WORD, address_of, call_of, form_of, join2, keep_output, keep_work, room_for,
+    FILLED_BYTE, FILLED_WORD, address_of, form_of, join2, keep_output, keep_work, named_call,
+    room_for,
 };
 use lookup::{addresses_held, lookup};
 use records::{Form, join4, size_of};
+use refusals::Refusal;
 use std::io::Stdout;
 use streams::outlet::Outlet;
+use text::Style;
 use text::answers::{put_covers, put_held, put_listed, put_lookup, put_rewritten};
 
 // The bytes of the output that an answer's records take.
-fn written(answer: Rewritten, size: usize) -> usize
+fn written(answer: Result<Rewritten, Refusal>, size: usize) -> usize
     requires { IsSize size × (size * count_of answer ≤ 65535) }
     ensures { result ≡ size * count_of answer }
 {
     match answer {
-        Rewritten::Records { count, .. } => size * count,
-        Rewritten::Refused { .. } => 0,
+        Ok(written) => size * written.count,
+        Err(_) => 0,
     }
 }
 
@@ -53,8 +57,8 @@ fn keep_rewritten(
     ensures { Put (rewrite_answer form table.now mode default ranks.now (length output.old) (length work.old)) (begin_of at) result kept.old kept.new }
 {
     let size = size_of(form);
-    rooms::bytes::fill(output, FILLED_BYTE);
-    rooms::words::fill(work, FILLED_WORD);
+    output.fill(FILLED_BYTE);
+    work.fill(FILLED_WORD);
     let answer = rewrite(
         table,
         form,
@@ -65,7 +69,11 @@ fn keep_rewritten(
         work,
     );
     let begin = room_for(outlet, kept, at);
-    let end = put_rewritten(answer, output, size, true, 1 < mode, begin, kept);
+    let style = Style {
+        hex: true,
+        hops: 1 < mode,
+    };
+    let end = put_rewritten(answer, output, size, style, begin, kept);
     let after = keep_work(outlet, work, end, kept);
     keep_output(outlet, output, written(answer, size), after, kept)
 }
@@ -88,10 +96,14 @@ fn keep_plain(
     ensures { Put (plain_answer form table.now mode default ranks.now (length output.old)) (begin_of at) result kept.old kept.new }
 {
     let size = size_of(form);
-    rooms::bytes::fill(output, FILLED_BYTE);
+    output.fill(FILLED_BYTE);
     let answer = plain::rewrite(table, form, mode as u32, default as u32, ranks, output);
     let begin = room_for(outlet, kept, at);
-    let end = put_rewritten(answer, output, size, true, 1 < mode, begin, kept);
+    let style = Style {
+        hex: true,
+        hops: 1 < mode,
+    };
+    let end = put_rewritten(answer, output, size, style, begin, kept);
     keep_output(outlet, output, written(answer, size), end, kept)
 }
 
@@ -139,7 +151,7 @@ fn keep_covers(
     requires in_bounds { 262144 ≤ length kept.old }
     ensures { Put (cover_answer form table.now address len (length work.old)) (begin_of at) result kept.old kept.new }
 {
-    rooms::words::fill(work, FILLED_WORD);
+    work.fill(FILLED_WORD);
     let answer = covers(table, form, address, len as u32, work);
     let begin = room_for(outlet, kept, at);
     let end = put_covers(answer, begin, kept);
@@ -147,6 +159,7 @@ fn keep_covers(
 }
 
 // Keeps the answer of a lookup.
+#[tactic(auto, unfolding(text::specs::Answers::lookup_text))]
 fn keep_lookup(
     outlet: &mut Outlet<Stdout>,
     address: u64,
@@ -164,6 +177,7 @@ fn keep_lookup(
 }
 
 // Keeps the answer of addresses held.
+#[tactic(auto, unfolding(text::specs::Answers::held_text))]
 fn keep_held(
     outlet: &mut Outlet<Stdout>,
     table: &[u8],
@@ -180,13 +194,13 @@ fn keep_held(
 }
 
 // The bytes of the output that a list's records take.
-fn listed(answer: Listed, size: usize) -> usize
+fn listed(answer: Result<usize, Refusal>, size: usize) -> usize
     requires { IsSize size × (size * listed_count answer ≤ 1048576) }
     ensures { result ≡ size * listed_count answer }
 {
     match answer {
-        Listed::Records(count) => size * count,
-        Listed::Refused { .. } => 0,
+        Ok(count) => size * count,
+        Err(_) => 0,
     }
 }
 
@@ -203,7 +217,7 @@ pub fn list_text(
     ensures { Put (list_answer form table.now (length output.old)) 0 result text.old text.new }
 {
     let size = size_of(form);
-    rooms::bytes::fill(output, FILLED_BYTE);
+    output.fill(FILLED_BYTE);
     let answer = unrouted(table, form, output);
     let end = put_listed(answer, output, size, true, true, 0, text);
     keep_output(outlet, output, listed(answer, size), end, text)
@@ -229,26 +243,25 @@ pub fn keep_answer(
     ensures { Put (answer_text head.now query.now table.now ranks.now) (begin_of at) result kept.old kept.new }
 {
     let form = form_of(head[0]);
-    let call = call_of(head[0]);
-    let words = join4(head[8], head[9], head[10], head[11]) as usize;
-    if call == 0 {
-        let room = join2(head[12], head[13]);
-        return keep_rewritten(
-            outlet,
-            head[1],
-            head[2],
-            table,
-            form,
-            ranks,
-            &mut output[..room],
-            &mut work[..words],
-            at,
-            kept,
-        );
-    }
     let address = address_of(head, query);
-    if call == 1 {
-        return keep_covers(
+    let words = join4(head[8], head[9], head[10], head[11]) as usize;
+    match named_call(head[0]) {
+        Ok(Call::Rewrite) => {
+            let room = join2(head[12], head[13]);
+            keep_rewritten(
+                outlet,
+                head[1],
+                head[2],
+                table,
+                form,
+                ranks,
+                &mut output[..room],
+                &mut work[..words],
+                at,
+                kept,
+            )
+        }
+        Ok(Call::Covers) => keep_covers(
             outlet,
             address,
             head[3],
@@ -257,10 +270,8 @@ pub fn keep_answer(
             &mut work[..words],
             at,
             kept,
-        );
+        ),
+        Ok(Call::Lookup) => keep_lookup(outlet, address, table, form, at, kept),
+        _ => keep_held(outlet, table, form, at, kept),
     }
-    if call == 2 {
-        return keep_lookup(outlet, address, table, form, at, kept);
-    }
-    keep_held(outlet, table, form, at, kept)
 }

@@ -1,3 +1,2 @@
--- Laws of what replay keeps for special use and the chip loader.
-pub mod SpecialLaws
+-- Laws of what replay keeps for the chip loader.
 pub mod ChipLaws

@@ -1,19 +1,18 @@
 // The cases of call 6, the chip loader: the text of the answer is kept. The image is filled before the call and looked at after it: by the call's
 // statement no line about it is ever kept.
 
-ghost use Rattle.std.specs.Prelude.{◌≡◌, true, ◌+◌, ◌*◌, ◌≤◌, length, drop};
-ghost use Rattle.rooms.specs.Rooms.{all_are};
+ghost use Rattle.std.specs.Prelude.{◌≡◌, true, ◌+◌, ◌*◌, ◌≤◌, length};
 ghost use Rattle.text.specs.Text.{Put};
 ghost use Rattle.kept.specs.Kept.{begin_of};
 ghost use Rattle.replaying_more.specs.ChipKept.{used_of, slots_text, loaded_text, is_as_said, chip_answer, chip_case};
 
-use chip::Loaded;
 use kept::counted::put_counted;
-use kept::{FILLED_BYTE, form_of, join2, keep_line, room_for};
+use kept::{FILLED_BYTE, form_of, join2, keep_unless, room_for};
 use records::Form;
+use refusals::Refusal;
 use std::io::Stdout;
 use streams::outlet::Outlet;
-use text::{put_records, put_refused};
+use text::{Style, put_records, put_refused};
 
 // The lines of an image's first slots, and how many they are.
 fn put_slots(image: &[u8], used: usize, at: usize, out: &mut [u8]) -> usize
@@ -22,47 +21,31 @@ fn put_slots(image: &[u8], used: usize, at: usize, out: &mut [u8]) -> usize
     ensures { Put (slots_text used image.now) at result out.old out.new }
 {
     let size = 8 * used;
-    let end = put_records(&image[..size], 8, false, true, at, out);
+    let style = Style {
+        hex: false,
+        hops: true,
+    };
+    let end = put_records(&image[..size], 8, style, at, out);
     put_counted(b"slots ", used as u64, end, out)
 }
 
 // The text of an answer, from the image that it left.
-fn put_loaded(answer: Loaded, image: &[u8], at: usize, out: &mut [u8]) -> usize
+#[tactic(auto, unfolding(crate::specs::ChipKept::loaded_text))]
+fn put_loaded(answer: Result<usize, Refusal>, image: &[u8], at: usize, out: &mut [u8]) -> usize
     requires answer_in_bounds { 8 * used_of answer ≤ length image.now }
     requires answer_in_bounds_2 { at + 24 * used_of answer + 36 ≤ length out.old }
     ensures { Put (loaded_text answer image.now) at result out.old out.new }
 {
     match answer {
-        Loaded::Slots(used) => put_slots(image, used, at, out),
-        Loaded::Refused { number, index } => put_refused(number, index, at, out),
+        Ok(used) => put_slots(image, used, at, out),
+        Err(refusal) => put_refused(refusal, at, out),
     }
-}
-
-// Keeps a line, if a byte of the image from a place on is not the value.
-fn keep_unless(
-    outlet: &mut Outlet<Stdout>,
-    image: &[u8],
-    from: usize,
-    value: u8,
-    line: &[u8],
-    at: usize,
-    kept: &mut [u8],
-) -> usize
-    requires line_len_bound { length line.now ≤ 20 }
-    requires at_in_bounds { at ≤ length kept.old }
-    requires in_bounds { 262144 ≤ length kept.old }
-    ensures { all_are value (drop from image.now) ≡ true → (result ≡ at) × (kept.new ≡ kept.old) }
-{
-    if rooms::bytes::are(image, from, value) {
-        return at;
-    }
-    keep_line(outlet, line, at, kept)
 }
 
 // Keeps `slots not clear`, if after an answer a byte of an unused slot is not 255, and `image touched`, if after a refusal a byte is not as it was filled.
 fn keep_image(
     outlet: &mut Outlet<Stdout>,
-    answer: Loaded,
+    answer: Result<usize, Refusal>,
     image: &[u8],
     at: usize,
     kept: &mut [u8],
@@ -73,12 +56,8 @@ fn keep_image(
     ensures { is_as_said answer image.now ≡ true → (result ≡ at) × (kept.new ≡ kept.old) }
 {
     match answer {
-        Loaded::Slots(used) => {
-            keep_unless(outlet, image, 8 * used, 255, b"slots not clear\n", at, kept)
-        }
-        Loaded::Refused { .. } => {
-            keep_unless(outlet, image, 0, FILLED_BYTE, b"image touched\n", at, kept)
-        }
+        Ok(used) => { keep_unless(outlet, image, 8 * used, 255, b"slots not clear\n", at, kept) }
+        Err(_) => keep_unless(outlet, image, 0, FILLED_BYTE, b"image touched\n", at, kept),
     }
 }
 
@@ -95,7 +74,7 @@ fn keep_chip(
     requires in_bounds { 262144 ≤ length kept.old }
     ensures { Put (chip_answer form table.now (length image.old)) (begin_of at) result kept.old kept.new }
 {
-    rooms::bytes::fill(image, FILLED_BYTE);
+    image.fill(FILLED_BYTE);
     let answer = chip::load(table, form, image);
     let begin = room_for(outlet, kept, at);
     let end = put_loaded(answer, image, begin, kept);

@@ -8,13 +8,14 @@ use kept::FILLED_WORD;
 use live_cases::put_commands;
 
 // The lines of the commands on a room, from the start of the text; another room of the same size is lent for what was in it before each.
+#[tactic(auto, unfolding(crate::specs::LiveKept::live_answer))]
 fn live_lines(commands: &[u8], room: &mut [u32], before: &mut [u32], text: &mut [u8]) -> usize
     requires commands_len_bound { length commands.now ≤ 65535 }
     requires before_len { length before.old ≡ length room.old }
     requires in_bounds { 524288 ≤ length text.old }
     ensures { Put (live_answer commands.now (length room.old)) 0 result text.old text.new }
 {
-    rooms::words::fill(room, FILLED_WORD);
+    room.fill(FILLED_WORD);
     put_commands(commands, room, before, 0, text)
 }
 

@@ -67,7 +67,8 @@ fn keep_planned(
     ensures upper_bound { result ≤ length kept.old }
 {
     let begin = room_for(outlet, kept, at);
-    plan_text(installed, new, form, empty_room(), n, true, begin, kept)
+    let mut room = empty_room();
+    plan_text(installed, new, form, &mut room[..n], true, begin, kept)
 }
 
 // Keeps the answer of a case with call 8: its first 16 bytes, and both tables.

@@ -8,24 +8,27 @@ ghost use Rattle.replaying_more.specs.SpecialKept.{special_text, special_answer,
 use kept::counted::put_counted;
 use kept::{form_of, room_for};
 use records::{Form, join4};
-use special::{Special, special_use};
+use refusals::Refusal;
+use special::special_use;
 use std::io::Stdout;
 use streams::outlet::Outlet;
 use text::{put_bytes, put_refused};
 
 // The text of an answer.
-fn put_special(answer: Special, at: usize, out: &mut [u8]) -> usize
+#[tactic(auto, unfolding(crate::specs::SpecialKept::special_text))]
+fn put_special(answer: Result<Option<usize>, Refusal>, at: usize, out: &mut [u8]) -> usize
     requires { at + 36 ≤ length out.old }
     ensures { Put (special_text answer) at result out.old out.new }
 {
     match answer {
-        Special::At(i) => put_counted(b"special at ", i as u64, at, out),
-        Special::Nothing => put_bytes(b"none special\n", at, out),
-        Special::Refused { number, index } => put_refused(number, index, at, out),
+        Ok(Some(i)) => put_counted(b"special at ", i as u64, at, out),
+        Ok(None) => put_bytes(b"none special\n", at, out),
+        Err(refusal) => put_refused(refusal, at, out),
     }
 }
 
 // Keeps the answer of special use.
+#[tactic(auto, unfolding(crate::specs::SpecialKept::special_text))]
 fn keep_special(
     outlet: &mut Outlet<Stdout>,
     edition: u32,

@@ -1,7 +1,7 @@
 -- What is asked of the rooms after a call.
-use Rattle.std.specs.Prelude.{ℕ, Bool, true, ◌&&◌, List, [], ◌∷◌, eqb}
+use Rattle.std.specs.Prelude.{ℕ, Bool, List, eqb}
+use Rattle.std.specs.List.{list_all}
 
 -- Is every element v?
-unfoldable pub all_are : ℕ → List ℕ → Bool
-all_are v [] = true
-all_are v (x ∷ xs) = eqb x v && all_are v xs
+abbrev pub all_are : ℕ → List ℕ → Bool
+all_are v l = list_all (λ x. eqb x v) l

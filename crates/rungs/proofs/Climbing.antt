@@ -83,10 +83,6 @@ module _ {t : List ℕ} {k x r : ℕ} where
       go l le (inl h) up' e q (no ge) = let s = start_rises (32 - l) (32 - d) x (omega arith) in omega arith
       go l le (inr h) up' e q (no ge) = omega (arith, h.1)
 
-  -- None.
-  pub skip_none : k ≡ r → Skipped t k x r
-  skip_none e = record { high = omega arith; other = λ i ge lt. absurd (omega arith) }
-
 -- ---- The invariant.
 
 pub record Climbing (t : List ℕ) (x : ℕ) (hops : List ℕ) (k : ℕ) : Type 0 where

@@ -23,12 +23,10 @@ pub fn top_from(hops: &[u8; 33], from: usize) -> usize
     requires { from ≤ 32 }
     ensures { result ≡ top_from hops.now from }
 {
-    let mut l = from;
-    while 0 < l {
+    for l in (1..from + 1).rev() {
         if hops[l] != NO_HOP {
             return l;
         }
-        l -= 1;
     }
     0
 }

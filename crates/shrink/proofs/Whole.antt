@@ -12,7 +12,6 @@ use Rattle.theory.specs.Routes.{Route}
 use Rattle.refusals.specs.Rules.{Rule, rule, refuses, judge}
 use Rattle.records.specs.Wire.{records}
 use Rattle.records.specs.Forms.{by_default}
-use Rattle.table.specs.TableRules.{table_rules}
 use Rattle.table.specs.SizedRules.{table_rules_in}
 use Rattle.calls.specs.Rewriting.{rewrite_rules, reply_by}
 use Rattle.text.specs.Answers.{reply_text}

@@ -17,36 +17,31 @@ use std::io::Read;
 use std::rt::Env;
 use streams::read_full;
 
-// What stands for no number: neither a mode nor a hop.
-const NO_NUMBER: u32 = 4294967295;
+// What stands for no number: neither a mode nor a hop. No `Option`, since the call takes any number as a mode, and refuses this one.
+const NO_NUMBER: u32 = u32::MAX;
 
 // The number of the digits so far, and one byte more.
+#[tactic(auto, unfolding(crate::specs::Words::behind))]
 fn one_more(n: u32, byte: u8) -> u32
     ensures { result ≡ behind n byte }
 {
-    if byte < 48 {
-        return NO_NUMBER;
-    }
-    if 57 < byte {
-        return NO_NUMBER;
-    }
-    let next = (n as u64) * 10 + ((byte - 48) as u64);
-    if next < 4294967295 {
-        next as u32
-    } else {
-        NO_NUMBER
+    match byte {
+        b'0'..=b'9' => {
+            let next = u64::from(n) * 10 + u64::from(byte - b'0');
+            u32::try_from(next).unwrap_or(NO_NUMBER)
+        }
+        _ => NO_NUMBER,
     }
 }
 
 // The number that a word stands for.
+#[tactic(auto, unfolding(crate::specs::Words::number_from))]
 fn word_number(word: &[u8]) -> u32
     ensures { result ≡ word_number word.now }
 {
-    let mut n: u32 = 0;
-    let mut i: usize = 0;
-    while i < word.len() {
-        n = one_more(n, word[i]);
-        i += 1;
+    let mut n = 0;
+    for byte in word {
+        n = one_more(n, *byte);
     }
     n
 }
@@ -85,6 +80,7 @@ fn pass_over_all(input: &mut impl Read) -> io::Result<u64>
 }
 
 // How many bytes decide the answer, of an input of so many.
+#[tactic(auto, unfolding(crate::specs::Input::judged))]
 fn deciding(size: u64) -> usize
     ensures value { result ≡ judged size }
     ensures upper_bound { result ≤ 8200 }
@@ -114,17 +110,11 @@ fn answer(table: &[u8], mode: u32, default: u32, work: &mut [u32; 824480], out: 
     requires { 49236 ≤ length out.old }
     ensures { Put (printed_in by_default mode default 8200 824480 table.now) 0 result out.old out.new }
 {
-    answer_in(
-        table,
-        Form {
-            strict: false,
-            long: false,
-        },
-        mode,
-        default,
-        work,
-        out,
-    )
+    let form = Form {
+        strict: false,
+        long: false,
+    };
+    answer_in(table, form, mode, default, work, out)
 }
 
 // Reads the input and prints the answer. It fails only where a read or the write fails; where a read fails, no answer is printed. The work room keeps its

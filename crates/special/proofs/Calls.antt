@@ -1,14 +1,20 @@
 -- What the call's statement settles: no second answer satisfies it, and each case of an answer stands for exactly these facts. The answer of a call is any r
 -- of which the call's `ensures` holds. Assumes of the table, where it says so, that its elements are bytes.
-use mathlib.Core.Path.{◌≡◌, refl, sym, ◌∙◌}
+use mathlib.Core.Path.{◌≡◌, refl, sym, ap, ◌∙◌}
 use mathlib.Core.Bool.{false}
 use mathlib.Core.List.{List, [], ◌∷◌}
 use mathlib.Core.Logic.{◌⊎◌, inl, inr, ◌↔◌}
 use Prim.Native.Nat.{ℕ, ◌≤◌}
 use native.Mathlib.Omega.{arith}
-use Rattle.refusals.specs.Rules.{Rule, rule, Reply, gives, refuses}
-use Rattle.refusals.specs.Order.{rank, First, None}
-use Rattle.refusals.proofs.Answered.{given_exactly, refused_exactly}
+use Rattle.refusals.specs.Rules.{Rule, rule, gives, refuses}
+use Rattle.refusals.specs.Order.{rank, First, None as NoneOf}
+use Rattle.std.specs.Prelude.{Option, None, Some, Result, Ok}
+use Rattle.refusals.specs.declared.Refusal.{Refusal}
+use Rattle.refusals.specs.declared.Cause.TheVariants.{Edition as BadEdition}
+use Rattle.refusals.proofs.Replies.{reply_same}
+use Rattle.refusals.proofs.Caused.{AllCaused, judge_caused, reply_met}
+use Rattle.table.proofs.Caused.{table_caused}
+use Rattle.refusals.proofs.Answered.{given_exactly, says_refused}
 use Rattle.refusals.proofs.Judged.{Broken}
 use Rattle.refusals.proofs.Ranked.{Ranked, ranked_append, singles}
 use Rattle.records.specs.Wire.{routes}
@@ -19,31 +25,26 @@ use Rattle.table.specs.Conditions.{Accepted}
 use Rattle.table.specs.TableRules.{table_rules}
 use Rattle.table.proofs.AtEight.{accepted-exactly}
 use Rattle.table.proofs.AtEight.{table_tests, table_ranked, table-numbers}
-use Rattle.special.specs.declared.Special.{Special}
-use Rattle.special.specs.declared.Special.TheVariants.{At, Nothing, Refused}
-use Rattle.special.specs.Calls.{special_says, special_rules, special_reply, SpecialCondition, no_edition, of_table}
+use Rattle.special.specs.Calls.{special_says, special_rules, special_reply, SpecialCondition, no_edition, of_table, place_of}
 use Rattle.special.specs.Editions.{is_edition, Edition, ranges_of}
 use Rattle.special.specs.Ranges.{Place, nowhere, at, first_special, IsFirst}
 use Rattle.special.proofs.Inside.{first-exactly}
 use Rattle.special.proofs.Listed.{list_table, edition_is, edition_kept, edition_failed}
 
 -- Answers that say the same are the same.
-pub special_same : (a b : Special) → special_says a ≡ special_says b → a ≡ b
-special_same (At i) (At j) e = cc
-special_same (At i) Nothing e = let z : ◌≡◌ {A = ℕ} 0 1 = cc in absurd (omega arith)
-special_same (At i) (Refused n j) e = let z : ◌≡◌ {A = ℕ} 0 1 = cc in absurd (omega arith)
-special_same Nothing (At i) e = let z : ◌≡◌ {A = ℕ} 0 1 = cc in absurd (omega arith)
-special_same Nothing Nothing e = refl
-special_same Nothing (Refused n j) e = let z : ◌≡◌ {A = ℕ} 0 1 = cc in absurd (omega arith)
-special_same (Refused n i) (At j) e = let z : ◌≡◌ {A = ℕ} 0 1 = cc in absurd (omega arith)
-special_same (Refused n i) Nothing e = let z : ◌≡◌ {A = ℕ} 0 1 = cc in absurd (omega arith)
-special_same (Refused m i) (Refused n j) e = cc
+place_same : (a b : Option ℕ) → place_of a ≡ place_of b → a ≡ b
+place_same None None e = refl
+place_same None (Some b) e = let z : ◌≡◌ {A = ℕ} 0 1 = cc in absurd (omega arith)
+place_same (Some a) None e = let z : ◌≡◌ {A = ℕ} 0 1 = cc in absurd (omega arith)
+place_same (Some a) (Some b) e = let h : a ≡ b = cc in ap Some h
 
--- For every reply there is an answer that says it.
-answer_of : (q : Reply Place) → (r : Special) × (special_says r ≡ q)
-answer_of (gives nowhere) = (Nothing, refl)
-answer_of (gives (at i)) = (At i, refl)
-answer_of (refuses n i) = (Refused n i, refl)
+pub special_same : (a b : Result (Option ℕ) Refusal) → special_says a ≡ special_says b → a ≡ b
+special_same = reply_same place_of place_same
+
+-- For every place there is one that it is.
+place_back : (p : Place) → (o : Option ℕ) × (place_of o ≡ p)
+place_back nowhere = (None, refl)
+place_back (at i) = (Some i, refl)
 
 module _ (form : Form) (t : List ℕ) (edition : ℕ) where
   -- ---- The rules test the conditions, and stand in the order of the checks.
@@ -70,7 +71,7 @@ module _ (form : Form) (t : List ℕ) (edition : ℕ) where
   special_tests n i = (special_broken n i, special_breaks n i)
 
   -- None of the conditions holds exactly for an edition and an accepted table.
-  none_exactly : None Holds ↔ (Edition edition × Accepted form false t)
+  none_exactly : NoneOf Holds ↔ (Edition edition × Accepted form false t)
   none_exactly = (
     λ none. (edition_is edition (λ f. none 14 0 (no_edition f)), (accepted-exactly form false t).1 (λ n i c. none n i (of_table c))),
     λ f n i c. go f n i c,
@@ -80,24 +81,31 @@ module _ (form : Form) (t : List ℕ) (edition : ℕ) where
       go (is, ok) n i (no_edition f) = f is
       go (is, ok) n i (of_table c) = (accepted-exactly form false t).0 ok n i c
 
+  -- The rules' numbers are those of causes.
+  special_caused : AllCaused (special_rules form t edition)
+  unfolding special_rules
+  special_caused = ((BadEdition, refl), table_caused 8 form.strict false t)
+
   -- ---- No second answer satisfies the statement, and for every input one does.
-  pub special_unique : (a b : Special) → special_says a ≡ special_reply form t edition → special_says b ≡ special_reply form t edition → a ≡ b
+  pub special_unique : (a b : Result (Option ℕ) Refusal) → special_says a ≡ special_reply form t edition → special_says b ≡ special_reply form t edition → a ≡ b
   special_unique a b p q = special_same a b (p ∙ sym q)
 
-  pub special_met : (r : Special) × (special_says r ≡ special_reply form t edition)
-  special_met = answer_of (special_reply form t edition)
+  pub special_met : (r : Result (Option ℕ) Refusal) × (special_says r ≡ special_reply form t edition)
+  special_met =
+      reply_met place_of place_back (special_reply form t edition)
+      (judge_caused (special_rules form t edition) (first_special 32 (ranges_of edition) (routes t)) special_caused)
 
-  module _ (r : Special) (ok : special_says r ≡ special_reply form t edition) where
+  module _ (r : Result (Option ℕ) Refusal) (ok : special_says r ≡ special_reply form t edition) where
     -- ---- Refusals.
 
     -- It is refused with a number and an index exactly when they are those of the first condition that holds: of 14, then 3 to 8.
-    pub special_refused : (n i : ℕ) → r ≡ Refused n i ↔ First (SpecialCondition form t edition) n i
-    special_refused n i =
-        refused_exactly special_says special_same (special_rules form t edition) special_tests special_ranked.order (first_special 32 (ranges_of edition) (routes t))
-        r ok (Refused n i) n i refl
+    pub special_refused : (n i : ℕ) → special_says r ≡ refuses n i ↔ First (SpecialCondition form t edition) n i
+    special_refused =
+        says_refused special_says special_same (special_rules form t edition) special_tests special_ranked.order (first_special 32 (ranges_of edition) (routes t))
+        r ok
 
     -- It gives the numbers 14 and 3 to 8 alone.
-    pub special_numbers : (n i : ℕ) → r ≡ Refused n i → (n ≡ 14) ⊎ ((3 ≤ n) × (n ≤ 8))
+    pub special_numbers : (n i : ℕ) → special_says r ≡ refuses n i → (n ≡ 14) ⊎ ((3 ≤ n) × (n ≤ 8))
     special_numbers n i e = go n i ((special_refused n i).0 e).0
       where
         go : (n i : ℕ) → Holds n i → (n ≡ 14) ⊎ ((3 ≤ n) × (n ≤ 8))
@@ -106,7 +114,7 @@ module _ (form : Form) (t : List ℕ) (edition : ℕ) where
 
     -- ---- Answers.
     module _ (bytes : Bytes t) where
-      answered : (b : Special) (p : Place) → special_says b ≡ gives p
+      answered : (b : Result (Option ℕ) Refusal) (p : Place) → special_says b ≡ gives p
           → r ≡ b ↔ (Edition edition × Accepted form false t × IsFirst (ranges_of edition) t p)
       answered b p e =
           let exactly =
@@ -120,9 +128,9 @@ module _ (form : Form) (t : List ℕ) (edition : ℕ) where
           )
 
       -- It names record i exactly for an edition and an accepted table of which that is the first record all of whose addresses lie in one listed range.
-      pub special_at : (i : ℕ) → r ≡ At i ↔ (Edition edition × Accepted form false t × IsFirst (ranges_of edition) t (at i))
-      special_at i = answered (At i) (at i) refl
+      pub special_at : (i : ℕ) → r ≡ Ok (Some i) ↔ (Edition edition × Accepted form false t × IsFirst (ranges_of edition) t (at i))
+      special_at i = answered (Ok (Some i)) (at i) refl
 
       -- It says that there is none exactly for an edition and an accepted table with no such record.
-      pub special_nothing : r ≡ Nothing ↔ (Edition edition × Accepted form false t × IsFirst (ranges_of edition) t nowhere)
-      special_nothing = answered Nothing nowhere refl
+      pub special_nothing : r ≡ Ok None ↔ (Edition edition × Accepted form false t × IsFirst (ranges_of edition) t nowhere)
+      special_nothing = answered (Ok None) nowhere refl

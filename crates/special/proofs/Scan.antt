@@ -1,14 +1,17 @@
--- The two passes record by record: through a list of ranges, and through a table. Assumes nothing.
+-- The two passes by place: through a list of ranges, and through a table. Assumes nothing.
 use mathlib.Core.Path.{◌≡◌, refl, ap}
-use mathlib.Core.Bool.{Bool, true, false, ◌||◌}
+use mathlib.Core.Bool.{Bool, true, false, ◌||◌, cond}
 use mathlib.Core.List.{List, [], ◌∷◌}
-use Prim.Native.Nat.{ℕ, suc, ◌+◌, ◌<◌}
-use native.Mathlib.Omega.{arith}
+use Prim.Native.Nat.{ℕ, zero, suc, ◌+◌}
+use native.Mathlib.Numerals.{add-one}
+use Rattle.std.specs.Option.{option_map}
+use Rattle.special.specs.Calls.{place_of}
+use Rattle.std.specs.Prelude.{Option, None, Some}
+use Rattle.std.specs.List.{list_any, find, range_with_len}
 use Rattle.theory.specs.Routes.{Route}
-use Rattle.records.specs.Wire.{route_at, records}
-use Rattle.records.specs.Sized.{route}
-use Rattle.records.proofs.Reading.{rest, rest_end, rest_next}
-use Rattle.special.specs.Ranges.{lies_in, is_special, nowhere, at, first_from}
+use Rattle.records.specs.Wire.{route_at, records, routes, routes_from}
+use Rattle.records.specs.Sized.{route, routes_from_in, routes_in}
+use Rattle.special.specs.Ranges.{lies_in, is_special, at, first_from, first_special}
 
 -- A route's hop does not matter.
 pub any_hop : (w : ℕ) (ranges : List Route) (r : Route) → is_special w ranges (route r.addr r.len 0) ≡ is_special w ranges r
@@ -17,32 +20,36 @@ any_hop w (s ∷ ranges) r = ap (λ (b : Bool). lies_in w s r || b) (any_hop w r
 
 -- ---- Through the records t of ranges, for a route q.
 module _ (t : List ℕ) (q : Route) where
-  -- It lies in range i.
-  pub range_met : (i : ℕ) → i < records t → lies_in 32 (route_at t i) q ≡ true → is_special 32 (rest t i) q ≡ true
-  range_met i lt e = rw (rest_next t i lt, e)
+  lies_from : (i k : ℕ) → list_any (λ j. lies_in 32 (route_at t j) q) (range_with_len i k) ≡ is_special 32 (routes_from t i k) q
+  unfolding routes_from_in
+  lies_from i zero = refl
+  lies_from i (suc k) = ap (λ (b : Bool). lies_in 32 (route_at t i) q || b) (rw (add-one i) (lies_from (suc i) k))
 
-  -- It does not.
-  pub range_passed : (i : ℕ) → i < records t → lies_in 32 (route_at t i) q ≡ false → is_special 32 (rest t i) q ≡ is_special 32 (rest t (i + 1)) q
-  range_passed i lt e = rw (rest_next t i lt, e)
-
-  -- There are no more ranges.
-  pub ranges_end : (i : ℕ) → i ≡ records t → is_special 32 (rest t i) q ≡ false
-  ranges_end i e = rw (rest_end t i e)
+  -- It lies in one of the ranges.
+  pub lies_somewhere : list_any (λ j. lies_in 32 (route_at t j) q) (range_with_len 0 (records t)) ≡ is_special 32 (routes t) q
+  unfolding routes_in
+  lies_somewhere = lies_from 0 (records t)
 
 -- ---- Through the records t of a table.
+
+pub place_kept : (o : Option ℕ) → place_of (option_map (λ (i : ℕ). i) o) ≡ place_of o
+place_kept None = refl
+place_kept (Some i) = refl
+
 module _ (ranges : List Route) (t : List ℕ) where
-  -- Record i lies in a range.
-  pub record_met : (i : ℕ) → i < records t → is_special 32 ranges (route_at t i) ≡ true → first_from 32 ranges i (rest t i) ≡ at i
-  unfolding first_from
-  record_met i lt e = rw (rest_next t i lt, e)
+  found_from : (i k : ℕ) → place_of (find (λ j. is_special 32 ranges (route_at t j)) (range_with_len i k)) ≡ first_from 32 ranges i (routes_from t i k)
+  unfolding routes_from_in first_from
+  found_from i zero = refl
+  found_from i (suc k) = go (is_special 32 ranges (route_at t i)) (rw (add-one i) (found_from (suc i) k))
+    where
+      rest : Option ℕ
+      rest = find (λ j. is_special 32 ranges (route_at t j)) (range_with_len (i + 1) k)
 
-  -- It does not.
-  pub record_passed : (i : ℕ) → i < records t → is_special 32 ranges (route_at t i) ≡ false
-      → first_from 32 ranges i (rest t i) ≡ first_from 32 ranges (i + 1) (rest t (i + 1))
-  unfolding first_from
-  record_passed i lt e = let f : suc i ≡ i + 1 = omega arith in rw (rest_next t i lt, e, f)
+      go : (b : Bool) → place_of rest ≡ first_from 32 ranges (suc i) (routes_from t (suc i) k)
+          → place_of (cond b (Some i) rest) ≡ cond b (at i) (first_from 32 ranges (suc i) (routes_from t (suc i) k))
+      go true e = refl
+      go false e = e
 
-  -- There are no more records.
-  pub records_end : (i : ℕ) → i ≡ records t → first_from 32 ranges i (rest t i) ≡ nowhere
-  unfolding first_from
-  records_end i e = rw (rest_end t i e)
+  pub found_first : place_of (find (λ j. is_special 32 ranges (route_at t j)) (range_with_len 0 (records t))) ≡ first_special 32 ranges (routes t)
+  unfolding routes_in
+  found_first = found_from 0 (records t)

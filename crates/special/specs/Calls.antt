@@ -1,21 +1,24 @@
 -- The statement of the call: what its answer says, and which reply is right for every table, form and edition; and its conditions for a refusal.
-use Rattle.std.specs.Prelude.{ℕ, false, List, ◌∷◌}
+use Rattle.std.specs.Prelude.{ℕ, false, List, ◌∷◌, Option, None, Some, Result}
 use Rattle.theory.specs.Routes.{Route}
-use Rattle.refusals.specs.Rules.{Rule, rule, Reply, gives, refuses, judge}
+use Rattle.refusals.specs.declared.Refusal.{Refusal}
+use Rattle.refusals.specs.Numbers.{reply_of}
+use Rattle.refusals.specs.Rules.{Rule, rule, Reply, judge}
 use Rattle.records.specs.Wire.{routes}
 use Rattle.records.specs.declared.Form.{Form}
 use Rattle.table.specs.Conditions.{TableCondition}
 use Rattle.table.specs.TableRules.{table_rules}
-use Rattle.special.specs.declared.Special.{Special}
-use Rattle.special.specs.declared.Special.TheVariants.{At, Nothing, Refused}
 use Rattle.special.specs.Editions.{is_edition, Edition, ranges_of}
 use Rattle.special.specs.Ranges.{Place, nowhere, at, first_special}
 
+-- The place that was found, or none.
+abbrev pub place_of : Option ℕ → Place
+place_of None = nowhere
+place_of (Some i) = at i
+
 -- It gives the index of the first record that lies in a range, or that there is none, or a refusal.
-abbrev pub special_says : Special → Reply Place
-special_says (At i) = gives (at i)
-special_says Nothing = gives nowhere
-special_says (Refused number index) = refuses number index
+abbrev pub special_says : Result (Option ℕ) Refusal → Reply Place
+special_says = reply_of place_of
 
 -- The right reply for a map's table, read by the form, by a list of ranges.
 abbrev pub ranges_reply : Form → List ℕ → List Route → Reply Place

@@ -1,8 +1,7 @@
 -- Laws of the lines of steps. Assumes nothing.
-use mathlib.Core.Path.{◌≡◌, refl, sym, ap, ◌∙◌}
-use native.Mathlib.Omega.{arith}
+use mathlib.Core.Path.{◌≡◌, sym, ap, ◌∙◌}
 use mathlib.Core.List.{List, [], ◌∷◌, ◌++◌, append_assoc, append-nil}
-use Prim.Native.Nat.{ℕ, zero, suc, ◌+◌, ◌≤◌, ◌<◌}
+use Prim.Native.Nat.{ℕ, ◌+◌, ◌≤◌, ◌<◌}
 use native.Mathlib.Numerals.{add-one}
 use lib.ListN.{length, take, get_or}
 use lib.Seq.{take-suc}
@@ -11,7 +10,7 @@ use Rattle.text.specs.Text.{Put}
 use Rattle.text.proofs.Puts.{put_none}
 use mathlib.Core.Bool.{Bool}
 use borrow.Author.Tests.{lt-ltb, le-ltb}
-use Rattle.planner.specs.declared.Planned.TheVariants.{Steps}
+use Rattle.std.specs.Prelude.{Some, Ok}
 use Rattle.steplines.specs.Lines.{step_line, step_lines, steps_end, planned_text}
 
 -- A line behind lines.
@@ -31,18 +30,11 @@ pub steps_more : (room : List Step) (i : ℕ) (d : Step) → i < length room →
 steps_more room i d lt =
     sym (ap (λ (k : ℕ). step_lines (take k room)) (add-one i) ∙ ap step_lines (take-suc room i d lt) ∙ lines-behind (take i room) (get_or room i d))
 
--- The first of two lists joined.
-pub take_front : {A : Type 0} (ys zs : List A) (k : ℕ) → length ys ≡ k → take k (ys ++ zs) ≡ ys
-take_front [] zs zero e = refl
-take_front [] zs (suc k) e = absurd (omega arith)
-take_front (y ∷ ys) zs zero e = absurd (omega arith)
-take_front {A} (y ∷ ys) zs (suc k) e = ap (λ (l : List A). y ∷ l) (take_front ys zs k (omega arith))
-
 -- A plan's text.
-pub planned_long : (total : Bool) (k : ℕ) (room : List Step) → 2048 < k → planned_text total (Steps k) room ≡ []
+pub planned_long : (total : Bool) (k : ℕ) (room : List Step) → 2048 < k → planned_text total (Ok (Some k)) room ≡ []
 unfolding planned_text
 planned_long total k room lt = rw (lt-ltb 2048 k lt)
 
-pub planned_short : (total : Bool) (k : ℕ) (room : List Step) → k ≤ 2048 → planned_text total (Steps k) room ≡ step_lines (take k room) ++ steps_end total k
+pub planned_short : (total : Bool) (k : ℕ) (room : List Step) → k ≤ 2048 → planned_text total (Ok (Some k)) room ≡ step_lines (take k room) ++ steps_end total k
 unfolding planned_text
 planned_short total k room le = rw (le-ltb 2048 k le)

@@ -1,21 +1,18 @@
 -- The text of steps and of the checker's answer, in ASCII: each line ends in a line feed.
-use Rattle.std.specs.Prelude.{ℕ, Bool, cond, ltb, length, take, List, [], ◌∷◌, ◌++◌}
+use Rattle.std.specs.Prelude.{ℕ, Bool, cond, ltb, length, take, List, [], ◌∷◌, ◌++◌, true, false, Option, None, Some, Result, Ok, Err}
+use Rattle.refusals.specs.declared.Refusal.{Refusal}
 use Rattle.records.specs.Sized.{route}
 use Rattle.plans.specs.declared.answers.Step.{Step}
-use Rattle.plans.specs.declared.answers.Judged.{Judged}
-use Rattle.plans.specs.declared.answers.Judged.TheVariants.{Yes, No, Refused}
-use Rattle.checking.specs.Passes.{puts}
+use Rattle.checking.specs.Checking.{puts}
 use Rattle.records.specs.declared.Form.{Form}
-use Rattle.planner.specs.declared.Planned.{Planned}
-use Rattle.planner.specs.declared.Planned.TheVariants.{Steps, GaveUp, Refused as NotPlanned}
 use Rattle.planner.specs.Planning.{Plans}
-use Rattle.text.specs.Text.{Put, decimal, line_of, refused_line}
+use Rattle.text.specs.Text.{Put, decimal, line_of, refusal_line}
 
 -- `yes`, `no` or the refusal.
-unfoldable pub judged_text : Judged → List ℕ
-judged_text Yes = 121 ∷ 101 ∷ 115 ∷ 10 ∷ []
-judged_text No = 110 ∷ 111 ∷ 10 ∷ []
-judged_text (Refused number index) = refused_line number index
+unfoldable pub judged_text : Result Bool Refusal → List ℕ
+judged_text (Ok true) = 121 ∷ 101 ∷ 115 ∷ 10 ∷ []
+judged_text (Ok false) = 110 ∷ 111 ∷ 10 ∷ []
+judged_text (Err refusal) = refusal_line refusal
 
 -- `put` or `take`, and a space.
 unfoldable pub word_of : Bool → List ℕ
@@ -36,14 +33,14 @@ steps_end total n = cond total (115 ∷ 116 ∷ 101 ∷ 112 ∷ 115 ∷ 32 ∷ d
 
 -- Of the planner's answer, with the steps of the room that it left: the lines of a plan; `gave up`; or the refusal. Of a plan of more than 2,048 steps, which
 -- no tables have, nothing.
-unfoldable pub planned_text : Bool → Planned → List Step → List ℕ
-planned_text total (Steps count) room = cond (ltb 2048 count) [] (step_lines (take count room) ++ steps_end total count)
-planned_text total GaveUp room = 103 ∷ 97 ∷ 118 ∷ 101 ∷ 32 ∷ 117 ∷ 112 ∷ 10 ∷ []
-planned_text total (NotPlanned number index) room = refused_line number index
+unfoldable pub planned_text : Bool → Result (Option ℕ) Refusal → List Step → List ℕ
+planned_text total (Ok (Some count)) room = cond (ltb 2048 count) [] (step_lines (take count room) ++ steps_end total count)
+planned_text total (Ok None) room = 103 ∷ 97 ∷ 118 ∷ 101 ∷ 32 ∷ 117 ∷ 112 ∷ 10 ∷ []
+planned_text total (Err refusal) room = refusal_line refusal
 
 -- The text of a right answer, which is the only one (planner, `plan_settled`), for a room of steps.
 pub record PlanPut (form : Form) (t u : List ℕ) (room : List Step) (total : Bool) (at r : ℕ) (o o' : List ℕ) : Type 0 where
-  pub answer : Planned
+  pub answer : Result (Option ℕ) Refusal
   pub left : List Step
   pub plans : Plans form t u room answer (take (length room) left)
   pub text : Put (planned_text total answer left) at r o o'

@@ -1,25 +1,27 @@
 // The text of steps and of the checker's answer.
 #![tactic(auto)]
 
-ghost use Rattle.std.specs.Prelude.{◌++◌, ◌+◌, ◌*◌, ◌≤◌, length, take};
-ghost use Rattle.checking.specs.Passes.{puts};
+ghost use Rattle.std.specs.Prelude.{◌≡◌, ℕ, ◌+◌, ◌*◌, ◌≤◌, length};
+ghost use Rattle.checking.specs.Checking.{puts};
 ghost use Rattle.text.specs.Text.{Put};
 ghost use Rattle.steplines.specs.Lines.{judged_text, word_of, step_line, step_lines, steps_end, planned_text, PlanPut};
 
-use planner::{Planned, plan};
-use plans::answers::{Judged, Step};
+use planner::plan;
+use plans::answers::Step;
 use records::Form;
+use refusals::Refusal;
 use text::{put_bytes, put_dotted, put_ending, put_last, put_refused};
 
 // `yes`, `no` or the refusal.
-pub fn put_judged(answer: Judged, at: usize, out: &mut [u8]) -> usize
+#[tactic(auto, unfolding(crate::specs::Lines::judged_text))]
+pub fn put_judged(answer: Result<bool, Refusal>, at: usize, out: &mut [u8]) -> usize
     requires { at + 36 ≤ length out.old }
     ensures { Put (judged_text answer) at result out.old out.new }
 {
     match answer {
-        Judged::Yes => put_bytes(b"yes\n", at, out),
-        Judged::No => put_bytes(b"no\n", at, out),
-        Judged::Refused { number, index } => put_refused(number, index, at, out),
+        Ok(true) => put_bytes(b"yes\n", at, out),
+        Ok(false) => put_bytes(b"no\n", at, out),
+        Err(refusal) => put_refused(refusal, at, out),
     }
 }
 
@@ -48,18 +50,15 @@ fn put_step(step: Step, at: usize, out: &mut [u8]) -> usize
     put_ending(step.len, step.hop, put, prefix, out)
 }
 
-// The lines of the first n steps of a room.
-pub fn put_steps(room: [Step; 65535], n: usize, at: usize, out: &mut [u8]) -> usize
-    requires n_bound { n ≤ 65535 }
-    requires n_in_bounds { at + 29 * n ≤ length out.old }
-    ensures put { Put (step_lines (take n room)) at result out.old out.new }
-    ensures upper_bound { result ≤ at + 29 * n }
+// The lines of steps.
+pub fn put_steps(steps: &[Step], at: usize, out: &mut [u8]) -> usize
+    requires { at + 29 * length steps.now ≤ length out.old }
+    ensures put { Put (step_lines steps.now) at result out.old out.new }
+    ensures upper_bound { result ≤ at + 29 * length steps.now }
 {
     let mut end = at;
-    let mut i: usize = 0;
-    while i < n {
-        end = put_step(room[i], end, out);
-        i += 1;
+    for s in steps {
+        end = put_step(*s, end, out);
     }
     end
 }
@@ -76,54 +75,43 @@ fn put_total(n: usize, total: bool, at: usize, out: &mut [u8]) -> usize
     at
 }
 
-// The lines of a plan's steps, the first of a room.
-fn put_plan(count: usize, room: [Step; 65535], total: bool, at: usize, out: &mut [u8]) -> usize
-    requires count_bound { count ≤ 2048 }
-    requires at_in_bounds { at + 59428 ≤ length out.old }
-    ensures { Put (step_lines (take count room) ++ steps_end total count) at result out.old out.new }
-{
-    let end = put_steps(room, count, at, out);
-    put_total(count, total, end, out)
-}
-
 // The text of the planner's answer, from the room that it left; nothing of a plan of more than 2,048 steps, which no tables have.
 pub fn put_planned(
-    answer: Planned,
-    room: [Step; 65535],
+    answer: Result<Option<usize>, Refusal>,
+    room: &[Step],
     total: bool,
     at: usize,
     out: &mut [u8],
 ) -> usize
     requires { at + 59428 ≤ length out.old }
-    ensures { Put (planned_text total answer room) at result out.old out.new }
+    ensures { Put (planned_text total answer room.now) at result out.old out.new }
 {
     match answer {
-        Planned::Steps { count } => {
+        Ok(Some(count)) => {
             if 2048 < count {
                 return at;
             }
-            put_plan(count, room, total, at, out)
+            let end = put_steps(&room[..count.min(room.len())], at, out);
+            put_total(count, total, end, out)
         }
-        Planned::GaveUp => put_bytes(b"gave up\n", at, out),
-        Planned::Refused { number, index } => put_refused(number, index, at, out),
+        Ok(None) => put_bytes(b"gave up\n", at, out),
+        Err(refusal) => put_refused(refusal, at, out),
     }
 }
 
-// The text of the planner's answer, where it is lent the first n steps of a room.
+// The text of the planner's answer, where it is lent this room.
 pub fn plan_text(
     installed: &[u8],
     new: &[u8],
     form: Form,
-    room: [Step; 65535],
-    n: usize,
+    room: &mut [Step],
     total: bool,
     at: usize,
     out: &mut [u8],
 ) -> usize
-    requires { (n ≤ 65535) × (at + 59428 ≤ length out.old) }
-    ensures { PlanPut form installed.now new.now (take n room) total at result out.old out.new }
+    requires { at + 59428 ≤ length out.old }
+    ensures { PlanPut form installed.now new.now room.old total at result out.old out.new }
 {
-    let mut steps = room;
-    let answer = plan(installed, new, form, &mut steps[..n]);
-    put_planned(answer, steps, total, at, out)
+    let answer = plan(installed, new, form, room);
+    put_planned(answer, room, total, at, out)
 }

@@ -1,8 +1,8 @@
 -- What is said of a text that is to be lines of steps, in ASCII: one line, which ends in a line feed.
-use Rattle.std.specs.Prelude.{ℕ, ◌≡◌, List, [], ◌∷◌, ◌++◌}
+use Rattle.std.specs.Prelude.{ℕ, ◌≡◌, List, [], ◌∷◌, ◌++◌, Bool, Result}
+use Rattle.refusals.specs.declared.Refusal.{Refusal}
 use Rattle.records.specs.declared.Form.{Form}
 use Rattle.plans.specs.declared.answers.Step.{Step}
-use Rattle.plans.specs.declared.answers.Judged.{Judged}
 use Rattle.plans.specs.Judging.{Judges}
 use Rattle.steplines.specs.Lines.{judged_text, step_lines}
 use Rattle.text.specs.Text.{Put, decimal}
@@ -17,6 +17,6 @@ many_line = 109 ∷ 111 ∷ 114 ∷ 101 ∷ 32 ∷ 116 ∷ 104 ∷ 97 ∷ 110 �
 
 -- The right answer to the steps whose lines the text is; or one of these lines, which judge no step.
 pub data Replied (form : Form) (t u text : List ℕ) (r : ℕ) (o o' : List ℕ) : Type 0 where
-  answered : (ss : List Step) (answer : Judged) → text ≡ step_lines ss → Judges form t u ss answer → Put (judged_text answer) 0 r o o' → Replied form t u text r o o'
+  answered : (ss : List Step) (answer : Result Bool Refusal) → text ≡ step_lines ss → Judges form t u ss answer → Put (judged_text answer) 0 r o o' → Replied form t u text r o o'
   no_step : (line : ℕ) → Put (no_step_line line) 0 r o o' → Replied form t u text r o o'
   many : Put many_line 0 r o o' → Replied form t u text r o o'

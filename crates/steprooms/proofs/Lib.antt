@@ -1,2 +1,2 @@
--- Laws behind the calls over a room of steps.
+-- Laws behind the reading of steps from bytes.
 pub mod Filled

@@ -1,22 +1,15 @@
-// The calls of plans with their steps in a room of 65,535 that is handed over by value, or as bytes: who calls these holds no reference to a step.
+// The checker of a plan over steps as bytes, and the room for steps that programs lend.
 #![tactic(auto)]
 
-ghost use Rattle.std.specs.Prelude.{◌≡◌, ◌≤◌, ◌<◌, length, take};
+ghost use Rattle.std.specs.Prelude.{◌≡◌, ◌≤◌, ◌<◌, length};
 ghost use Rattle.records.specs.Wire.{records};
 ghost use Rattle.plans.specs.Judging.{Judges};
 ghost use Rattle.steprooms.specs.Steps.{step_from, steps_of};
 
-use plans::answers::{Judged, Step};
+use plans::answers::Step;
 use plans::check_plan;
 use records::{Form, raw_addr_at};
-
-// The checker, of the first n steps of a room.
-pub fn check_room(installed: &[u8], new: &[u8], form: Form, room: [Step; 65535], n: usize) -> Judged
-    requires { n ≤ 65535 }
-    ensures { Judges form installed.now new.now (take n room) result }
-{
-    check_plan(installed, new, form, &room[..n])
-}
+use refusals::Refusal;
 
 // Step i of bytes.
 fn step_at(bytes: &[u8], i: usize) -> Step
@@ -46,26 +39,23 @@ pub fn empty_room() -> [Step; 65535]
     }; 65535]
 }
 
-// A room with the steps of bytes first.
-fn steps_of(bytes: &[u8]) -> [Step; 65535]
-    requires { records bytes.now ≤ 65535 }
-    ensures { take (records bytes.now) result ≡ steps_of bytes.now }
+// Reads the steps of bytes into as many.
+fn read_steps(bytes: &[u8], steps: &mut [Step])
+    requires { length steps.old ≡ records bytes.now }
+    ensures { steps.new ≡ steps_of bytes.now }
 {
-    let mut room = empty_room();
-    let n = bytes.len() / 8;
-    let mut i = 0;
-    while i < n {
-        room[i] = step_at(bytes, i);
-        i += 1;
+    for (i, s) in steps.iter_mut().enumerate() {
+        *s = step_at(bytes, i);
     }
-    room
 }
 
 // The checker, of the steps of bytes.
-pub fn check_steps(installed: &[u8], new: &[u8], form: Form, bytes: &[u8]) -> Judged
+pub fn check_steps(installed: &[u8], new: &[u8], form: Form, bytes: &[u8]) -> Result<bool, Refusal>
     requires { records bytes.now ≤ 65535 }
     ensures { Judges form installed.now new.now (steps_of bytes.now) result }
 {
-    let n = bytes.len() / 8;
-    check_room(installed, new, form, steps_of(bytes), n)
+    let mut room = empty_room();
+    let steps = &mut room[..bytes.len() / 8];
+    read_steps(bytes, steps);
+    check_plan(installed, new, form, steps)
 }

@@ -25,10 +25,7 @@ fn say(rt: &impl Eprint, path: &str, error: io::Error) -> io::Result<()> {
     let mut said = Cursor::new([0u8; 128]);
     let _ = write!(said, "{error}");
     let said = said.into_inner();
-    let words = match str::from_utf8(&said[..words_length(&said)]) {
-        Ok(words) => words,
-        Err(_) => "",
-    };
+    let words = str::from_utf8(&said[..words_length(&said)]).unwrap_or("");
     eprintln!(rt; "{path}: {words}")
 }
 
@@ -59,10 +56,7 @@ pub fn read_named<R: Env + Files + Eprint>(
         return Ok(None);
     };
     match fs::open(rt, path) {
-        Ok(file) => {
-            let mut file = file;
-            Ok(Some(read_full(&mut file, buf)?))
-        }
+        Ok(mut file) => Ok(Some(read_full(&mut file, buf)?)),
         Err(error) => {
             say(rt, path, error)?;
             Ok(None)

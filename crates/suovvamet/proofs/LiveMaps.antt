@@ -1,24 +1,25 @@
 -- The functions for C on a live map: their statements settle the result, all that is set and every word of the room; the result is 0 exactly when no
 -- condition for a refusal holds, and else the number of the first that does. The words of a room are below 2 ^ 32, as those of every `&[u32]` are.
-use Prim.Native.Nat.{ℕ, ◌≤◌, ◌<◌}
+use Prim.Native.Nat.{ℕ, ◌≤◌}
 use mathlib.Core.Path.{◌≡◌, refl, sym, ap, ◌∙◌}
-use mathlib.Core.Bool.{Bool, true}
+use mathlib.Core.Bool.{true}
 use mathlib.Core.List.{List, [], ◌∷◌}
 use mathlib.Core.Logic.{◌↔◌}
 use native.Mathlib.Omega.{arith}
 use lib.Dec.{leb}
 use lib.ListN.{length}
+use Rattle.std.specs.Prelude.{Option, Result}
+use Rattle.refusals.specs.declared.Refusal.{Refusal}
 use Rattle.refusals.specs.Rules.{Rule, rule, Reply, gives, refuses, judge}
 use Rattle.refusals.specs.Order.{First, None, rank}
 use Rattle.refusals.proofs.Judged.{Broken, InOrder, gives-exactly, refuses-exactly}
 use Rattle.refusals.proofs.Ranked.{ahead_in_order}
 use Rattle.records.specs.declared.Form.{Form}
 use Rattle.lookup.specs.Calls.{lookup_says}
-use Rattle.lookup.specs.declared.answers.Lookup.{Lookup}
+use Rattle.lookup.specs.declared.answers.Match.{Match}
 use Rattle.liveroom.specs.Rooms.{shown, fit, Words}
-use Rattle.live.specs.declared.answers.Kept.{Kept}
-use Rattle.live.specs.Tables.{masked, prefix_rules, put_rules}
-use Rattle.live.specs.Calls.{kept_says, live_rules, look_reply}
+use Rattle.live.specs.Tables.{prefix_rules, put_rules}
+use Rattle.live.specs.Calls.{Done, Taken, done_says, kept_says, live_rules}
 use Rattle.live.specs.Conditions.{MakeCondition, short_room, LookCondition, no_map, TakeCondition, of_room, too_long, host_bits, PutCondition, of_prefix, bad_hop, too_many, too_wide}
 use Rattle.live.proofs.Calls.{make_settled, put_settled, take_settled, look_settled, make_tests, look_tests, take_tests, put_tests}
 use Rattle.suovvamet.specs.Numbers.{form_by, number_of, found_of, hop_of, length_of}
@@ -32,19 +33,19 @@ same_part part e p q = p ∙ ap part e ∙ sym q
 pub make_in_c_settled : {room u v : List ℕ} {number number₁ : ℕ} → MakeInC room number u → MakeInC room number₁ v → (number ≡ number₁) × (u ≡ v)
 make_in_c_settled a b =
     let s = make_settled a.makes b.makes in
-    (same_part (λ (r : Kept). number_of (kept_says r)) s.0 a.number_is b.number_is, s.1)
+    (same_part (λ (r : Done). number_of (done_says r)) s.0 a.number_is b.number_is, s.1)
 
 pub put_in_c_settled : {room u v : List ℕ} {flags x l h number number₁ : ℕ}
     → PutInC room flags x l h number u → PutInC room flags x l h number₁ v → (number ≡ number₁) × (u ≡ v)
 put_in_c_settled a b =
     let s = put_settled a.puts b.puts in
-    (same_part (λ (r : Kept). number_of (kept_says r)) s.0 a.number_is b.number_is, s.1)
+    (same_part (λ (r : Done). number_of (done_says r)) s.0 a.number_is b.number_is, s.1)
 
 pub take_in_c_settled : {room u v : List ℕ} {flags x l number number₁ present present₁ : ℕ}
     → TakeInC room flags x l number present u → TakeInC room flags x l number₁ present₁ v → (number ≡ number₁) × (present ≡ present₁) × (u ≡ v)
 take_in_c_settled a b =
     let s = take_settled a.takes b.takes in (
-      same_part (λ (r : Kept). number_of (kept_says r)) s.0 a.number_is b.number_is,
+      same_part (λ (r : Taken). number_of (kept_says r)) s.0 a.number_is b.number_is,
       same_part present_of s.0 a.present_is b.present_is,
       s.1,
     )
@@ -54,7 +55,7 @@ pub live-lookup_in_c_settled : {room : List ℕ} {x number number₁ found found
     → (number ≡ number₁) × (found ≡ found₁) × (hop ≡ hop₁) × (len ≡ len₁)
 live-lookup_in_c_settled {room} {x} a b =
     let e = look_settled room x a.answer b.answer a.looked b.looked in (
-      same_part (λ (r : Lookup). number_of (lookup_says r)) e a.number_is b.number_is,
+      same_part (λ (r : Result (Option Match) Refusal). number_of (lookup_says r)) e a.number_is b.number_is,
       same_part found_of e a.found_is b.found_is,
       same_part hop_of e a.hop_is b.hop_is,
       same_part length_of e a.length_is b.length_is,

@@ -8,7 +8,10 @@ use Prim.Native.Nat.{ℕ, ◌≤◌, ◌<◌}
 use native.Mathlib.Omega.{arith}
 use lib.IntN.{ℤ}
 use lib.ListN.{length}
+use Rattle.std.specs.Prelude.{Option, Result, Ok, Err}
 use Rattle.lookup.specs.Calls.{lookup_says, held_says}
+use Rattle.refusals.specs.declared.Refusal.{Refusal}
+use Rattle.refusals.proofs.Replies.{number_some}
 use Rattle.refusals.specs.Rules.{Reply, gives, refuses, judge}
 use Rattle.table.specs.SizedRules.{table_rules_in}
 use Rattle.table.specs.SizedConditions.{TableConditionIn}
@@ -25,45 +28,32 @@ use Rattle.records.specs.Forms.{size_of}
 use Rattle.records.proofs.Reading.{eight}
 use Rattle.records.proofs.SizedReading.{form_size}
 use Rattle.workroom.specs.Needed.{words_says, words_in}
-use Rattle.workroom.specs.declared.WorkWords.{WorkWords}
-use Rattle.workroom.specs.declared.WorkWords.TheVariants.{Words, Refused as NotNeeded}
-use Rattle.workroom.proofs.Exactly.{words-exactly, words_refused_exactly}
+use Rattle.workroom.proofs.Exactly.{words-exactly}
 use Rattle.calls.specs.Covering.{covered_by, covers_says}
-use Rattle.calls.specs.Rewriting.{Written, rewritten_says}
-use Rattle.calls.specs.declared.Rewritten.{Rewritten}
-use Rattle.calls.specs.declared.Rewritten.TheVariants.{Records, Refused}
-use Rattle.calls.specs.declared.Covers.TheVariants.{Refused as NotAnswered}
+use Rattle.calls.specs.Rewriting.{Written, rewritten_says, Outcome, records_out}
 use Rattle.calls.proofs.Refusals.{rewrite_refused, rewrite_accepted, covers_refused, covers_answered}
-use Rattle.calls.proofs.Settled.{rewritten_same, covers_same}
+use Rattle.calls.proofs.Settled.{rewritten_same}
 use Rattle.plain.specs.Conditions.{PlainCondition, no_mode as no-plain-mode, retired as plain-retired, large_default as plain-large-default, bad_ranks as plain-bad-ranks, of_table as of-plain-table, short_output as short-plain-output}
 use Rattle.plain.proofs.Calls.{plain_accepted, plain_refused}
 use Rattle.holes.specs.Conditions.{UnroutedCondition, of_table as of_map, short_output as short-list}
 use Rattle.holes.specs.Listing.{holes_of, listed_says}
-use Rattle.holes.specs.declared.Listed.TheVariants.{Records as Listing, Refused as NotListed}
 use Rattle.holes.proofs.Calls.{listed_same, none_exactly, unrouted-listed, unrouted_refused}
 use Rattle.special.specs.Calls.{special_says, special_rules, SpecialCondition, no_edition, of_table as of-searched}
 use Rattle.special.specs.Editions.{ranges_of}
 use Rattle.special.specs.Ranges.{Place, first_special}
-use Rattle.special.specs.declared.Special.TheVariants.{Refused as NotSearched}
-use Rattle.special.proofs.Calls.{special_same, special_tests, special_refused}
+use Rattle.special.proofs.Calls.{special_tests, special_refused}
 use Rattle.chip.specs.Conditions.{LoadCondition, of_table as of-loaded, wrong_size}
 use Rattle.chip.specs.Loading.{load_rules, loaded_says}
-use Rattle.chip.specs.declared.Loaded.TheVariants.{Refused as NotLoaded}
-use Rattle.chip.proofs.Calls.{loaded_same, load_tests, load_refused}
-use Rattle.suovvamet.specs.Numbers.{form_by, number_of, index_of, is_set_by, words_of}
+use Rattle.chip.proofs.Calls.{load_tests, load_refused}
 use Rattle.plans.specs.Judging.{tables_rules, check_rules, judged_says}
 use Rattle.plans.specs.Conditions.{TablesCondition, PlanCondition}
 use Rattle.plans.specs.declared.answers.Step.{Step}
-use Rattle.plans.specs.declared.answers.Judged.TheVariants.{Refused as NotJudged}
-use Rattle.plans.proofs.Calls.{judged_same}
 use Rattle.plans.proofs.Tested.{check_tests, tables_tests}
 use Rattle.plans.proofs.Refusals.{tables_numbers, check_refused, check_numbers}
 use Rattle.planner.specs.Planning.{planned_says, chosen}
-use Rattle.planner.specs.declared.Planned.{Planned}
-use Rattle.planner.specs.declared.Planned.TheVariants.{Refused as NotPlanned}
-use Rattle.planner.proofs.Answers.{planned_same}
 use Rattle.planner.proofs.Calls.{plan_refused}
-use Rattle.suovvamet.specs.Calls.{CheckPlanInC, PlanInC, RewriteInC, PlainInC, CoversInC, LookupInC, HeldInC, WordsInC, UnroutedInC, SpecialInC, ChipInC}
+use Rattle.suovvamet.specs.Numbers.{form_by, number_of, index_of, is_set_by, words_of}
+use Rattle.suovvamet.specs.Calls.{RewriteInC, PlainInC, CoversInC, LookupInC, HeldInC, WordsInC, UnroutedInC, SpecialInC, ChipInC, CheckPlanInC, PlanInC}
 
 -- ---- No condition has the number 0.
 table-number : (size : ℕ) → IsSize size → {strict s : Bool} {t : List ℕ} {n i : ℕ} → TableConditionIn size strict s t n i → 1 ≤ n
@@ -145,9 +135,9 @@ module _ {A : Type 0} (q : Reply A) {N : Type 0} (given : ((a : A) × (q ≡ giv
   )
 
 -- ---- A rewrite, by either engine: it says records exactly when it is an answer with records.
-gave : (r : Rewritten) → ((w : Written) × (rewritten_says r ≡ gives w)) ↔ ((count : ℕ) × ((change : ℤ) × (r ≡ Records count change)))
+gave : (r : Outcome) → ((w : Written) × (rewritten_says r ≡ gives w)) ↔ ((count : ℕ) × ((change : ℤ) × (r ≡ records_out count change)))
 gave r = (
-  λ (w, e). (w.count, (w.change, rewritten_same r (Records _ _) e)),
+  λ (w, e). (w.count, (w.change, rewritten_same r (records_out w.count w.change) e)),
   λ (count, (change, e)). (_, ap rewritten_says e),
 )
 
@@ -163,9 +153,7 @@ module _ (t : List ℕ) (flags mode default : ℕ) (ranks o work : List ℕ) {nu
       (λ f. exactly.0 ((gave ok.answer).0 f), λ none. (gave ok.answer).1 (exactly.1 none))
 
   refused : (n i : ℕ) → rewritten_says ok.answer ≡ refuses n i ↔ First Refusing n i
-  refused n i =
-      let exactly = rewrite_refused (form_by flags) t mode default ranks o (length work) ok.answer o' w' ok.rewrites n i in
-      (λ e. exactly.0 (rewritten_same ok.answer (Refused n i) e), λ f. ap rewritten_says (exactly.1 f))
+  refused = rewrite_refused (form_by flags) t mode default ranks o (length work) ok.answer o' w' ok.rewrites
 
   -- The result is 0 exactly when no condition of document 01 holds.
   pub rewrite_in_c_answered : number ≡ 0 ↔ None (RewriteCondition (form_by flags) t mode default ranks (length o) (length work))
@@ -184,9 +172,7 @@ module _ (t : List ℕ) (flags mode default : ℕ) (ranks o : List ℕ) {number 
       (λ f. exactly.0 ((gave ok.answer).0 f), λ none. (gave ok.answer).1 (exactly.1 none))
 
   refused_plain : (n i : ℕ) → rewritten_says ok.answer ≡ refuses n i ↔ First (PlainCondition (form_by flags) t mode default ranks (length o)) n i
-  refused_plain n i =
-      let exactly = plain_refused (form_by flags) t mode default ranks o ok.answer o' ok.rewrites n i in
-      (λ e. exactly.0 (rewritten_same ok.answer (Refused n i) e), λ f. ap rewritten_says (exactly.1 f))
+  refused_plain = plain_refused (form_by flags) t mode default ranks o ok.answer o' ok.rewrites
 
   -- The result is 0 exactly when no condition for a refusal holds.
   pub plain_in_c_answered : number ≡ 0 ↔ None (PlainCondition (form_by flags) t mode default ranks (length o))
@@ -205,9 +191,7 @@ module _ (t : List ℕ) (flags address len : ℕ) (work : List ℕ) {number cove
       (λ (b, e). ((exactly b).0 e).0, λ none. (covered_by (size_of (form_by flags)) t address len, (exactly _).1 (none, refl)))
 
   refused_cover : (n i : ℕ) → covers_says ok.answer ≡ refuses n i ↔ First (CoverCondition (form_by flags) t len (length work)) n i
-  refused_cover n i =
-      let exactly = covers_refused (form_by flags) t address len (length work) ok.answer w' ok.queried n i in
-      (λ e. exactly.0 (covers_same ok.answer (NotAnswered n i) e), λ f. ap covers_says (exactly.1 f))
+  refused_cover = covers_refused (form_by flags) t address len (length work) ok.answer w' ok.queried
 
   -- The result is 0 exactly when no condition of document 01 holds.
   pub covers_in_c_answered : number ≡ 0 ↔ None (CoverCondition (form_by flags) t len (length work))
@@ -276,11 +260,11 @@ module _ (t : List ℕ) (flags is_set : ℕ) {number needed index : ℕ} (ok : W
       table_refused (size_of (form_by flags)) (form_size (form_by flags)) (form_by flags).strict (is_set_by is_set) t _ (words_says ok.answer) ok.replies ok.number_is ok.index_is
 
   module _ (zero : number ≡ 0) where
-    needed_is : (r : WorkWords) → ok.answer ≡ r → needed ≡ words_in (size_of (form_by flags)) t
-    needed_is (Words n) e = ok.words_is ∙ ap words_of e ∙ sym ((words-exactly (form_by flags) (is_set_by is_set) t ok.answer ok.replies n).0 e).1
-    needed_is (NotNeeded m i) e =
-        let k = table-number (size_of (form_by flags)) (form_size (form_by flags)) ((words_refused_exactly (form_by flags) (is_set_by is_set) t ok.answer ok.replies m i).0 e).0 in
-        let same = ok.number_is ∙ ap (λ (r : WorkWords). number_of (words_says r)) e in
+    needed_is : (r : Result ℕ Refusal) → ok.answer ≡ r → needed ≡ words_in (size_of (form_by flags)) t
+    needed_is (Ok n) e = ok.words_is ∙ ap words_of e ∙ sym ((words-exactly (form_by flags) (is_set_by is_set) t ok.answer ok.replies n).0 e).1
+    needed_is (Err refusal) e =
+        let same = ok.number_is ∙ ap (λ (r : Result ℕ Refusal). number_of (words_says r)) e in
+        let k = number_some refusal.cause in
         absurd (omega arith)
 
     -- An answer is the number of words below which a rewrite has its condition 10.
@@ -301,14 +285,12 @@ module _ (t : List ℕ) (flags : ℕ) (o : List ℕ) {number count index : ℕ} 
   given_list =
       let exactly = unrouted-listed (form_by flags) t o ok.answer o' ok.lists in
       let none = none_exactly (form_by flags) t (length o) in (
-        λ (n, e). let f = (exactly n).0 (listed_same ok.answer (Listing n) e) in none.1 (f.0, f.1),
+        λ (n, e). let f = (exactly n).0 (listed_same ok.answer (Ok n) e) in none.1 (f.0, f.1),
         λ no. let f = none.0 no in (length (holes_of (size_of (form_by flags)) t), ap listed_says ((exactly (length (holes_of (size_of (form_by flags)) t))).1 (f.0, f.1, refl))),
       )
 
   refused_list : (n i : ℕ) → listed_says ok.answer ≡ refuses n i ↔ First (UnroutedCondition (form_by flags) t (length o)) n i
-  refused_list n i =
-      let exactly = unrouted_refused (form_by flags) t o ok.answer o' ok.lists n i in
-      (λ e. exactly.0 (listed_same ok.answer (NotListed n i) e), λ f. ap listed_says (exactly.1 f))
+  refused_list = unrouted_refused (form_by flags) t o ok.answer o' ok.lists
 
   -- The result is 0 exactly when no condition for a refusal holds.
   pub unrouted_in_c_answered : number ≡ 0 ↔ None (UnroutedCondition (form_by flags) t (length o))
@@ -330,9 +312,7 @@ module _ (t : List ℕ) (flags edition : ℕ) {number found place index : ℕ} (
   )
 
   refused_special : (n i : ℕ) → special_says ok.answer ≡ refuses n i ↔ First (SpecialCondition (form_by flags) t edition) n i
-  refused_special n i =
-      let exactly = special_refused (form_by flags) t edition ok.answer ok.replies n i in
-      (λ e. exactly.0 (special_same ok.answer (NotSearched n i) e), λ f. ap special_says (exactly.1 f))
+  refused_special = special_refused (form_by flags) t edition ok.answer ok.replies
 
   -- The result is 0 exactly when no condition for a refusal holds.
   pub special_in_c_answered : number ≡ 0 ↔ None (SpecialCondition (form_by flags) t edition)
@@ -354,9 +334,7 @@ module _ (t : List ℕ) (flags : ℕ) (m : List ℕ) {number slots index : ℕ} 
   )
 
   refused_chip : (n i : ℕ) → loaded_says ok.answer ≡ refuses n i ↔ First (LoadCondition (form_by flags) t (length m)) n i
-  refused_chip n i =
-      let exactly = load_refused (form_by flags) t m ok.answer m' ok.loads n i in
-      (λ e. exactly.0 (loaded_same ok.answer (NotLoaded n i) e), λ f. ap loaded_says (exactly.1 f))
+  refused_chip = load_refused (form_by flags) t m ok.answer m' ok.loads
 
   -- The result is 0 exactly when no condition for a refusal holds.
   pub chip_in_c_answered : number ≡ 0 ↔ None (LoadCondition (form_by flags) t (length m))
@@ -386,9 +364,7 @@ module _ (t u : List ℕ) (flags : ℕ) (ss : List Step) {number yes index : ℕ
   )
 
   refused_check : (n i : ℕ) → judged_says ok.answer ≡ refuses n i ↔ First (PlanCondition (form_by flags) t u ss) n i
-  refused_check n i =
-      let exactly = check_refused (form_by flags) t u ss ok.answer ok.judges n i in
-      (λ e. exactly.0 (judged_same ok.answer (NotJudged n i) e), λ f. ap judged_says (exactly.1 f))
+  refused_check = check_refused (form_by flags) t u ss ok.answer ok.judges
 
   above_check : (n i : ℕ) → First (PlanCondition (form_by flags) t u ss) n i → 1 ≤ n
   above_check n i f = plan-number (check_numbers (form_by flags) t u ss ok.answer ok.judges n i ((check_refused (form_by flags) t u ss ok.answer ok.judges n i).1 f))
@@ -403,19 +379,17 @@ module _ (t u : List ℕ) (flags : ℕ) (ss : List Step) {number yes index : ℕ
 
 -- ---- The planner.
 module _ (t u : List ℕ) (flags : ℕ) (room : List Step) {number given count index : ℕ} {room' : List Step} (ok : PlanInC t u flags room number given count index room') where
-  abbrev right : Planned
+  abbrev right : Option ℕ
   right = chosen t u (length room)
 
-  given_plan : ((p : Planned) × (planned_says ok.answer ≡ gives p)) ↔ None (TablesCondition (form_by flags) t u)
+  given_plan : ((p : Option ℕ) × (planned_says ok.answer ≡ gives p)) ↔ None (TablesCondition (form_by flags) t u)
   given_plan = (
     λ (p, e). ((gives-exactly (tables_rules (form_by flags) t u) (tables_tests (form_by flags) t u) right {b = p}).0 (sym ok.plans.answer ∙ e)).0,
     λ none. (right, ok.plans.answer ∙ (gives-exactly (tables_rules (form_by flags) t u) (tables_tests (form_by flags) t u) right {b = right}).1 (none, refl)),
   )
 
   refused_plan : (n i : ℕ) → planned_says ok.answer ≡ refuses n i ↔ First (TablesCondition (form_by flags) t u) n i
-  refused_plan n i =
-      let exactly = plan_refused (form_by flags) t u room ok.answer room' ok.plans n i in
-      (λ e. exactly.0 (planned_same ok.answer (NotPlanned n i) e), λ f. ap planned_says (exactly.1 f))
+  refused_plan = plan_refused (form_by flags) t u room ok.answer room' ok.plans
 
   above-plan : (n i : ℕ) → First (TablesCondition (form_by flags) t u) n i → 1 ≤ n
   above-plan n i f = tables_number (tables_numbers (form_by flags) t u n i f.0)

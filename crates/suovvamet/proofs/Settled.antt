@@ -1,40 +1,34 @@
 -- The statements of the functions for C settle the result, all that is set and all that was lent: no second of these satisfies one. Assumes nothing.
 use mathlib.Core.Path.{◌≡◌, sym, ap, ◌∙◌}
+use mathlib.Core.Bool.{Bool}
 use mathlib.Core.List.{List}
 use Prim.Native.Nat.{ℕ}
 use lib.IntN.{ℤ}
 use lib.ListN.{length}
+use Rattle.std.specs.Prelude.{Option, Result}
+use Rattle.refusals.specs.declared.Refusal.{Refusal}
+use Rattle.lookup.specs.declared.answers.Match.{Match}
 use Rattle.lookup.specs.Calls.{lookup_says, held_says}
-use Rattle.lookup.specs.declared.answers.Lookup.{Lookup}
-use Rattle.lookup.specs.declared.answers.AddressesHeld.{AddressesHeld}
 use Rattle.lookup.proofs.Calls.{lookup_unique, held_unique}
 use Rattle.workroom.specs.Needed.{words_says}
-use Rattle.workroom.specs.declared.WorkWords.{WorkWords}
 use Rattle.workroom.proofs.Exactly.{words_unique}
-use Rattle.calls.specs.Rewriting.{rewritten_says, count_of, change_of}
+use Rattle.calls.specs.Rewriting.{rewritten_says, count_of, change_of, Outcome}
 use Rattle.calls.specs.Covering.{covers_says}
-use Rattle.calls.specs.declared.Rewritten.{Rewritten}
-use Rattle.calls.specs.declared.Covers.{Covers}
 use Rattle.calls.proofs.Settled.{rewrite_settled, covers_settled}
 use Rattle.plain.proofs.Calls.{plain_settled}
 use Rattle.holes.specs.Listing.{listed_says, listed_count}
-use Rattle.holes.specs.declared.Listed.{Listed}
 use Rattle.holes.proofs.Calls.{unrouted_settled}
 use Rattle.special.specs.Calls.{special_says}
-use Rattle.special.specs.declared.Special.{Special}
 use Rattle.special.proofs.Calls.{special_unique}
 use Rattle.chip.specs.Loading.{loaded_says}
-use Rattle.chip.specs.declared.Loaded.{Loaded}
 use Rattle.chip.proofs.Calls.{load_settled}
 use Rattle.plans.specs.Judging.{judged_says}
 use Rattle.plans.specs.declared.answers.Step.{Step}
-use Rattle.plans.specs.declared.answers.Judged.{Judged}
 use Rattle.plans.proofs.Calls.{check_settled}
 use Rattle.planner.specs.Planning.{planned_says}
-use Rattle.planner.specs.declared.Planned.{Planned}
 use Rattle.planner.proofs.Calls.{plan_settled}
-use Rattle.suovvamet.specs.Numbers.{yes_of, given_of, steps_given, form_by, number_of, index_of, covered_of, found_of, hop_of, length_of, addresses_of, is_set_by, words_of, named_of, record_of, slots_used}
-use Rattle.suovvamet.specs.Calls.{CheckPlanInC, PlanInC, RewriteInC, PlainInC, CoversInC, LookupInC, HeldInC, WordsInC, UnroutedInC, SpecialInC, ChipInC}
+use Rattle.suovvamet.specs.Numbers.{form_by, number_of, index_of, covered_of, found_of, hop_of, length_of, addresses_of, is_set_by, words_of, named_of, record_of, slots_used, yes_of, given_of, steps_given}
+use Rattle.suovvamet.specs.Calls.{RewriteInC, PlainInC, CoversInC, LookupInC, HeldInC, WordsInC, UnroutedInC, SpecialInC, ChipInC, CheckPlanInC, PlanInC}
 
 -- Parts of two answers that are the same are the same.
 same_part : {R N : Type 0} (part : R → N) {a b : R} {m n : N} → a ≡ b → m ≡ part a → n ≡ part b → m ≡ n
@@ -46,10 +40,10 @@ pub rewrite_in_c_settled : (t : List ℕ) (flags mode default : ℕ) (ranks o wo
     → (number ≡ number₁) × (count ≡ count₁) × (change ≡ change₁) × (index ≡ index₁) × (o' ≡ o₁) × (w' ≡ w₁)
 rewrite_in_c_settled t flags mode default ranks o work {o' = o'} {o₁ = o₁} {w' = w'} {w₁ = w₁} a b =
     let s = rewrite_settled (form_by flags) t mode default ranks o (length work) a.answer b.answer o' o₁ w' w₁ a.rewrites b.rewrites in (
-      same_part (λ (r : Rewritten). number_of (rewritten_says r)) s.0 a.number_is b.number_is,
+      same_part (λ (r : Outcome). number_of (rewritten_says r)) s.0 a.number_is b.number_is,
       same_part count_of s.0 a.count_is b.count_is,
       same_part change_of s.0 a.change_is b.change_is,
-      same_part (λ (r : Rewritten). index_of (rewritten_says r)) s.0 a.index_is b.index_is,
+      same_part (λ (r : Outcome). index_of (rewritten_says r)) s.0 a.index_is b.index_is,
       s.1,
       s.2,
     )
@@ -60,10 +54,10 @@ pub plain_in_c_settled : (t : List ℕ) (flags mode default : ℕ) (ranks o : Li
     → (number ≡ number₁) × (count ≡ count₁) × (change ≡ change₁) × (index ≡ index₁) × (o' ≡ o₁)
 plain_in_c_settled t flags mode default ranks o {o' = o'} {o₁ = o₁} a b =
     let s = plain_settled (form_by flags) t mode default ranks o a.answer b.answer o' o₁ a.rewrites b.rewrites in (
-      same_part (λ (r : Rewritten). number_of (rewritten_says r)) s.0 a.number_is b.number_is,
+      same_part (λ (r : Outcome). number_of (rewritten_says r)) s.0 a.number_is b.number_is,
       same_part count_of s.0 a.count_is b.count_is,
       same_part change_of s.0 a.change_is b.change_is,
-      same_part (λ (r : Rewritten). index_of (rewritten_says r)) s.0 a.index_is b.index_is,
+      same_part (λ (r : Outcome). index_of (rewritten_says r)) s.0 a.index_is b.index_is,
       s.1,
     )
 
@@ -73,9 +67,9 @@ pub covers_in_c_settled : (t : List ℕ) (flags address len : ℕ) (work : List 
     → (number ≡ number₁) × (covered ≡ covered₁) × (index ≡ index₁) × (w' ≡ w₁)
 covers_in_c_settled t flags address len work {w' = w'} {w₁ = w₁} a b =
     let s = covers_settled (form_by flags) t address len (length work) a.answer b.answer w' w₁ a.queried b.queried in (
-      same_part (λ (r : Covers). number_of (covers_says r)) s.0 a.number_is b.number_is,
+      same_part (λ (r : Result Bool Refusal). number_of (covers_says r)) s.0 a.number_is b.number_is,
       same_part covered_of s.0 a.covered_is b.covered_is,
-      same_part (λ (r : Covers). index_of (covers_says r)) s.0 a.index_is b.index_is,
+      same_part (λ (r : Result Bool Refusal). index_of (covers_says r)) s.0 a.index_is b.index_is,
       s.1,
     )
 
@@ -85,11 +79,11 @@ pub lookup_in_c_settled : (t : List ℕ) (flags address : ℕ) {number number₁
     → (number ≡ number₁) × (found ≡ found₁) × (hop ≡ hop₁) × (len ≡ len₁) × (index ≡ index₁)
 lookup_in_c_settled t flags address a b =
     let e = lookup_unique (form_by flags) t address a.answer b.answer a.looked b.looked in (
-      same_part (λ (r : Lookup). number_of (lookup_says r)) e a.number_is b.number_is,
+      same_part (λ (r : Result (Option Match) Refusal). number_of (lookup_says r)) e a.number_is b.number_is,
       same_part found_of e a.found_is b.found_is,
       same_part hop_of e a.hop_is b.hop_is,
       same_part length_of e a.length_is b.length_is,
-      same_part (λ (r : Lookup). index_of (lookup_says r)) e a.index_is b.index_is,
+      same_part (λ (r : Result (Option Match) Refusal). index_of (lookup_says r)) e a.index_is b.index_is,
     )
 
 -- Of addresses held: the number, how many addresses they are and the index.
@@ -98,9 +92,9 @@ pub held_in_c_settled : (t : List ℕ) (flags : ℕ) {number number₁ addresses
     → (number ≡ number₁) × (addresses ≡ addresses₁) × (index ≡ index₁)
 held_in_c_settled t flags a b =
     let e = held_unique (form_by flags) t a.answer b.answer a.held b.held in (
-      same_part (λ (r : AddressesHeld). number_of (held_says r)) e a.number_is b.number_is,
+      same_part (λ (r : Result ℕ Refusal). number_of (held_says r)) e a.number_is b.number_is,
       same_part addresses_of e a.addresses_is b.addresses_is,
-      same_part (λ (r : AddressesHeld). index_of (held_says r)) e a.index_is b.index_is,
+      same_part (λ (r : Result ℕ Refusal). index_of (held_says r)) e a.index_is b.index_is,
     )
 
 -- Of work words: the number, the words and the index.
@@ -109,9 +103,9 @@ pub words_in_c_settled : (t : List ℕ) (flags is_set : ℕ) {number number₁ n
     → (number ≡ number₁) × (needed ≡ needed₁) × (index ≡ index₁)
 words_in_c_settled t flags is_set a b =
     let e = words_unique (form_by flags) (is_set_by is_set) t a.answer b.answer a.replies b.replies in (
-      same_part (λ (r : WorkWords). number_of (words_says r)) e a.number_is b.number_is,
+      same_part (λ (r : Result ℕ Refusal). number_of (words_says r)) e a.number_is b.number_is,
       same_part words_of e a.words_is b.words_is,
-      same_part (λ (r : WorkWords). index_of (words_says r)) e a.index_is b.index_is,
+      same_part (λ (r : Result ℕ Refusal). index_of (words_says r)) e a.index_is b.index_is,
     )
 
 -- Of a list of what has no route: the number, the count, the index and the output.
@@ -120,9 +114,9 @@ pub unrouted_in_c_settled : (t : List ℕ) (flags : ℕ) (o : List ℕ) {number 
     → (number ≡ number₁) × (count ≡ count₁) × (index ≡ index₁) × (o' ≡ o₁)
 unrouted_in_c_settled t flags o {o' = o'} {o₁ = o₁} a b =
     let s = unrouted_settled (form_by flags) t o a.answer b.answer o' o₁ a.lists b.lists in (
-      same_part (λ (r : Listed). number_of (listed_says r)) s.0 a.number_is b.number_is,
+      same_part (λ (r : Result ℕ Refusal). number_of (listed_says r)) s.0 a.number_is b.number_is,
       same_part listed_count s.0 a.count_is b.count_is,
-      same_part (λ (r : Listed). index_of (listed_says r)) s.0 a.index_is b.index_is,
+      same_part (λ (r : Result ℕ Refusal). index_of (listed_says r)) s.0 a.index_is b.index_is,
       s.1,
     )
 
@@ -132,10 +126,10 @@ pub special_in_c_settled : (t : List ℕ) (flags edition : ℕ) {number number�
     → (number ≡ number₁) × (found ≡ found₁) × (place ≡ place₁) × (index ≡ index₁)
 special_in_c_settled t flags edition a b =
     let e = special_unique (form_by flags) t edition a.answer b.answer a.replies b.replies in (
-      same_part (λ (r : Special). number_of (special_says r)) e a.number_is b.number_is,
+      same_part (λ (r : Result (Option ℕ) Refusal). number_of (special_says r)) e a.number_is b.number_is,
       same_part named_of e a.found_is b.found_is,
       same_part record_of e a.place_is b.place_is,
-      same_part (λ (r : Special). index_of (special_says r)) e a.index_is b.index_is,
+      same_part (λ (r : Result (Option ℕ) Refusal). index_of (special_says r)) e a.index_is b.index_is,
     )
 
 -- Of the chip loader: the number, the slots used, the index and the image.
@@ -144,9 +138,9 @@ pub chip_in_c_settled : (t : List ℕ) (flags : ℕ) (m : List ℕ) {number numb
     → (number ≡ number₁) × (slots ≡ slots₁) × (index ≡ index₁) × (m' ≡ m₁)
 chip_in_c_settled t flags m {m' = m'} {m₁ = m₁} a b =
     let s = load_settled (form_by flags) t m a.answer b.answer m' m₁ a.loads b.loads in (
-      same_part (λ (r : Loaded). number_of (loaded_says r)) s.0 a.number_is b.number_is,
+      same_part (λ (r : Result ℕ Refusal). number_of (loaded_says r)) s.0 a.number_is b.number_is,
       same_part slots_used s.0 a.slots_is b.slots_is,
-      same_part (λ (r : Loaded). index_of (loaded_says r)) s.0 a.index_is b.index_is,
+      same_part (λ (r : Result ℕ Refusal). index_of (loaded_says r)) s.0 a.index_is b.index_is,
       s.1,
     )
 
@@ -156,9 +150,9 @@ pub check_plan_in_c_settled : (t u : List ℕ) (flags : ℕ) (ss : List Step) {n
     → (number ≡ number₁) × (yes ≡ yes₁) × (index ≡ index₁)
 check_plan_in_c_settled t u flags ss a b =
     let e = check_settled (form_by flags) t u ss a.answer b.answer a.judges b.judges in (
-      same_part (λ (r : Judged). number_of (judged_says r)) e a.number_is b.number_is,
+      same_part (λ (r : Result Bool Refusal). number_of (judged_says r)) e a.number_is b.number_is,
       same_part yes_of e a.yes_is b.yes_is,
-      same_part (λ (r : Judged). index_of (judged_says r)) e a.index_is b.index_is,
+      same_part (λ (r : Result Bool Refusal). index_of (judged_says r)) e a.index_is b.index_is,
     )
 
 -- Of the planner: the number, whether there is a plan, its steps, the index and the room.
@@ -167,9 +161,9 @@ pub plan_in_c_settled : (t u : List ℕ) (flags : ℕ) (room : List Step) {numbe
     → (number ≡ number₁) × (given ≡ given₁) × (count ≡ count₁) × (index ≡ index₁) × (room' ≡ room₁)
 plan_in_c_settled t u flags room {room' = room'} {room₁ = room₁} a b =
     let s = plan_settled (form_by flags) t u room a.answer b.answer room' room₁ a.plans b.plans in (
-      same_part (λ (r : Planned). number_of (planned_says r)) s.0 a.number_is b.number_is,
+      same_part (λ (r : Result (Option ℕ) Refusal). number_of (planned_says r)) s.0 a.number_is b.number_is,
       same_part given_of s.0 a.given_is b.given_is,
       same_part steps_given s.0 a.count_is b.count_is,
-      same_part (λ (r : Planned). index_of (planned_says r)) s.0 a.index_is b.index_is,
+      same_part (λ (r : Result (Option ℕ) Refusal). index_of (planned_says r)) s.0 a.index_is b.index_is,
       s.1,
     )

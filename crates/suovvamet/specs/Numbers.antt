@@ -1,24 +1,10 @@
 -- The flags of the calls, and their answers, in numbers. The count and the change of a rewrite are `count_of` and `change_of` of the crate calls, the count
 -- of a list of what has no route is `listed_count` of the crate holes.
-use Rattle.std.specs.Prelude.{ℕ, ◌/◌, ◌%◌, Bool, not, eqb}
+use Rattle.std.specs.Prelude.{ℕ, ◌/◌, ◌%◌, Bool, true, false, not, eqb, Option, None, Some, Result, Ok, Err}
 use Rattle.refusals.specs.Rules.{Reply, gives, refuses}
+use Rattle.refusals.specs.declared.Refusal.{Refusal}
 use Rattle.records.specs.declared.Form.{Form}
-use Rattle.lookup.specs.declared.answers.Lookup.{Lookup}
-use Rattle.lookup.specs.declared.answers.Lookup.TheVariants.{Route, NoRoute, Refused as NotLooked}
-use Rattle.lookup.specs.declared.answers.AddressesHeld.{AddressesHeld}
-use Rattle.lookup.specs.declared.answers.AddressesHeld.TheVariants.{Count, Refused as NotCounted}
-use Rattle.workroom.specs.declared.WorkWords.{WorkWords}
-use Rattle.workroom.specs.declared.WorkWords.TheVariants.{Words, Refused as NotNeeded}
-use Rattle.special.specs.declared.Special.{Special}
-use Rattle.special.specs.declared.Special.TheVariants.{At, Nothing, Refused as NotSearched}
-use Rattle.chip.specs.declared.Loaded.{Loaded}
-use Rattle.chip.specs.declared.Loaded.TheVariants.{Slots, Refused as NotLoaded}
-use Rattle.plans.specs.declared.answers.Judged.{Judged}
-use Rattle.plans.specs.declared.answers.Judged.TheVariants.{Yes, No, Refused as NotJudged}
-use Rattle.planner.specs.declared.Planned.{Planned}
-use Rattle.planner.specs.declared.Planned.TheVariants.{Steps, GaveUp, Refused as NotPlanned}
-use Rattle.calls.specs.declared.Covers.{Covers}
-use Rattle.calls.specs.declared.Covers.TheVariants.{Covered, Uncovered, Refused as NotAnswered}
+use Rattle.lookup.specs.declared.answers.Match.{Match}
 
 -- ---- Of any call.
 
@@ -37,35 +23,35 @@ index_of (gives a) = 0
 index_of (refuses number index) = index
 
 -- ---- Of the cover query: 1 for covered, else 0.
-abbrev pub covered_of : Covers → ℕ
-covered_of Covered = 1
-covered_of Uncovered = 0
-covered_of (NotAnswered number index) = 0
+abbrev pub covered_of : Result Bool Refusal → ℕ
+covered_of (Ok true) = 1
+covered_of (Ok false) = 0
+covered_of (Err refusal) = 0
 
 -- ---- Of a lookup.
 
 -- 1 for a route, else 0.
-abbrev pub found_of : Lookup → ℕ
-found_of (Route hop len) = 1
-found_of NoRoute = 0
-found_of (NotLooked number index) = 0
+abbrev pub found_of : Result (Option Match) Refusal → ℕ
+found_of (Ok (Some route)) = 1
+found_of (Ok None) = 0
+found_of (Err refusal) = 0
 
 -- Its hop, 0 where there is none.
-abbrev pub hop_of : Lookup → ℕ
-hop_of (Route hop len) = hop
-hop_of NoRoute = 0
-hop_of (NotLooked number index) = 0
+abbrev pub hop_of : Result (Option Match) Refusal → ℕ
+hop_of (Ok (Some route)) = route.hop
+hop_of (Ok None) = 0
+hop_of (Err refusal) = 0
 
 -- Its length, 0 where there is none.
-abbrev pub length_of : Lookup → ℕ
-length_of (Route hop len) = len
-length_of NoRoute = 0
-length_of (NotLooked number index) = 0
+abbrev pub length_of : Result (Option Match) Refusal → ℕ
+length_of (Ok (Some route)) = route.length
+length_of (Ok None) = 0
+length_of (Err refusal) = 0
 
 -- ---- Of addresses held: how many they are, 0 in a refusal.
-abbrev pub addresses_of : AddressesHeld → ℕ
-addresses_of (Count n) = n
-addresses_of (NotCounted number index) = 0
+abbrev pub addresses_of : Result ℕ Refusal → ℕ
+addresses_of (Ok n) = n
+addresses_of (Err refusal) = 0
 
 -- ---- Of work words.
 
@@ -74,45 +60,45 @@ abbrev pub is_set_by : ℕ → Bool
 is_set_by n = not (eqb n 0)
 
 -- The words, 0 in a refusal.
-abbrev pub words_of : WorkWords → ℕ
-words_of (Words n) = n
-words_of (NotNeeded number index) = 0
+abbrev pub words_of : Result ℕ Refusal → ℕ
+words_of (Ok n) = n
+words_of (Err refusal) = 0
 
 -- ---- Of special use.
 
 -- 1 for a record, else 0.
-abbrev pub named_of : Special → ℕ
-named_of (At i) = 1
-named_of Nothing = 0
-named_of (NotSearched number index) = 0
+abbrev pub named_of : Result (Option ℕ) Refusal → ℕ
+named_of (Ok (Some i)) = 1
+named_of (Ok None) = 0
+named_of (Err refusal) = 0
 
 -- Its index, 0 where there is none.
-abbrev pub record_of : Special → ℕ
-record_of (At i) = i
-record_of Nothing = 0
-record_of (NotSearched number index) = 0
+abbrev pub record_of : Result (Option ℕ) Refusal → ℕ
+record_of (Ok (Some i)) = i
+record_of (Ok None) = 0
+record_of (Err refusal) = 0
 
 -- ---- Of the chip loader: the slots used, 0 in a refusal.
-abbrev pub slots_used : Loaded → ℕ
-slots_used (Slots used) = used
-slots_used (NotLoaded number index) = 0
+abbrev pub slots_used : Result ℕ Refusal → ℕ
+slots_used (Ok used) = used
+slots_used (Err refusal) = 0
 
 -- ---- Of the checker of a plan: 1 for yes, else 0.
-abbrev pub yes_of : Judged → ℕ
-yes_of Yes = 1
-yes_of No = 0
-yes_of (NotJudged number index) = 0
+abbrev pub yes_of : Result Bool Refusal → ℕ
+yes_of (Ok true) = 1
+yes_of (Ok false) = 0
+yes_of (Err refusal) = 0
 
 -- ---- Of the planner.
 
 -- 1 for a plan, else 0.
-abbrev pub given_of : Planned → ℕ
-given_of (Steps count) = 1
-given_of GaveUp = 0
-given_of (NotPlanned number index) = 0
+abbrev pub given_of : Result (Option ℕ) Refusal → ℕ
+given_of (Ok (Some count)) = 1
+given_of (Ok None) = 0
+given_of (Err refusal) = 0
 
 -- Its steps, 0 where there is none.
-abbrev pub steps_given : Planned → ℕ
-steps_given (Steps count) = count
-steps_given GaveUp = 0
-steps_given (NotPlanned number index) = 0
+abbrev pub steps_given : Result (Option ℕ) Refusal → ℕ
+steps_given (Ok (Some count)) = count
+steps_given (Ok None) = 0
+steps_given (Err refusal) = 0

@@ -1,43 +1,15 @@
 // The live map for C. The result is the refusal's number, 0 for an answer; no refusal names an index but 0.
 
-ghost use Rattle.std.specs.Prelude.{◌≡◌};
-ghost use Rattle.live.specs.Calls.{kept_says};
-ghost use Rattle.suovvamet.specs.Numbers.{number_of};
-ghost use Rattle.suovvamet.specs.LiveCalls.{present_of, MakeInC, PutInC, TakeInC, LiveLookupInC};
+ghost use Rattle.suovvamet.specs.LiveCalls.{MakeInC, PutInC, TakeInC, LiveLookupInC};
 
-use super::{form_of, lookup_found, lookup_hop, lookup_length, lookup_refusal};
-use live::answers::Kept;
-
-// The parts of an answer.
-fn kept_number(r: Kept) -> u32
-    ensures { result ≡ number_of (kept_says r) }
-{
-    match r {
-        Kept::Done => 0,
-        Kept::Absent => 0,
-        Kept::Refused { number, index: _ } => number as u32,
-    }
-}
-
-fn kept_present(r: Kept) -> u32
-    ensures { result ≡ present_of r }
-{
-    match r {
-        Kept::Done => 1,
-        Kept::Absent => 0,
-        Kept::Refused {
-            number: _,
-            index: _,
-        } => 0,
-    }
-}
+use super::{form_of, refusal_in_c};
 
 // Makes an empty map in a room, whatever is in it.
 #[unsafe(no_mangle)]
 pub extern "C" fn suovvamet_live_make(room: &mut [u32]) -> u32
     ensures { MakeInC room.old result room.new }
 {
-    kept_number(live::make_empty(room))
+    refusal_in_c(live::make_empty(room), &mut 0)
 }
 
 // Puts a route into the map: a present prefix gets the new hop.
@@ -51,7 +23,10 @@ pub extern "C" fn suovvamet_live_put(
 ) -> u32
     ensures { PutInC room.old flags address length hop result room.new }
 {
-    kept_number(live::put(room, form_of(flags), address, length, hop))
+    refusal_in_c(
+        live::put(room, form_of(flags), address, length, hop),
+        &mut 0,
+    )
 }
 
 // Takes a prefix from the map: present is 1, or 0 where it was absent.
@@ -66,8 +41,8 @@ pub extern "C" fn suovvamet_live_take(
     ensures { TakeInC room.old flags address length result present.new room.new }
 {
     let answer = live::take(room, form_of(flags), address, length);
-    *present = kept_present(answer);
-    kept_number(answer)
+    *present = answer.unwrap_or(false) as u32;
+    refusal_in_c(answer, &mut 0)
 }
 
 // The longest match of an address in the map: found is 1 with its hop and length, or all three are 0.
@@ -82,8 +57,9 @@ pub extern "C" fn suovvamet_live_lookup(
     ensures { LiveLookupInC room.now address result found.new hop.new length.new }
 {
     let answer = live::lookup(room, address);
-    *found = lookup_found(answer);
-    *hop = lookup_hop(answer);
-    *length = lookup_length(answer);
-    lookup_refusal(answer).number
+    (*found, *hop, *length) = match answer {
+        Ok(Some(route)) => (1, route.hop as u32, route.length as u32),
+        _ => (0, 0, 0),
+    };
+    refusal_in_c(answer, &mut 0)
 }

@@ -109,5 +109,8 @@ module _ {R A : Type 0} (says : R → Reply A) (same : (b c : R) → says b ≡ 
     pub table-refuses : (b : R) (n i : ℕ) → says b ≡ refuses n i → r ≡ b ↔ First (TableCondition form s t) n i
     table-refuses = alone.in_table_refuses says same 8 eight form.strict s t a r e
 
-    pub table-gives-numbers : (b : R) (n i : ℕ) → says b ≡ refuses n i → r ≡ b → (3 ≤ n) × (n ≤ 8)
+    pub table-says-refused : (n i : ℕ) → says r ≡ refuses n i ↔ First (TableCondition form s t) n i
+    table-says-refused = alone.in_table_says_refused says same 8 eight form.strict s t a r e
+
+    pub table-gives-numbers : (n i : ℕ) → says r ≡ refuses n i → (3 ≤ n) × (n ≤ 8)
     table-gives-numbers = alone.in_table_gives_numbers says same 8 eight form.strict s t a r e

@@ -7,7 +7,7 @@ use mathlib.Core.Logic.{◌↔◌}
 use Prim.Native.Nat.{ℕ, ◌≤◌}
 use Rattle.refusals.specs.Rules.{Reply, gives, refuses, judge}
 use Rattle.refusals.specs.Order.{First}
-use Rattle.refusals.proofs.Answered.{unique, given_exactly, refused_exactly}
+use Rattle.refusals.proofs.Answered.{unique, given_exactly, refused_exactly, says_refused}
 use Rattle.records.specs.Sized.{IsSize}
 use Rattle.table.specs.SizedConditions.{TableConditionIn, AcceptedIn}
 use Rattle.table.specs.SizedRules.{table_rules_in}
@@ -32,6 +32,10 @@ module _ {R A : Type 0} (says : R → Reply A) (same : (b c : R) → says b ≡ 
     pub in_table_refuses : (b : R) (n i : ℕ) → says b ≡ refuses n i → r ≡ b ↔ First (TableConditionIn size strict s t) n i
     in_table_refuses = refused_exactly says same (table_rules_in size strict s t) (in_table_tests size is strict s t) (in_table_ranked size is strict s t).order a r e
 
+    -- The same by what the answer says.
+    pub in_table_says_refused : (n i : ℕ) → says r ≡ refuses n i ↔ First (TableConditionIn size strict s t) n i
+    in_table_says_refused = says_refused says same (table_rules_in size strict s t) (in_table_tests size is strict s t) (in_table_ranked size is strict s t).order a r e
+
     -- It gives the numbers 3 to 8 alone.
-    pub in_table_gives_numbers : (b : R) (n i : ℕ) → says b ≡ refuses n i → r ≡ b → (3 ≤ n) × (n ≤ 8)
-    in_table_gives_numbers b n i p q = in_table_numbers size is strict s t n i ((in_table_refuses b n i p).0 q).0
+    pub in_table_gives_numbers : (n i : ℕ) → says r ≡ refuses n i → (3 ≤ n) × (n ≤ 8)
+    in_table_gives_numbers n i q = in_table_numbers size is strict s t n i ((in_table_says_refused n i).0 q).0

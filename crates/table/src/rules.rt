@@ -3,9 +3,11 @@
 ghost use Rattle.std.specs.Prelude.{◌≡◌, ◌-◌, ◌≤◌, ◌<◌, length};
 ghost use Rattle.refusals.specs.Rules.{broken};
 ghost use Rattle.records.specs.Sized.{IsSize, clear, records_in};
+ghost use Rattle.table.specs.Checking.{broken_by};
 ghost use Rattle.table.specs.SizedRules.{host_kept_in, tail_kept_in, in_order_in, record_rules_in, top_hop};
 
 use records::sized::{hop_of, key_at, length_at, raw_key_at};
+use refusals::Cause;
 use words::key::{key_comes_before, key_host_bits_clear};
 
 // The largest hop.
@@ -32,14 +34,7 @@ pub fn clear_between(table: &[u8], k: usize, end: usize) -> bool
     requires { (k ≤ end) × (end ≤ length table.now) }
     ensures { result ≡ clear table.now k (end - k) }
 {
-    let mut at = k;
-    while at < end {
-        if table[at] != 0 {
-            return false;
-        }
-        at += 1;
-    }
-    true
+    table[k..end].iter().all(|byte| *byte == 0)
 }
 
 // The byte after the length is a hop, and those behind it are zero.
@@ -70,22 +65,28 @@ pub fn in_order(table: &[u8], size: usize, i: usize) -> bool
     )
 }
 
-// The lowest number among 5 to 8 that record i is refused by, or 0.
-pub fn fault(table: &[u8], size: usize, strict: bool, i: usize, is_set: bool) -> u8
+// Does record i keep the rules 5 to 8? Else it breaks that of the lowest number.
+pub fn judge_record(
+    table: &[u8],
+    size: usize,
+    strict: bool,
+    i: usize,
+    is_set: bool,
+) -> Result<(), Cause>
     requires { IsSize size × (i < records_in size table.now) }
-    ensures { result ≡ broken (record_rules_in size «strict» is_set table.now i) }
+    ensures { broken_by result ≡ broken (record_rules_in size «strict» is_set table.now i) }
 {
     if 4 * size < (length_at(table, size, i) as usize) {
-        return 5;
+        return Err(Cause::PrefixLength);
     }
     if !host_kept(table, size, strict, i) {
-        return 6;
+        return Err(Cause::HostBits);
     }
     if !tail_kept(table, size, i, is_set) {
-        return 7;
+        return Err(Cause::Tail);
     }
     if !in_order(table, size, i) {
-        return 8;
+        return Err(Cause::Order);
     }
-    0
+    Ok(())
 }

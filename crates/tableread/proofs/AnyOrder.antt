@@ -15,15 +15,15 @@ use Rattle.records.proofs.Laid.{length-laid}
 use Rattle.records.proofs.Reading.{eight}
 use Rattle.records.proofs.SizedWritten.{length_record}
 use Rattle.records.proofs.Written.{length-bytes}
-use Rattle.tabletext.specs.Reading.{ends, says, read_into, Written, Reads}
-use Rattle.tabletext.specs.declared.Read.{Read}
-use Rattle.tabletext.specs.declared.Read.TheVariants.{Records, NoRoom}
+use Rattle.std.specs.Prelude.{Ok, Err}
+use Rattle.tabletext.specs.Reading.{Read, ends, says, read_into, Written, Reads}
+use Rattle.tabletext.specs.declared.ReadError.TheVariants.{NoRoom}
 use Rattle.tabletext.proofs.Sound.{says-kept, says-count}
 use Rattle.tableorder.specs.Rows.{record_at, listed, records_of, Moved, Sorts, OnePrefix}
 use Rattle.tableorder.proofs.Exchange.{record_same}
 use Rattle.tableorder.proofs.Lists.{count, moved-count, moved-map}
 use Rattle.tableorder.proofs.Settled.{same_table}
-use Rattle.tableread.specs.Sorted.{Moves, ReadsSorted}
+use Rattle.tableread.specs.Sorted.{ReadsSorted}
 
 -- ---- Records that are laid at the beginning.
 
@@ -64,7 +64,7 @@ pub record Tabled (hops : Bool) (text : List ℕ) (n : ℕ) (o' l' : List ℕ) :
   pub long : n ≤ length l'
 
 module _ (hops : Bool) (text : List ℕ) (n : ℕ) (o l o' l' : List ℕ) where
-  tabled : Written (says hops text) (Records n) o l o' l' → 8192 ≤ length o → 1024 ≤ length l → Tabled hops text n o' l'
+  tabled : Written (says hops text) (Ok n) o l o' l' → 8192 ≤ length o → 1024 ≤ length l → Tabled hops text n o' l'
   tabled w p q =
       let g = says hops text in
       let kept = says-kept hops text in
@@ -83,11 +83,11 @@ module _ (hops : Bool) (text : List ℕ) (n : ℕ) (o l o' l' : List ℕ) where
         long = omega arith;
       }
 
-  pub read_tabled : Reads hops text (Records n) o l o' l' → Tabled hops text n o' l'
+  pub read_tabled : Reads hops text (Ok n) o l o' l' → Tabled hops text n o' l'
   unfolding read_into
   read_tabled w = go (leb 8192 (length o) && leb 1024 (length l)) refl w
     where
-      go : (t : Bool) → (leb 8192 (length o) && leb 1024 (length l)) ≡ t → Written (cond t (says hops text) (ends NoRoom)) (Records n) o l o' l' → Tabled hops text n o' l'
+      go : (t : Bool) → (leb 8192 (length o) && leb 1024 (length l)) ≡ t → Written (cond t (says hops text) (ends (Err NoRoom))) (Ok n) o l o' l' → Tabled hops text n o' l'
       go true e w =
           let p = both (leb 8192 (length o)) (leb 1024 (length l)) e in
           tabled w (leb-true 8192 (length o) p.0) (leb-true 1024 (length l) p.1)
@@ -101,7 +101,7 @@ count_all [] = refl
 count_all (x ∷ l) = let e = count_all l in omega arith
 
 -- Two texts that say the same routes, in any order and on any lines, where no prefix has two different records, give the same table.
-pub any_order : (hops : Bool) (a b : List ℕ) (n m : ℕ) {o l o' l' p k p' k' : List ℕ} → ReadsSorted hops a (Records n) o l o' l' → ReadsSorted hops b (Records m) p k p' k'
+pub any_order : (hops : Bool) (a b : List ℕ) (n m : ℕ) {o l o' l' p k p' k' : List ℕ} → ReadsSorted hops a (Ok n) o l o' l' → ReadsSorted hops b (Ok m) p k p' k'
     → Moved (says hops a).routes (says hops b).routes → OnePrefix (map record_of (says hops a).routes) → (n ≡ m) × (take (8 * n) o' ≡ take (8 * m) p')
 any_order hops a b n m {o} {l} {o'} {l'} {p} {k} {p'} {k'} x y moved one =
     let u = read_tabled hops a n o l x.records x.numbers x.reads in
@@ -120,10 +120,7 @@ any_order hops a b n m {o} {l} {o'} {l'} {p} {k} {p'} {k'} x y moved one =
 
 module _ (hops : Bool) (text : List ℕ) {r : Read} {o l o' l' : List ℕ} (w : Reads hops text r o l o' l') where
   -- The rooms have space for what is read.
-  pub room_of : (n : ℕ) → r ≡ Records n → (8 * n ≤ length o') × (n ≤ length l')
+  pub room_of : (n : ℕ) → r ≡ Ok n → (8 * n ≤ length o') × (n ≤ length l')
   room_of n e =
       let t = read_tabled hops text n o l o' l' (subst (λ (x : Read). Reads hops text x o l o' l') e w) in
       (t.wide, t.long)
-
-  pub sorted_as : (s : Read) {t ls : List ℕ} → r ≡ s → Moves s o' l' t ls → ReadsSorted hops text s o l t ls
-  sorted_as s e m = record { records = o'; numbers = l'; reads = subst (λ (x : Read). Reads hops text x o l o' l') e w; moves = m }

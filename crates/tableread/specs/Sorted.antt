@@ -1,15 +1,12 @@
 -- What is read of a text and sorted: the right answer to the text, and the rooms that reading leaves, with the records moved into table order.
-use Rattle.std.specs.Prelude.{ℕ, ◌≡◌, Bool, List}
-use Rattle.tabletext.specs.Reading.{Reads}
-use Rattle.tabletext.specs.declared.Read.{Read}
-use Rattle.tabletext.specs.declared.Read.TheVariants.{Records, WrongLine, NoRoom}
+use Rattle.std.specs.Prelude.{ℕ, ◌≡◌, Bool, List, Ok, Err}
+use Rattle.tabletext.specs.Reading.{Read, Reads}
 use Rattle.tableorder.specs.Rows.{Sorts}
 
 -- From the rooms that reading leaves to those that are left: sorted, where there is a table; else as they are.
 abbrev pub Moves : Read → List ℕ → List ℕ → List ℕ → List ℕ → Type 0
-Moves (Records n) t ls t' ls' = Sorts n t ls t' ls'
-Moves (WrongLine k why) t ls t' ls' = (t' ≡ t) × (ls' ≡ ls)
-Moves NoRoom t ls t' ls' = (t' ≡ t) × (ls' ≡ ls)
+Moves (Ok n) t ls t' ls' = Sorts n t ls t' ls'
+Moves (Err why) t ls t' ls' = (t' ≡ t) × (ls' ≡ ls)
 
 -- The right answer, and what it leaves in the rooms.
 pub record ReadsSorted (hops : Bool) (text : List ℕ) (r : Read) (out lines out' lines' : List ℕ) : Type 0 where

@@ -4,19 +4,18 @@
 ghost use Rattle.tableread.specs.Sorted.{ReadsSorted};
 
 use tableorder::sort_rows;
-use tabletext::{Read, read_table};
+use tabletext::{ReadError, read_table};
 
 // Reads a text into the rooms, as `read_table` does, and sorts what is read.
-pub fn read_sorted(text: &[u8], hops: bool, out: &mut [u8], lines: &mut [usize]) -> Read
+pub fn read_sorted(
+    text: &[u8],
+    hops: bool,
+    out: &mut [u8],
+    lines: &mut [usize],
+) -> Result<usize, ReadError>
     ensures { ReadsSorted hops text.now result out.old lines.old out.new lines.new }
 {
-    let answer = read_table(text, hops, out, lines);
-    match answer {
-        Read::Records(n) => {
-            sort_rows(out, lines, n);
-            Read::Records(n)
-        }
-        Read::WrongLine(k, why) => Read::WrongLine(k, why),
-        Read::NoRoom => Read::NoRoom,
-    }
+    let n = read_table(text, hops, out, lines)?;
+    sort_rows(out, lines, n);
+    Ok(n)
 }

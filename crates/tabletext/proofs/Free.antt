@@ -37,10 +37,6 @@ module _ (b : ℕ) where
   unfolding place
   place_stop x t e = rw e
 
-  place_none : place b [] ≡ 0
-  unfolding place
-  place_none = refl
-
   -- Its place where it stands there.
   pub place-joined : (s : List ℕ) (x : ℕ) (t : List ℕ) → Free b s → is b x ≡ true → place b (s ++ (x ∷ t)) ≡ length s
   place-joined s x t p e = place_free s (x ∷ t) p ∙ rw (place_stop x t e) (omega arith)

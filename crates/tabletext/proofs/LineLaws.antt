@@ -1,32 +1,20 @@
 -- Laws of lines: the hop of a map's line, and the first line of a text. Assumes nothing.
-use mathlib.Core.Path.{◌≡◌, refl, sym, ap, ◌∙◌}
+use mathlib.Core.Path.{◌≡◌, refl, ap}
 use mathlib.Core.Bool.{Bool, true, false, cond, ◌||◌}
 use mathlib.Core.List.{List, [], ◌∷◌}
-use Prim.Native.Nat.{ℕ, suc, ◌+◌, ◌≤◌, ◌<◌}
+use Prim.Native.Nat.{ℕ, suc, ◌+◌, ◌<◌}
 use native.Mathlib.Omega.{arith}
-use borrow.Author.Tests.{lt-ltb, le-ltb, eq-eqb, ne_eqb}
+use borrow.Author.Tests.{lt-ltb, eq-eqb, ne_eqb}
 use lib.Dec.{eqb, leb-suc-suc}
-use lib.ListN.{length, drop}
-use lib.Seq.{drop-drop}
+use lib.ListN.{length}
 use Rattle.tabletext.specs.Pieces.{is, place, has, up_to, behind, unblank, number}
-use Rattle.tabletext.specs.Lines.{end_of_map, said}
-use Rattle.tabletext.specs.Reading.{on_first, lines_in, with_line, read_lines}
-use Rattle.tabletext.specs.declared.Reason.TheVariants.{NotHop, MoreWords}
-use Rattle.tabletext.specs.declared.Said.{Said}
-use Rattle.tabletext.specs.declared.Said.TheVariants.{Record, Wrong}
+use Rattle.tabletext.specs.Lines.{entry, end_of_map}
+use Rattle.tabletext.specs.Reading.{on_first, lines_in}
 
 -- ---- The hop of a map's line.
 
 module _ (addr len : ℕ) (rest : List ℕ) (some : length rest ≡ 0 → ⊥) where
-  pub map_more : (length (unblank (behind 32 rest)) ≡ 0 → ⊥) → Wrong MoreWords ≡ end_of_map addr len rest
-  unfolding end_of_map
-  map_more h = rw (ne_eqb (length rest) 0 some, ne_eqb (length (unblank (behind 32 rest))) 0 h)
-
-  pub map-high : length (unblank (behind 32 rest)) ≡ 0 → 64 ≤ number (up_to 32 rest) → Wrong NotHop ≡ end_of_map addr len rest
-  unfolding end_of_map
-  map-high h high = rw (ne_eqb (length rest) 0 some, eq-eqb (length (unblank (behind 32 rest))) 0 h, le-ltb (number (up_to 32 rest)) 64 high)
-
-  pub map-hop : length (unblank (behind 32 rest)) ≡ 0 → number (up_to 32 rest) < 64 → Record addr len (number (up_to 32 rest)) ≡ end_of_map addr len rest
+  pub map-hop : length (unblank (behind 32 rest)) ≡ 0 → number (up_to 32 rest) < 64 → entry addr len (number (up_to 32 rest)) ≡ end_of_map addr len rest
   unfolding end_of_map
   map-hop h low = rw (ne_eqb (length rest) 0 some, eq-eqb (length (unblank (behind 32 rest))) 0 h, lt-ltb (number (up_to 32 rest)) 64 low)
 
@@ -65,24 +53,3 @@ first-line (x ∷ s) = go (eqb x 10) refl (first-line s)
     go : (t : Bool) → eqb x 10 ≡ t → lines_in s ≡ up_to 10 s ∷ later s → lines_in (x ∷ s) ≡ up_to 10 (x ∷ s) ∷ later (x ∷ s)
     go true e rest = here x s e
     go false e rest = on x s e rest
-
--- What is read from a line on is what its first line says, and what is read behind that.
-pub read_first : (hops : Bool) (n k : ℕ) (s : List ℕ) (what : Said) → what ≡ said hops (up_to 10 s)
-    → read_lines hops n k (lines_in s) ≡ with_line n k what (read_lines hops n (k + 1) (later s)) (read_lines hops (n + 1) (k + 1) (later s))
-unfolding read_lines
-read_first hops n k s what e =
-    ap (λ (ls : List (List ℕ)). read_lines hops n k ls) (first-line s)
-    ∙ ap (λ (w : Said). with_line n k w (read_lines hops n (k + 1) (later s)) (read_lines hops (n + 1) (k + 1) (later s))) (sym e)
-
--- Without a line feed there is no line behind the first.
-pub later_none : (s : List ℕ) → length s ≤ place 10 s → later s ≡ []
-later_none s h = rw (le-ltb (place 10 s) (length s) h)
-
--- With one there are those of what stands behind it.
-pub later-some : (text : List ℕ) (at : ℕ) → place 10 (drop at text) < length (drop at text)
-    → later (drop at text) ≡ lines_in (drop (at + place 10 (drop at text) + 1) text)
-unfolding behind
-later-some text at h =
-    let e : at + (place 10 (drop at text) + 1) ≡ at + place 10 (drop at text) + 1 = omega arith in
-    rw (lt-ltb (place 10 (drop at text)) (length (drop at text)) h)
-    (ap lines_in (drop-drop (place 10 (drop at text) + 1) at text ∙ ap (λ (j : ℕ). drop j text) e))

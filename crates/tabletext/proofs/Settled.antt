@@ -3,8 +3,7 @@ use mathlib.Core.Path.{◌≡◌, sym, ◌∙◌}
 use mathlib.Core.Bool.{Bool}
 use mathlib.Core.List.{List}
 use Prim.Native.Nat.{ℕ}
-use Rattle.tabletext.specs.Reading.{Reads}
-use Rattle.tabletext.specs.declared.Read.{Read}
+use Rattle.tabletext.specs.Reading.{Read, Reads}
 
 pub read_settled : (hops : Bool) (text out lines : List ℕ) {r s : Read} {o p k l : List ℕ}
     → Reads hops text r out lines o k → Reads hops text s out lines p l → (r ≡ s) × (o ≡ p) × (k ≡ l)

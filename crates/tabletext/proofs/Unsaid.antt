@@ -10,9 +10,8 @@ use lib.Dec.{eqb}
 use lib.ListN.{length, length-append}
 use lib.Seq.{take_at, get_or_at}
 use Rattle.tabletext.specs.Pieces.{is, unblank, up_to}
-use Rattle.tabletext.specs.Lines.{unreturned, of_words, of_body, of_line, said}
+use Rattle.tabletext.specs.Lines.{nothing, unreturned, of_words, of_body, of_line, said}
 use Rattle.tabletext.specs.Reading.{on_first, lines_in, marked, unmarked, Reading, with_line, read_lines, says}
-use Rattle.tabletext.specs.declared.Said.TheVariants.{Nothing}
 use Rattle.tabletext.proofs.LineLaws.{later, first-line}
 use Rattle.tabletext.proofs.Free.{Free, nil, cons, free_append, up_to-joined, up_to_all, has_none, unreturned_free}
 
@@ -70,14 +69,14 @@ unblank_blanks none = refl
 unblank_blanks (blank e r) = rw e (unblank_blanks r)
 
 -- A blank line says nothing.
-pub blank_says_nothing : (hops : Bool) {l : List ℕ} → Blanks l → said hops l ≡ Nothing
+pub blank_says_nothing : (hops : Bool) {l : List ℕ} → Blanks l → said hops l ≡ nothing
 unfolding said of_line of_body of_words
 blank_says_nothing hops {l} p =
     let f = blanks_free 13 refl refl p in
     rw (unreturned_free l f, has_none 13 l f, up_to_all 35 l (blanks_free 35 refl refl p), has_none 58 l (blanks_free 58 refl refl p), unblank_blanks p)
 
 -- Nor does a comment alone.
-pub comment_says_nothing : (hops : Bool) {l : List ℕ} (t : List ℕ) → Blanks l → Free 13 t → said hops (l ++ (35 ∷ t)) ≡ Nothing
+pub comment_says_nothing : (hops : Bool) {l : List ℕ} (t : List ℕ) → Blanks l → Free 13 t → said hops (l ++ (35 ∷ t)) ≡ nothing
 comment_says_nothing hops {l} t p r =
     comment_unsaid hops l t (blanks_free 13 refl refl p) (blanks_free 35 refl refl p) r ∙ blank_says_nothing hops p
 

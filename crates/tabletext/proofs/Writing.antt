@@ -5,24 +5,24 @@ use mathlib.Core.List.{List, [], ◌∷◌, ◌++◌, append_assoc}
 use Prim.Native.Nat.{ℕ, ◌+◌, ◌*◌, ◌≤◌, ◌<◌}
 use native.Mathlib.Numerals.{add-one}
 use native.Mathlib.Omega.{arith}
+use Rattle.std.specs.List.{slice_split, onto_first, enumerate_from}
+use Rattle.std.proofs.lemmas.List.FromFn.{get_or-enumerate_from, length-enumerate_from}
 use borrow.Author.Tests.{ltb-true, le-leb, lt-leb}
-use lib.Dec.{ltb}
-use lib.ListN.{length, take, drop, set, length-append, length-set}
-use lib.Seq.{drop-drop, set_split}
+use lib.Dec.{ltb, eqb}
+use lib.ListN.{length, get_or, take, drop, set, length-append, drop_of_length-le}
+use lib.Seq.{drop-drop, drop-cons, set_split}
 use Rattle.theory.specs.Routes.{Route}
 use Rattle.records.specs.Wire.{record_of, bytes_of}
-use Rattle.records.specs.Sized.{route, laid, bytes_in}
-use Rattle.records.proofs.Laid.{laid_none, length-laid, take-laid, drop-laid}
+use Rattle.records.specs.Sized.{laid, bytes_in}
+use Rattle.records.proofs.Laid.{laid_none, take-laid, drop-laid}
 use Rattle.records.proofs.Reading.{eight}
 use Rattle.records.proofs.SizedWritten.{length_record}
-use Rattle.tabletext.specs.Reading.{Reading, Written, Reads, lines_in, unmarked, ends, before, with_line, read_lines, says, read_into, stored, stored_bytes, stored_numbers}
+use Rattle.std.specs.Prelude.{Some, None, Ok, Err}
+use Rattle.tabletext.specs.Lines.{Said, said}
+use Rattle.tabletext.specs.Reading.{Read, Reading, wrong_line, route_said, Written, Reads, on_first, lines_in, unmarked, ends, before, with_line, read_lines, says, read_into, stored, stored_bytes, stored_numbers}
 use Rattle.tabletext.specs.declared.Reason.{Reason}
 use Rattle.tabletext.specs.declared.Reason.TheVariants.{TooMany}
-use Rattle.tabletext.specs.declared.Said.{Said}
-use Rattle.tabletext.specs.declared.Said.TheVariants.{Nothing, Record, Wrong}
-use Rattle.tabletext.specs.declared.Read.{Read}
-use Rattle.tabletext.specs.declared.Read.TheVariants.{Records, WrongLine, NoRoom}
-use Rattle.tabletext.specs.declared.Stored.TheVariants.{Count, Not}
+use Rattle.tabletext.specs.declared.ReadError.TheVariants.{NoRoom}
 
 -- ---- Lists laid over a list.
 
@@ -59,6 +59,38 @@ number_on : (n k : ℕ) (ks o : List ℕ) → n < length o → laid n (k ∷ ks)
 number_on n k ks o fits =
     laid_on n (k ∷ []) ks o (omega arith) ∙ ap (λ (l : List ℕ). laid (n + 1) ks l) (sym (one n k o fits))
 
+-- ---- Lines, one after another.
+
+-- What stands between line feeds are the lines.
+pub lines_split : (s : List ℕ) → slice_split (λ x. eqb x 10) s ≡ lines_in s
+unfolding lines_in
+lines_split [] = refl
+lines_split (x ∷ s) = go (eqb x 10) (lines_split s)
+  where
+    first : (ls : List (List ℕ)) → onto_first x ls ≡ on_first x ls
+    first [] = refl
+    first (l ∷ ls) = refl
+
+    go : (t : Bool) → slice_split (λ y. eqb y 10) s ≡ lines_in s
+        → cond t ([] ∷ slice_split (λ y. eqb y 10) s) (onto_first x (slice_split (λ y. eqb y 10) s)) ≡ cond t ([] ∷ lines_in s) (on_first x (lines_in s))
+    go true e = ap (λ (ls : List (List ℕ)). [] ∷ ls) e
+    go false e = ap (onto_first x) e ∙ first (lines_in s)
+
+module _ (ps ls : List (List ℕ)) (same : ps ≡ ls) (j : ℕ) where
+  -- The line of a turn, where they are numbered, has the turn's number and is the first of those that are left.
+  pub turn_line : (i : ℕ) (line : List ℕ) → (j < length (enumerate_from 0 ps)) × ((i, line) ≡ get_or (enumerate_from 0 ps) j (i, line))
+      → (i ≡ j) × (drop j ls ≡ line ∷ drop (j + 1) ls)
+  turn_line i line t =
+      let low : j < length ps = omega (arith, length-enumerate_from 0 ps, t.0) in
+      let e : ◌≡◌ {A = ℕ × List ℕ} (i, line) (0 + j, get_or ps j line) = t.1 ∙ get_or-enumerate_from 0 ps j (i, line) low in
+      let is : line ≡ get_or ls j line = ap (λ (p : ℕ × List ℕ). p.1) e ∙ ap (λ (ms : List (List ℕ)). get_or ms j line) same in
+      let none : 0 + j ≡ j = omega arith in
+      (ap (λ (p : ℕ × List ℕ). p.0) e ∙ none, drop-cons ls j line (omega (arith, ap length same)) ∙ ap₂ (λ (m : List ℕ) (k : ℕ). m ∷ drop k ls) (sym is) (sym (add-one j)))
+
+  -- None is left where there are no more turns.
+  pub turns_over : j ≡ length (enumerate_from 0 ps) → drop j ls ≡ []
+  turns_over e = drop_of_length-le ls (omega (arith, length-enumerate_from 0 ps, ap length same))
+
 -- ---- What is left to be read.
 
 -- With n records in the rooms, what is still read makes all that is to be read.
@@ -80,13 +112,15 @@ module _ {all : Reading} {o l : List ℕ} where
 
   -- Where no lines are left, the answer is how many records there are.
   pub left_end : (hops : Bool) (n k : ℕ) {ls : List (List ℕ)} {out lines : List ℕ} → ls ≡ [] → Left all o l (read_lines hops n k ls) n out lines
-      → Written all (Records n) o l out lines
+      → Written all (Ok n) o l out lines
   unfolding read_lines
   left_end hops n k {ls} {out} {lines} e g = left_none (subst (λ (x : List (List ℕ)). Left all o l (read_lines hops n k x) n out lines) e g)
 
-  -- The same, otherwise written.
-  pub left_as : {g h : Reading} {n : ℕ} {out lines : List ℕ} → g ≡ h → Left all o l g n out lines → Left all o l h n out lines
-  left_as {n = n} {out = out} {lines = lines} e p = subst (λ (x : Reading). Left all o l x n out lines) e p
+  -- A line is read, and what is behind it.
+  pub left_line : (hops : Bool) (n k : ℕ) {ls ms : List (List ℕ)} {line : List ℕ} {out lines : List ℕ} → ls ≡ line ∷ ms → Left all o l (read_lines hops n k ls) n out lines
+      → Left all o l (with_line n k (said hops line) (read_lines hops n (k + 1) ms) (read_lines hops (n + 1) (k + 1) ms)) n out lines
+  unfolding read_lines
+  left_line hops n k {ls} {ms} {line} {out} {lines} e g = subst (λ (x : List (List ℕ)). Left all o l (read_lines hops n k x) n out lines) e g
 
   -- A record is stored.
   pub left_more : {r : Route} {k n : ℕ} {more : Reading} {out lines : List ℕ} → 8 * n + 8 ≤ length out → n < length lines
@@ -100,74 +134,37 @@ module _ {all : Reading} {o l : List ℕ} where
 
   module _ (n k : ℕ) (next : ℕ → Reading) (out lines : List ℕ) (wide : 8192 ≤ length out) (long : 1024 ≤ length lines) where
     -- Behind a line that is counted, the rest is left.
-    pub left-next : (what : Said) (m : ℕ) → Left all o l (with_line n k what (next n) (next (n + 1))) n out lines → stored n what ≡ Count m
+    pub left-next : (what : Said) (m : ℕ) → Left all o l (with_line n k what (next n) (next (n + 1))) n out lines → stored n what ≡ Ok m
         → Left all o l (next m) m (stored_bytes n what out) (stored_numbers n k what lines)
     unfolding stored stored_bytes stored_numbers
-    left-next Nothing m g e = let same : n ≡ m = cc in rw (← same) g
-    left-next (Record addr len hop) m g e = go (ltb n 1024) refl g e
+    left-next (Ok None) m g e = let same : n ≡ m = cc in rw (← same) g
+    left-next (Ok (Some r)) m g e = go (ltb n 1024) refl g e
       where
         go : (t : Bool) → ltb n 1024 ≡ t
-            → Left all o l (cond t (before (route addr len hop) k (next (n + 1))) (ends (WrongLine k TooMany))) n out lines
-            → cond t (Count (n + 1)) (Not TooMany) ≡ Count m
-            → Left all o l (next m) m (cond t (laid (8 * n) (record_of (route addr len hop)) out) out) (cond t (set lines n k) lines)
+            → Left all o l (cond t (before (route_said r) k (next (n + 1))) (ends (wrong_line k TooMany))) n out lines
+            → cond t (Ok (n + 1)) (Err TooMany) ≡ Ok m
+            → Left all o l (next m) m (cond t (laid (8 * n) (record_of (route_said r)) out) out) (cond t (set lines n k) lines)
         go true t g e =
             let low = ltb-true n 1024 t in
             let same : n + 1 ≡ m = cc in
             rw (← same) (left_more (omega arith) (omega arith) g)
         go false t g e = let z : ◌≡◌ {A = ℕ} 0 1 = cc in absurd (omega arith)
-    left-next (Wrong why) m g e = let z : ◌≡◌ {A = ℕ} 0 1 = cc in absurd (omega arith)
+    left-next (Err why) m g e = let z : ◌≡◌ {A = ℕ} 0 1 = cc in absurd (omega arith)
 
     -- A wrong line is the answer.
-    pub left_wrong : (what : Said) (why : Reason) → Left all o l (with_line n k what (next n) (next (n + 1))) n out lines → stored n what ≡ Not why
-        → Written all (WrongLine k why) o l (stored_bytes n what out) (stored_numbers n k what lines)
+    pub left_wrong : (what : Said) (why : Reason) → Left all o l (with_line n k what (next n) (next (n + 1))) n out lines → stored n what ≡ Err why
+        → Written all (wrong_line k why) o l (stored_bytes n what out) (stored_numbers n k what lines)
     unfolding stored stored_bytes stored_numbers
-    left_wrong Nothing why g e = let z : ◌≡◌ {A = ℕ} 0 1 = cc in absurd (omega arith)
-    left_wrong (Record addr len hop) why g e = go (ltb n 1024) g e
+    left_wrong (Ok None) why g e = let z : ◌≡◌ {A = ℕ} 0 1 = cc in absurd (omega arith)
+    left_wrong (Ok (Some r)) why g e = go (ltb n 1024) g e
       where
         go : (t : Bool)
-            → Left all o l (cond t (before (route addr len hop) k (next (n + 1))) (ends (WrongLine k TooMany))) n out lines
-            → cond t (Count (n + 1)) (Not TooMany) ≡ Not why
-            → Written all (WrongLine k why) o l (cond t (laid (8 * n) (record_of (route addr len hop)) out) out) (cond t (set lines n k) lines)
+            → Left all o l (cond t (before (route_said r) k (next (n + 1))) (ends (wrong_line k TooMany))) n out lines
+            → cond t (Ok (n + 1)) (Err TooMany) ≡ Err why
+            → Written all (wrong_line k why) o l (cond t (laid (8 * n) (record_of (route_said r)) out) out) (cond t (set lines n k) lines)
         go true g e = let z : ◌≡◌ {A = ℕ} 0 1 = cc in absurd (omega arith)
         go false g e = let same : TooMany ≡ why = cc in rw (← same) (left_none g)
-    left_wrong (Wrong why') why g e = let same : why' ≡ why = cc in rw (← same) (left_none g)
-
--- ---- How much a line stores.
-
-module _ (n k : ℕ) (out lines : List ℕ) (wide : 8192 ≤ length out) where
-  pub stored-bytes-length : (what : Said) → length (stored_bytes n what out) ≡ length out
-  unfolding stored_bytes
-  stored-bytes-length Nothing = refl
-  stored-bytes-length (Record addr len hop) = go (ltb n 1024) refl
-    where
-      go : (t : Bool) → ltb n 1024 ≡ t → length (cond t (laid (8 * n) (record_of (route addr len hop)) out) out) ≡ length out
-      go true e =
-          let low = ltb-true n 1024 e in
-          let size = length_record 8 eight (route addr len hop) in
-          length-laid (8 * n) (record_of (route addr len hop)) out (omega arith)
-      go false e = refl
-  stored-bytes-length (Wrong why) = refl
-
-  pub stored-numbers-length : (what : Said) → length (stored_numbers n k what lines) ≡ length lines
-  unfolding stored_numbers
-  stored-numbers-length Nothing = refl
-  stored-numbers-length (Record addr len hop) = go (ltb n 1024)
-    where
-      go : (t : Bool) → length (cond t (set lines n k) lines) ≡ length lines
-      go true = length-set lines n k
-      go false = refl
-  stored-numbers-length (Wrong why) = refl
-
--- At most one record more, and not above 1,024.
-pub stored-most : (n m : ℕ) (what : Said) → n ≤ 1024 → stored n what ≡ Count m → m ≤ 1024
-unfolding stored
-stored-most n m Nothing most e = let same : n ≡ m = cc in omega arith
-stored-most n m (Record addr len hop) most e = go (ltb n 1024) refl e
-  where
-    go : (t : Bool) → ltb n 1024 ≡ t → cond t (Count (n + 1)) (Not TooMany) ≡ Count m → m ≤ 1024
-    go true t e = let low = ltb-true n 1024 t in let same : n + 1 ≡ m = cc in omega arith
-    go false t e = let z : ◌≡◌ {A = ℕ} 0 1 = cc in absurd (omega arith)
-stored-most n m (Wrong why) most e = let z : ◌≡◌ {A = ℕ} 0 1 = cc in absurd (omega arith)
+    left_wrong (Err why') why g e = let same : why' ≡ why = cc in rw (← same) (left_none g)
 
 -- ---- Rooms.
 
@@ -178,14 +175,14 @@ none_written r o l = record { answers = refl; records = sym (laid_none 0 o); num
 
 module _ (hops : Bool) (text out lines : List ℕ) where
   -- The room for records is too short.
-  pub room-narrow : length out < 8192 → Reads hops text NoRoom out lines out lines
+  pub room-narrow : length out < 8192 → Reads hops text (Err NoRoom) out lines out lines
   unfolding read_into
-  room-narrow h = rw (lt-leb 8192 (length out) h) (none_written NoRoom out lines)
+  room-narrow h = rw (lt-leb 8192 (length out) h) (none_written (Err NoRoom) out lines)
 
   -- The room for the numbers of lines is too short.
-  pub room-short : 8192 ≤ length out → length lines < 1024 → Reads hops text NoRoom out lines out lines
+  pub room-short : 8192 ≤ length out → length lines < 1024 → Reads hops text (Err NoRoom) out lines out lines
   unfolding read_into
-  room-short w h = rw (le-leb 8192 (length out) w, lt-leb 1024 (length lines) h) (none_written NoRoom out lines)
+  room-short w h = rw (le-leb 8192 (length out) w, lt-leb 1024 (length lines) h) (none_written (Err NoRoom) out lines)
 
   -- There is room.
   pub room_enough : {r : Read} {out' lines' s : List ℕ} → 8192 ≤ length out → 1024 ≤ length lines → s ≡ unmarked text

@@ -1,5 +1,5 @@
 -- Pieces of a line, as lists of bytes: what stands before a byte and behind it, words, numbers, addresses.
-use Rattle.std.specs.Prelude.{ℕ, suc, ◌+◌, ◌-◌, ◌*◌, Bool, cond, ◌&&◌, ◌||◌, List, [], ◌∷◌, leb, ltb, eqb, length, get_or, take, drop}
+use Rattle.std.specs.Prelude.{ℕ, suc, ◌+◌, ◌-◌, ◌*◌, ◌≡◌, ◌≤◌, ◌<◌, Bool, cond, ◌&&◌, ◌||◌, List, [], ◌∷◌, leb, ltb, eqb, length, get_or, take, drop, Option, Some, None}
 use Rattle.records.specs.Wire.{join}
 
 -- ---- Before and behind.
@@ -33,6 +33,12 @@ unblank (x ∷ s) = cond (is 32 x) (unblank s) (x ∷ s)
 -- Is a list empty?
 abbrev pub none : List ℕ → Bool
 none s = eqb (length s) 0
+
+-- ---- What a function answers: a number, if it is below a limit. What is no number counts as the limit or more.
+
+abbrev pub Below : ℕ → Option ℕ → ℕ → Type 0
+Below limit None n = limit ≤ n
+Below limit (Some m) n = (m ≡ n) × (n < limit)
 
 -- ---- Numbers: one to three digits, without a leading zero. What is none counts as 1,000 or more.
 

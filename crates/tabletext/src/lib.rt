@@ -5,15 +5,15 @@
 pub mod lines;
 pub mod pieces;
 
-ghost use Rattle.std.specs.Prelude.{◌≡◌, ◌≤◌, ◌<◌, length};
-ghost use Rattle.tabletext.specs.Reading.{lines_in, unmarked, read_lines, Written, Reads, stored, stored_bytes, stored_numbers};
+ghost use Rattle.std.specs.Prelude.{◌≡◌, ◌≤◌, length};
+ghost use Rattle.tabletext.specs.Lines.{said};
+ghost use Rattle.tabletext.specs.Reading.{lines_in, marked, unmarked, read_lines, Written, Reads, stored, stored_bytes, stored_numbers};
 
 use lines::said;
-use pieces::{place, up_to};
 use records::write_record;
 
 // What is wrong with a line.
-#[derive(Clone, Copy)]
+#[derive(Clone, Copy, Debug, PartialEq, Eq)]
 pub enum Reason {
     // The first word is no prefix.
     NotPrefix,
@@ -33,102 +33,91 @@ pub enum Reason {
     TooMany,
 }
 
-// What a line says.
-#[derive(Clone, Copy)]
-pub enum Said {
-    Nothing,
-    Record(u32, u8, u8),
-    Wrong(Reason),
+// What a line says, if it says something.
+#[derive(Clone, Copy, Debug, PartialEq, Eq)]
+pub struct Record {
+    pub addr: u32,
+    pub len: u8,
+    pub hop: u8,
 }
 
-// What is answered: how many records there are, or which line is the first wrong one, or that the rooms are too short.
-#[derive(Clone, Copy)]
-pub enum Read {
-    Records(usize),
+// Why a text is not read.
+#[derive(Clone, Copy, Debug, PartialEq, Eq)]
+pub enum ReadError {
+    // The first wrong line, by its number, and what is wrong with it.
     WrongLine(usize, Reason),
+    // The rooms are too short.
     NoRoom,
 }
 
-// What becomes of a line: the count of records behind it, or what is wrong.
-#[derive(Clone, Copy)]
-enum Stored {
-    Count(usize),
-    Not(Reason),
-}
-
-// Stores what line k says as record n.
-fn store(what: Said, k: usize, n: usize, out: &mut [u8], lines: &mut [usize]) -> Stored
+// Reads line k, behind n records, and says how many there are then.
+#[tactic(auto, unfolding(crate::specs::Reading::stored, crate::specs::Reading::stored_bytes, crate::specs::Reading::stored_numbers))]
+fn read_line(
+    line: &[u8],
+    k: usize,
+    hops: bool,
+    n: usize,
+    out: &mut [u8],
+    lines: &mut [usize],
+) -> Result<usize, Reason>
     requires { (8192 ≤ length out.old) × (1024 ≤ length lines.old) }
-    ensures value { result ≡ stored n what }
-    ensures out_after { out.new ≡ stored_bytes n what out.old }
-    ensures lines_after { lines.new ≡ stored_numbers n k what lines.old }
+    ensures value { result ≡ stored n (said hops line.now) }
+    ensures out_after { out.new ≡ stored_bytes n (said hops line.now) out.old }
+    ensures lines_after { lines.new ≡ stored_numbers n k (said hops line.now) lines.old }
 {
-    match what {
-        Said::Nothing => Stored::Count(n),
-        Said::Record(addr, len, hop) => {
-            if 1024 <= n {
-                return Stored::Not(Reason::TooMany);
-            }
-            write_record(out, n, addr, len, hop);
-            lines[n] = k;
-            Stored::Count(n + 1)
-        }
-        Said::Wrong(why) => Stored::Not(why),
+    let Some(record) = said(line, hops)? else {
+        return Ok(n);
+    };
+    if 1024 <= n {
+        return Err(Reason::TooMany);
     }
+    write_record(out, n, record.addr, record.len, record.hop);
+    lines[n] = k;
+    Ok(n + 1)
 }
 
 // A text without its byte order mark.
+#[tactic(auto, unfolding(crate::specs::Reading::unmarked, crate::specs::Reading::marked))]
 fn unmarked(text: &[u8]) -> &[u8]
     ensures { result.now ≡ unmarked text.now }
 {
-    if text.len() < 3 {
-        return text;
+    match text {
+        [0xEF, 0xBB, 0xBF, rest @ ..] => rest,
+        _ => text,
     }
-    if text[0] != 239 {
-        return text;
-    }
-    if text[1] != 187 {
-        return text;
-    }
-    if text[2] != 191 {
-        return text;
-    }
-    &text[3..]
 }
 
 // Reads the lines of a text into rooms that are long enough.
-fn read_lines(text: &[u8], hops: bool, out: &mut [u8], lines: &mut [usize]) -> Read
+fn read_lines(
+    text: &[u8],
+    hops: bool,
+    out: &mut [u8],
+    lines: &mut [usize],
+) -> Result<usize, ReadError>
     requires { (8192 ≤ length out.old) × (1024 ≤ length lines.old) }
     ensures { Written (read_lines hops 0 1 (lines_in text.now)) result out.old lines.old out.new lines.new }
 {
-    let mut at: usize = 0;
-    let mut n: usize = 0;
-    let mut k: usize = 1;
-    loop {
-        let rest = &text[at..];
-        let what = said(up_to(rest, 10), hops);
-        match store(what, k, n, out, lines) {
-            Stored::Count(m) => n = m,
-            Stored::Not(why) => return Read::WrongLine(k, why),
+    let mut n = 0;
+    for (i, line) in text.split(|b| *b == b'\n').enumerate() {
+        match read_line(line, i + 1, hops, n, out, lines) {
+            Ok(m) => n = m,
+            Err(why) => return Err(ReadError::WrongLine(i + 1, why)),
         }
-        let end = place(rest, 10);
-        if rest.len() <= end {
-            return Read::Records(n);
-        }
-        at = at + end + 1;
-        k += 1;
     }
+    Ok(n)
 }
 
-// Reads a text into the rooms, which are to have 1,024 records, 8 bytes each, and the numbers of their lines.
-pub fn read_table(text: &[u8], hops: bool, out: &mut [u8], lines: &mut [usize]) -> Read
+// Reads a text into the rooms, which are to have 1,024 records, 8 bytes each, and the numbers of their lines. Says how many records there are.
+pub fn read_table(
+    text: &[u8],
+    hops: bool,
+    out: &mut [u8],
+    lines: &mut [usize],
+) -> Result<usize, ReadError>
     ensures { Reads hops text.now result out.old lines.old out.new lines.new }
 {
-    if out.len() < 8192 {
-        return Read::NoRoom;
-    }
-    if lines.len() < 1024 {
-        return Read::NoRoom;
+    if out.len() < 8192 || lines.len() < 1024 {
+        return Err(ReadError::NoRoom);
     }
     read_lines(unmarked(text), hops, out, lines)
 }

@@ -1,178 +1,150 @@
 // Pieces of a line: what stands before a byte and behind it, words, numbers, addresses.
 
-ghost use Rattle.std.specs.Prelude.{◌≡◌, ◌||◌, ◌&&◌, ◌≤◌, ◌<◌, eqb, length};
-ghost use Rattle.tabletext.specs.Pieces.{is, place, up_to, behind, unblank, digit_from, number, joined, address, is_default, prefix_address, prefix_length};
+ghost use Rattle.std.specs.Prelude.{◌≡◌, ◌≤◌, length};
+ghost use Rattle.std.specs.List.{position};
+ghost use Rattle.tabletext.specs.Pieces.{Below, is, has, place, up_to, behind, unblank, digit_from, number, address, is_default, prefix_address, prefix_length};
+
+use records::join4;
 
 // Is x the byte b? A tab counts as a space.
 fn is(b: u8, x: u8) -> bool
     ensures { result ≡ is b x }
 {
-    if x == b {
-        return true;
-    }
-    if b != 32 {
-        return false;
-    }
-    x == 9
+    x == b || (b == b' ' && x == b'\t')
+}
+
+// Where the first b stands.
+fn find(s: &[u8], b: u8) -> Option<usize>
+    ensures { result ≡ position (is b) s.now }
+{
+    s.iter().position(|x| is(b, *x))
+}
+
+// Is there a b?
+#[tactic(auto, using(crate::proofs::PieceLaws::has_found))]
+pub(crate) fn has(s: &[u8], b: u8) -> bool
+    ensures { result ≡ has b s.now }
+{
+    find(s, b).is_some()
 }
 
 // How many bytes stand before the first b.
 pub fn place(s: &[u8], b: u8) -> usize
     ensures { (result ≡ place b s.now) × (result ≤ length s.now) }
 {
-    let mut i: usize = 0;
-    while i < s.len() {
-        if is(b, s[i]) {
-            return i;
-        }
-        i += 1;
-    }
-    i
+    find(s, b).unwrap_or(s.len())
 }
 
 // What stands before the first b.
+#[tactic(auto, unfolding(crate::specs::Pieces::up_to))]
 pub fn up_to(s: &[u8], b: u8) -> &[u8]
     ensures { result.now ≡ up_to b s.now }
 {
-    let end = place(s, b);
-    &s[..end]
+    &s[..place(s, b)]
 }
 
 // What stands behind the first b.
+#[tactic(auto, unfolding(crate::specs::Pieces::behind))]
 pub fn behind(s: &[u8], b: u8) -> &[u8]
     ensures { result.now ≡ behind b s.now }
 {
-    let end = place(s, b);
-    if end < s.len() {
-        let next = end + 1;
-        return &s[next..];
+    match &s[place(s, b)..] {
+        [_, rest @ ..] => rest,
+        none => none,
     }
-    &s[end..]
 }
 
 // What stands behind the blanks at the beginning.
+#[tactic(auto, unfolding(crate::specs::Pieces::unblank))]
 pub fn unblank(s: &[u8]) -> &[u8]
     ensures { result.now ≡ unblank s.now }
 {
-    let mut i: usize = 0;
-    while i < s.len() {
-        if !is(32, s[i]) {
-            return &s[i..];
-        }
-        i += 1;
+    let mut rest = s;
+    while let [b' ' | b'\t', more @ ..] = rest {
+        rest = more;
     }
-    &s[i..]
+    rest
 }
 
-// The value of a digit from `low` to 9; 1,000 for any other byte.
-fn digit(low: u8, x: u8) -> u32
+// The value of a digit from `low` to 9.
+fn digit(low: u8, x: u8) -> Option<u16>
     requires { low ≤ 1 }
-    ensures { (result ≡ digit_from low x) × (result ≤ 1000) }
+    ensures { Below 10 result (digit_from low x) }
 {
-    if x < 48 + low {
-        return 1000;
+    if x < b'0' + low || b'9' < x {
+        return None;
     }
-    if 57 < x {
-        return 1000;
-    }
-    (x - 48) as u32
+    Some(u16::from(x - b'0'))
 }
 
-// The number that a word is; 1,000 or more where it is none.
-pub fn number(s: &[u8]) -> u32
-    ensures { result ≡ number s.now }
+// The number that a word is: one to three digits, without a leading zero.
+#[tactic(auto, unfolding(crate::specs::Pieces::number))]
+pub fn number(s: &[u8]) -> Option<u16>
+    ensures { Below 1000 result (number s.now) }
 {
-    if s.len() == 1 {
-        return digit(0, s[0]);
+    match s {
+        [a] => digit(0, *a),
+        [a, b] => Some(digit(1, *a)? * 10 + digit(0, *b)?),
+        [a, b, c] => Some(digit(1, *a)? * 100 + digit(0, *b)? * 10 + digit(0, *c)?),
+        _ => None,
     }
-    if s.len() == 2 {
-        return digit(1, s[0]) * 10 + digit(0, s[1]);
-    }
-    if s.len() == 3 {
-        return digit(1, s[0]) * 100 + digit(0, s[1]) * 10 + digit(0, s[2]);
-    }
-    1000
 }
 
-// The address of four octets; 2 ^ 32 where one is none.
-fn joined(a: u32, b: u32, c: u32, d: u32) -> u64
-    ensures { result ≡ joined a b c d }
+// The same, if it is below a limit.
+pub(crate) fn number_below(s: &[u8], limit: u16) -> Option<u8>
+    requires { limit ≤ 256 }
+    ensures { Below limit result (number s.now) }
 {
-    if 256 <= a {
-        return 4294967296;
+    let n = number(s)?;
+    if limit <= n {
+        return None;
     }
-    if 256 <= b {
-        return 4294967296;
-    }
-    if 256 <= c {
-        return 4294967296;
-    }
-    if 256 <= d {
-        return 4294967296;
-    }
-    (((a * 256 + b) * 256 + c) * 256 + d) as u64
+    Some(n as u8)
 }
 
-// The address that a word is; 2 ^ 32 where it is none.
-fn address(s: &[u8]) -> u64
-    ensures { result ≡ address s.now }
+// The address that a word is.
+#[tactic(auto, unfolding(crate::specs::Pieces::address, crate::specs::Pieces::joined))]
+fn address(s: &[u8]) -> Option<u32>
+    ensures { Below 4294967296 result (address s.now) }
 {
-    let second = behind(s, 46);
-    let third = behind(second, 46);
-    let a = number(up_to(s, 46));
-    let b = number(up_to(second, 46));
-    let c = number(up_to(third, 46));
-    let d = number(behind(third, 46));
-    joined(a, b, c, d)
+    let second = behind(s, b'.');
+    let third = behind(second, b'.');
+    let a = number_below(up_to(s, b'.'), 256)?;
+    let b = number_below(up_to(second, b'.'), 256)?;
+    let c = number_below(up_to(third, b'.'), 256)?;
+    let d = number_below(behind(third, b'.'), 256)?;
+    Some(join4(a, b, c, d))
 }
 
 // Is a word `default`?
+#[tactic(auto, unfolding(crate::specs::Pieces::is_default))]
 fn is_default(s: &[u8]) -> bool
     ensures { result ≡ is_default s.now }
 {
-    if s.len() != 7 {
-        return false;
-    }
-    if s[0] != 100 {
-        return false;
-    }
-    if s[1] != 101 {
-        return false;
-    }
-    if s[2] != 102 {
-        return false;
-    }
-    if s[3] != 97 {
-        return false;
-    }
-    if s[4] != 117 {
-        return false;
-    }
-    if s[5] != 108 {
-        return false;
-    }
-    s[6] == 116
+    matches!(s, b"default")
 }
 
-// The address of a prefix, as it is written; 2 ^ 32 where it is none.
-pub fn prefix_address(w: &[u8]) -> u64
-    ensures { result ≡ prefix_address w.now }
+// The address of a prefix, as it is written.
+#[tactic(auto, unfolding(crate::specs::Pieces::prefix_address))]
+pub fn prefix_address(w: &[u8]) -> Option<u32>
+    ensures { Below 4294967296 result (prefix_address w.now) }
 {
     if is_default(w) {
-        return 0;
+        return Some(0);
     }
-    address(up_to(w, 47))
+    address(up_to(w, b'/'))
 }
 
-// The length of a prefix; above 32 where it is none.
-pub fn prefix_length(w: &[u8]) -> u32
-    ensures { result ≡ prefix_length w.now }
+// The length of a prefix.
+#[tactic(auto, unfolding(crate::specs::Pieces::prefix_length))]
+pub fn prefix_length(w: &[u8]) -> Option<u8>
+    ensures { Below 33 result (prefix_length w.now) }
 {
     if is_default(w) {
-        return 0;
+        Some(0)
+    } else if has(w, b'/') {
+        number_below(behind(w, b'/'), 33)
+    } else {
+        Some(32)
     }
-    if place(w, 47) < w.len() {
-        return number(behind(w, 47));
-    }
-    32
 }

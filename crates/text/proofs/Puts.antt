@@ -1,10 +1,11 @@
 -- Laws of text that is laid into a buffer piece by piece. Assumes nothing.
-use mathlib.Core.Path.{◌≡◌, sym, ap, ap₂, subst, ◌∙◌}
+use mathlib.Core.Path.{◌≡◌, refl, sym, ap, ap₂, subst, ◌∙◌}
 use mathlib.Core.List.{List, [], ◌∷◌, ◌++◌}
-use Prim.Native.Nat.{ℕ, ◌+◌, ◌≤◌, ◌<◌}
+use Prim.Native.Nat.{ℕ, ◌+◌, ◌-◌, ◌≤◌, ◌<◌}
 use native.Mathlib.Numerals.{add-one}
 use native.Mathlib.Omega.{arith}
 use lib.ListN.{length, take, drop, set, length-append}
+use borrow.Rule.Slice.PartMut.{put_mid, Post-is}
 use lib.Seq.{set_split}
 use Rattle.records.specs.Sized.{laid}
 use Rattle.records.proofs.Laid.{laid_none, laid_then, length-laid}
@@ -27,6 +28,12 @@ put_one o at b fits =
       fits = omega arith;
       lays = set_split o at b fits ∙ ap (λ (k : ℕ). take at o ++ (b ∷ drop k o)) (sym (add-one at));
     }
+
+-- Bytes that are copied.
+pub put_copied : (bs cs o : List ℕ) (at : ℕ) → cs ≡ bs → at + length bs ≤ length o → Put bs at (at + length bs) o (put_mid at (at + length bs - at) o cs)
+unfolding laid
+put_copied bs cs o at same fits =
+    record { ends = refl; fits = fits; lays = rw (same, Post-is at (at + length bs) o (omega arith)) }
 
 module _ {ws : List ℕ} {at r : ℕ} {o o' : List ℕ} (p : Put ws at r o o') where
   -- The buffer keeps its length.

@@ -12,14 +12,13 @@ use Rattle.refusals.proofs.Judged.{gives_any, refuses_any}
 use Rattle.records.specs.Sized.{records_in, Bytes}
 use Rattle.records.specs.Forms.{size_of}
 use Rattle.records.specs.declared.Form.{Form}
-use Rattle.calls.specs.declared.Rewritten.{Rewritten}
-use Rattle.calls.specs.declared.Rewritten.TheVariants.{Records, Refused}
+use Rattle.std.specs.Prelude.{Result, Ok, Err}
+use Rattle.refusals.specs.Numbers.{number_of}
+use Rattle.refusals.specs.declared.Refusal.{Refusal}
 use Rattle.calls.specs.Conditions.{Guarded}
-use Rattle.calls.specs.Rewriting.{count_of, result_of, rewrite_rules, reply_by, rewrite_reply, written_of, RewritesBy, Rewrites}
+use Rattle.calls.specs.Rewriting.{Outcome, count_of, result_of, rewrite_rules, reply_by, rewrite_reply, written_of, RewritesBy, Rewrites}
 use Rattle.calls.proofs.Engines.{by_reply, by_records, by_length, by_reads}
 use Rattle.calls.proofs.Refusals.{rewrite_guarded}
-use Rattle.holes.specs.declared.Listed.{Listed}
-use Rattle.holes.specs.declared.Listed.TheVariants.{Records as Listing, Refused as NotListed}
 use Rattle.holes.specs.Listing.{holes_of, unrouted_rules, listed_count, Lists}
 use Rattle.holes.proofs.Calls.{unrouted-listed, unrouted-length, unrouted-reads}
 use Rattle.text.specs.Text.{lines_in, change_line, total_end}
@@ -32,53 +31,53 @@ said_refused before number index (refuses m i) e = cc
 
 -- ---- Of a rewrite, by any engine.
 module _ (form : Form) (rules : List Rule) (t : List ℕ) (mode default : ℕ) (ranks o : List ℕ) (guarded : Guarded form rules t mode default ranks (length o)) (o' : List ℕ) where
-  pub by_text : (hex hops : Bool) → Bytes t → (r : Rewritten) → RewritesBy (size_of form) rules t mode default ranks o r o'
+  pub by_text : (hex hops : Bool) → Bytes t → (r : Outcome) → RewritesBy (size_of form) rules t mode default ranks o r o'
       → rewritten_text (size_of form) hex hops r o' ≡ reply_text (size_of form) hex hops (records_in (size_of form) t) (reply_by (size_of form) rules t mode default ranks)
   unfolding rewritten_text reply_text result_of
-  by_text hex hops bytes (Records count change) ok =
+  by_text hex hops bytes (Ok w) ok =
       ap₂ (λ (rs : List Route) (z : ℤ). lines_in (size_of form) hex hops rs ++ change_line z)
-      (by_reads form rules t mode default ranks o guarded (Records count change) o' ok count change refl bytes)
-      (by_records form rules t mode default ranks o guarded (Records count change) o' ok count change refl).2
-      ∙ sym (ap (reply_text (size_of form) hex hops (records_in (size_of form) t)) (by_reply form rules t mode default ranks o guarded (Records count change) o' ok count change refl))
-  by_text hex hops bytes (Refused number index) ok =
-      sym (ap (reply_text (size_of form) hex hops (records_in (size_of form) t)) (said_refused (records_in (size_of form) t) number index (reply_by (size_of form) rules t mode default ranks) ok.answer))
+      (by_reads form rules t mode default ranks o guarded (Ok w) o' ok w.count w.change refl bytes)
+      (by_records form rules t mode default ranks o guarded (Ok w) o' ok w.count w.change refl).2
+      ∙ sym (ap (reply_text (size_of form) hex hops (records_in (size_of form) t)) (by_reply form rules t mode default ranks o guarded (Ok w) o' ok w.count w.change refl))
+  by_text hex hops bytes (Err e) ok =
+      sym (ap (reply_text (size_of form) hex hops (records_in (size_of form) t)) (said_refused (records_in (size_of form) t) (number_of e.cause) e.index (reply_by (size_of form) rules t mode default ranks) ok.answer))
 
   -- The records that are answered with stand in the output.
-  pub by_fits : (r : Rewritten) → RewritesBy (size_of form) rules t mode default ranks o r o' → size_of form * count_of r ≤ length o'
-  by_fits (Records count change) ok =
-      let f = by_records form rules t mode default ranks o guarded (Records count change) o' ok count change refl in
+  pub by_fits : (r : Outcome) → RewritesBy (size_of form) rules t mode default ranks o r o' → size_of form * count_of r ≤ length o'
+  by_fits (Ok w) ok =
+      let f = by_records form rules t mode default ranks o guarded (Ok w) o' ok w.count w.change refl in
       let n = ap (λ (m : ℕ). size_of form * m) f.1 in
-      omega (arith, f.0.enough_output, n, by_length form rules t mode default ranks o guarded (Records count change) o' ok)
-  by_fits (Refused number index) ok = omega arith
+      omega (arith, f.0.enough_output, n, by_length form rules t mode default ranks o guarded (Ok w) o' ok)
+  by_fits (Err e) ok = omega arith
 
 -- By that over nodes.
 module _ (form : Form) (t : List ℕ) (mode default : ℕ) (ranks o : List ℕ) (words : ℕ) (o' w' : List ℕ) where
   guarded : Guarded form (rewrite_rules form t mode default ranks (length o) words) t mode default ranks (length o)
   guarded = rewrite_guarded form t mode default ranks (length o) words
 
-  pub rewritten_text_lem : (hex hops : Bool) → Bytes t → (r : Rewritten) → Rewrites form t mode default ranks o words r o' w'
+  pub rewritten_text_lem : (hex hops : Bool) → Bytes t → (r : Outcome) → Rewrites form t mode default ranks o words r o' w'
       → rewritten_text (size_of form) hex hops r o' ≡ reply_text (size_of form) hex hops (records_in (size_of form) t) (rewrite_reply form t mode default ranks (length o) words)
   rewritten_text_lem hex hops bytes r ok = by_text form (rewrite_rules form t mode default ranks (length o) words) t mode default ranks o guarded o' hex hops bytes r ok.inner
 
-  pub rewritten_fits : (r : Rewritten) → Rewrites form t mode default ranks o words r o' w' → size_of form * count_of r ≤ length o'
+  pub rewritten_fits : (r : Outcome) → Rewrites form t mode default ranks o words r o' w' → size_of form * count_of r ≤ length o'
   rewritten_fits r ok = by_fits form (rewrite_rules form t mode default ranks (length o) words) t mode default ranks o guarded o' r ok.inner
 
 -- ---- A list of what has no route.
 module _ (form : Form) (t o o' : List ℕ) where
-  pub listed-text : (hex total : Bool) (r : Listed) → Lists form t o r o'
+  pub listed-text : (hex total : Bool) (r : Result ℕ Refusal) → Lists form t o r o'
       → listed_text (size_of form) hex total r o' ≡ list_text (size_of form) hex total (judge (unrouted_rules form t (length o)) (holes_of (size_of form) t))
   unfolding listed_text list_text
-  listed-text hex total (Listing count) ok =
-      ap₂ (λ (rs : List Route) (n : ℕ). lines_in (size_of form) hex false rs ++ total_end total n) (unrouted-reads form t o (Listing count) o' ok count refl)
-      (sym ((unrouted-listed form t o (Listing count) o' ok count).0 refl).2)
+  listed-text hex total (Ok count) ok =
+      ap₂ (λ (rs : List Route) (n : ℕ). lines_in (size_of form) hex false rs ++ total_end total n) (unrouted-reads form t o (Ok count) o' ok count refl)
+      (sym ((unrouted-listed form t o (Ok count) o' ok count).0 refl).2)
       ∙ sym (ap (list_text (size_of form) hex total) (gives_any (unrouted_rules form t (length o)) (length (holes_of (size_of form) t)) count (holes_of (size_of form) t) (sym ok.answer)))
-  listed-text hex total (NotListed number index) ok =
-      sym (ap (list_text (size_of form) hex total) (refuses_any (unrouted_rules form t (length o)) (length (holes_of (size_of form) t)) (holes_of (size_of form) t) number index (sym ok.answer)))
+  listed-text hex total (Err e) ok =
+      sym (ap (list_text (size_of form) hex total) (refuses_any (unrouted_rules form t (length o)) (length (holes_of (size_of form) t)) (holes_of (size_of form) t) (number_of e.cause) e.index (sym ok.answer)))
 
   -- The records that are answered with stand in the output.
-  pub listed-fits : (r : Listed) → Lists form t o r o' → size_of form * listed_count r ≤ length o'
-  listed-fits (Listing count) ok =
-      let f = (unrouted-listed form t o (Listing count) o' ok count).0 refl in
+  pub listed-fits : (r : Result ℕ Refusal) → Lists form t o r o' → size_of form * listed_count r ≤ length o'
+  listed-fits (Ok count) ok =
+      let f = (unrouted-listed form t o (Ok count) o' ok count).0 refl in
       let n = ap (λ (m : ℕ). size_of form * m) f.2 in
-      omega (arith, f.1, n, unrouted-length form t o (Listing count) o' ok)
-  listed-fits (NotListed number index) ok = omega arith
+      omega (arith, f.1, n, unrouted-length form t o (Ok count) o' ok)
+  listed-fits (Err e) ok = omega arith

@@ -1,6 +1,8 @@
 -- The text of answers, as document 01's programs print it, in ASCII: each line ends in a line feed.
 use Rattle.std.specs.Prelude.{ℕ, suc, ◌+◌, ◌-◌, ◌*◌, ◌/◌, ◌%◌, ◌≤◌, ◌≡◌, Bool, false, cond, List, [], ◌∷◌, ◌++◌, eqb, ℤ, pos, negsuc, length}
 use Rattle.io.specs.Digits.{last_digits}
+use Rattle.refusals.specs.Numbers.{number_of}
+use Rattle.refusals.specs.declared.Refusal.{Refusal}
 use Rattle.records.specs.Sized.{laid}
 use Rattle.theory.specs.Routes.{Route}
 use Rattle.text.specs.Places.{places}
@@ -63,6 +65,10 @@ change_line n = 99 ∷ 104 ∷ 97 ∷ 110 ∷ 103 ∷ 101 ∷ 32 ∷ signed n ++
 unfoldable pub refused_line : ℕ → ℕ → List ℕ
 refused_line number index =
     114 ∷ 101 ∷ 102 ∷ 117 ∷ 115 ∷ 101 ∷ 100 ∷ 32 ∷ decimal number ++ (32 ∷ 97 ∷ 116 ∷ 32 ∷ decimal index ++ (10 ∷ []))
+
+-- That of a refusal.
+abbrev pub refusal_line : Refusal → List ℕ
+refusal_line refusal = refused_line (number_of refusal.cause) refusal.index
 
 -- The line `hop H length L`.
 unfoldable pub found_line : ℕ → ℕ → List ℕ

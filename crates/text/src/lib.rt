@@ -1,15 +1,26 @@
 // The text of answers, as document 01's programs print it: laid into a lent buffer from a place on. Each function says where its text ends.
+// Functions in place of `Display`: each promises the bytes that it lays in memory of fixed size, which a formatter would not say.
 
 #![tactic(auto)]
 
 pub mod answers;
 
-ghost use Rattle.std.specs.Prelude.{◌≡◌, [], ◌∷◌, ◌++◌, ◌+◌, ◌-◌, ◌*◌, ◌/◌, ◌^◌, ◌≤◌, ◌<◌, nat_abs, length};
+ghost use Rattle.std.specs.Prelude.{◌≡◌, [], ◌∷◌, ◌++◌, ◌+◌, ◌-◌, ◌*◌, ◌/◌, ◌^◌, ◌≤◌, ◌<◌, length};
 ghost use Rattle.records.specs.Sized.{IsSize, width_in, records_in, route_in, routes_in};
 ghost use Rattle.text.specs.Ipv6.{hex16, ipv6, group_part};
-ghost use Rattle.text.specs.Text.{Put, decimal, signed, dotted, hop_end, address_in, line_in, lines_in, change_line, refused_line, found_line, addresses_line, unrouted_line, total_end};
+ghost use Rattle.text.specs.Text.{Put, decimal, signed, dotted, hop_end, address_in, line_in, lines_in, change_line, refusal_line, found_line, addresses_line, unrouted_line, total_end};
 
 use records::sized::{hop_of, key_at, length_at};
+use refusals::Refusal;
+
+// How records are written as lines.
+#[derive(Clone, Copy, Debug, PartialEq, Eq)]
+pub struct Style {
+    // An address of 64 bits in hex digits, not as an IPv6 address.
+    pub hex: bool,
+    // A record's hop behind its length.
+    pub hops: bool,
+}
 
 // One byte.
 fn put_byte(b: u8, at: usize, out: &mut [u8]) -> usize
@@ -25,12 +36,8 @@ pub fn put_bytes(bytes: &[u8], at: usize, out: &mut [u8]) -> usize
     requires { at + length bytes.now ≤ length out.old }
     ensures { Put bytes.now at result out.old out.new }
 {
-    let mut end = at;
-    let mut i: usize = 0;
-    while i < bytes.len() {
-        end = put_byte(bytes[i], end, out);
-        i += 1;
-    }
+    let end = at + bytes.len();
+    out[at..end].copy_from_slice(bytes);
     end
 }
 
@@ -61,7 +68,7 @@ pub fn put_last(n: u64, at: usize, out: &mut [u8]) -> usize
     ensures upper_bound { result ≤ at + 21 }
 {
     let end = put_decimal(n, at, out);
-    put_byte(10, end, out)
+    put_byte(b'\n', end, out)
 }
 
 // An address as four numbers with dots between them, and a slash.
@@ -70,10 +77,11 @@ pub fn put_dotted(address: u32, at: usize, out: &mut [u8]) -> usize
     ensures put { Put (dotted address ++ (47 ∷ [])) at result out.old out.new }
     ensures upper_bound { result ≤ at + 16 }
 {
-    let first = put_octet((address / 16777216) as u8, 46, at, out);
-    let second = put_octet((address / 65536 % 256) as u8, 46, first, out);
-    let third = put_octet((address / 256 % 256) as u8, 46, second, out);
-    put_octet((address % 256) as u8, 47, third, out)
+    let [a, b, c, d] = address.to_be_bytes();
+    let first = put_octet(a, b'.', at, out);
+    let second = put_octet(b, b'.', first, out);
+    let third = put_octet(c, b'.', second, out);
+    put_octet(d, b'/', third, out)
 }
 
 // Where not all that is left is zero, a group of 16 bits in hex, without leading zeros, and a colon.
@@ -88,7 +96,7 @@ fn put_group(group: u16, left: u64, at: usize, out: &mut [u8]) -> usize
     let mut text = [0u8; 16];
     let k = io::hex(group as u64, 1, &mut text);
     let end = put_bytes(&text[..k], at, out);
-    put_byte(58, end, out)
+    put_byte(b':', end, out)
 }
 
 // An address of 64 bits as the upper half of an IPv6 address, and a slash: the groups up to the last that is not zero, and `::`.
@@ -119,7 +127,7 @@ pub fn put_hex16(address: u64, at: usize, out: &mut [u8]) -> usize
     let mut text = [0u8; 16];
     let k = io::hex(address, 16, &mut text);
     let end = put_bytes(&text[..k], at, out);
-    put_byte(47, end, out)
+    put_byte(b'/', end, out)
 }
 
 // A length and, where `hops` says so, one space and the hop; and the line feed.
@@ -129,10 +137,10 @@ pub fn put_ending(len: u8, hop: u8, hops: bool, at: usize, out: &mut [u8]) -> us
     ensures upper_bound { result ≤ at + 8 }
 {
     if hops {
-        let end = put_octet(len, 32, at, out);
-        put_octet(hop, 10, end, out)
+        let end = put_octet(len, b' ', at, out);
+        put_octet(hop, b'\n', end, out)
     } else {
-        put_octet(len, 10, at, out)
+        put_octet(len, b'\n', at, out)
     }
 }
 
@@ -153,59 +161,34 @@ fn put_address(key: u64, size: usize, hex: bool, at: usize, out: &mut [u8]) -> u
 }
 
 // The line of record i. It has at most three times the record's bytes.
-fn put_record(
-    table: &[u8],
-    size: usize,
-    i: usize,
-    hex: bool,
-    hops: bool,
-    at: usize,
-    out: &mut [u8],
-) -> usize
+fn put_record(table: &[u8], size: usize, i: usize, style: Style, at: usize, out: &mut [u8]) -> usize
     requires size { IsSize size × (i < records_in size table.now) }
     requires size_in_bounds { at + 3 * size ≤ length out.old }
-    ensures put { Put (line_in size hex hops (route_in size table.now i)) at result out.old out.new }
+    ensures put { Put (line_in size style.hex style.hops (route_in size table.now i)) at result out.old out.new }
     ensures upper_bound { result ≤ at + 3 * size }
 {
-    let end = put_address(key_at(table, size, i), size, hex, at, out);
+    let end = put_address(key_at(table, size, i), size, style.hex, at, out);
     put_ending(
         length_at(table, size, i),
         hop_of(table, size, i),
-        hops,
+        style.hops,
         end,
         out,
     )
 }
 
 // The lines of a table's records.
-pub fn put_records(
-    table: &[u8],
-    size: usize,
-    hex: bool,
-    hops: bool,
-    at: usize,
-    out: &mut [u8],
-) -> usize
+pub fn put_records(table: &[u8], size: usize, style: Style, at: usize, out: &mut [u8]) -> usize
     requires size { IsSize size }
     requires table_in_bounds { at + 3 * length table.now ≤ length out.old }
-    ensures put { Put (lines_in size hex hops (routes_in size table.now)) at result out.old out.new }
+    ensures put { Put (lines_in size style.hex style.hops (routes_in size table.now)) at result out.old out.new }
     ensures upper_bound { result ≤ at + 3 * length table.now }
 {
-    let n = table.len() / size;
     let mut end = at;
-    let mut i: usize = 0;
-    while i < n {
-        end = put_record(table, size, i, hex, hops, end, out);
-        i += 1;
+    for i in 0..table.len() / size {
+        end = put_record(table, size, i, style, end, out);
     }
     end
-}
-
-// How far a number is from 0.
-fn distance(n: i64) -> u64
-    ensures { result ≡ nat_abs n }
-{
-    if n < 0 { (-1 - n) as u64 + 1 } else { n as u64 }
 }
 
 // A number with a sign only if it is negative.
@@ -215,10 +198,10 @@ fn put_signed(n: i64, at: usize, out: &mut [u8]) -> usize
     ensures upper_bound { result ≤ at + 21 }
 {
     if n < 0 {
-        let begin = put_byte(45, at, out);
-        put_decimal(distance(n), begin, out)
+        let begin = put_byte(b'-', at, out);
+        put_decimal(n.unsigned_abs(), begin, out)
     } else {
-        put_decimal(distance(n), at, out)
+        put_decimal(n.unsigned_abs(), at, out)
     }
 }
 
@@ -229,18 +212,18 @@ pub fn put_change(change: i64, at: usize, out: &mut [u8]) -> usize
 {
     let word = put_bytes(b"change ", at, out);
     let end = put_signed(change, word, out);
-    put_byte(10, end, out)
+    put_byte(b'\n', end, out)
 }
 
 // The line `refused N at I`.
-pub fn put_refused(number: u8, index: usize, at: usize, out: &mut [u8]) -> usize
+pub fn put_refused(refusal: Refusal, at: usize, out: &mut [u8]) -> usize
     requires { at + 36 ≤ length out.old }
-    ensures { Put (refused_line number index) at result out.old out.new }
+    ensures { Put (refusal_line refusal) at result out.old out.new }
 {
     let word = put_bytes(b"refused ", at, out);
-    let end = put_octet(number, 32, word, out);
+    let end = put_octet(refusal.cause.number(), b' ', word, out);
     let place = put_bytes(b"at ", end, out);
-    put_last(index as u64, place, out)
+    put_last(refusal.index as u64, place, out)
 }
 
 // The line `hop H length L`.
@@ -249,9 +232,9 @@ pub fn put_found(hop: u8, len: u8, at: usize, out: &mut [u8]) -> usize
     ensures { Put (found_line hop len) at result out.old out.new }
 {
     let word = put_bytes(b"hop ", at, out);
-    let end = put_octet(hop, 32, word, out);
+    let end = put_octet(hop, b' ', word, out);
     let place = put_bytes(b"length ", end, out);
-    put_octet(len, 10, place, out)
+    put_octet(len, b'\n', place, out)
 }
 
 // The line `addresses N`.
@@ -273,6 +256,7 @@ fn put_unrouted(n: u64, at: usize, out: &mut [u8]) -> usize
 }
 
 // The same where `total` says so, else nothing.
+#[tactic(auto, using(crate::proofs::Puts::put_none), unfolding(crate::specs::Text::total_end))]
 pub fn put_total(n: u64, total: bool, at: usize, out: &mut [u8]) -> usize
     requires { at + 30 ≤ length out.old }
     ensures { Put (total_end total n) at result out.old out.new }

@@ -9,11 +9,9 @@ use lib.ListN.{length}
 use Rattle.theory.specs.Routes.{Route, All, nil, cons}
 use Rattle.text.specs.Text as text
 use Rattle.text.specs.Text.{line_of, lines_of}
-use Rattle.tabletext.specs.Reading.{lines_in, marked, unmarked, Reading, before, with_line, read_lines, says, read_into, Written, Reads}
-use Rattle.tabletext.specs.declared.Said.{Said}
-use Rattle.tabletext.specs.declared.Said.TheVariants.{Record}
-use Rattle.tabletext.specs.declared.Read.{Read}
-use Rattle.tabletext.specs.declared.Read.TheVariants.{Records}
+use Rattle.std.specs.Prelude.{Ok}
+use Rattle.tabletext.specs.Lines.{Said, entry}
+use Rattle.tabletext.specs.Reading.{lines_in, marked, unmarked, Read, Reading, before, with_line, read_lines, says, read_into, Written, Reads}
 use Rattle.tabletext.proofs.LineLaws.{first-line}
 use Rattle.tabletext.proofs.Free.{Free, up_to-joined, behind-joined, has-joined}
 use Rattle.tabletext.proofs.Unsaid.{blank_says_nothing, none}
@@ -28,11 +26,11 @@ line_first l s f =
 
 -- What is read of routes.
 abbrev pub back : ℕ → ℕ → List Route → Reading
-back n k rs = record { routes = rs; lines = upward k (length rs); answer = Records (n + length rs) }
+back n k rs = record { routes = rs; lines = upward k (length rs); answer = Ok (n + length rs) }
 
 -- A record's line, and more.
 read_record : (hops : Bool) (n k : ℕ) (r : Route) (rest : Reading) (same : Reading) → n < 1024
-    → with_line n k (Record r.addr r.len r.hop) same rest ≡ before r k rest
+    → with_line n k (entry r.addr r.len r.hop) same rest ≡ before r k rest
 read_record hops n k r rest same low = rw (lt-ltb n 1024 low)
 
 lines_back : (hops : Bool) (n k : ℕ) (rs : List Route) → All (Held hops) rs → n + length rs ≤ 1024 → read_lines hops n k (lines_in (lines_of hops rs)) ≡ back n k rs
@@ -48,7 +46,7 @@ lines_back hops n k (r ∷ rs) (cons g gs) few =
     ∙ ap (λ (w : Said). with_line n k w (read_lines hops n (k + 1) (lines_in s)) (read_lines hops (n + 1) (k + 1) (lines_in s))) (line-said hops r g)
     ∙ read_record hops n k r (read_lines hops (n + 1) (k + 1) (lines_in s)) (read_lines hops n (k + 1) (lines_in s)) (omega arith)
     ∙ ap (λ (x : Reading). before r k x) (lines_back hops (n + 1) (k + 1) rs gs (omega arith))
-    ∙ ap (λ (m : ℕ). record { routes = r ∷ rs; lines = k ∷ upward (k + 1) (length rs); answer = Records m }) count
+    ∙ ap (λ (m : ℕ). record { routes = r ∷ rs; lines = k ∷ upward (k + 1) (length rs); answer = Ok m }) count
 
 -- It begins with no byte order mark.
 unmarked-lines : (hops : Bool) (rs : List Route) → All (Held hops) rs → unmarked (lines_of hops rs) ≡ lines_of hops rs

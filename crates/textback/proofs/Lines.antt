@@ -11,9 +11,8 @@ use Rattle.theory.specs.Routes.{Route}
 use Rattle.records.specs.Wire.{join}
 use Rattle.text.specs.Text.{decimal, dotted, hop_end, address_in, line_in, line_of}
 use Rattle.tabletext.specs.Pieces.{is, up_to, behind, unblank, number, joined, address, is_default, prefix_address, prefix_length}
-use Rattle.tabletext.specs.Lines.{end_of_set, end_of_map, of_prefix, of_words, of_body, of_line, said}
+use Rattle.tabletext.specs.Lines.{entry, end_of_set, end_of_map, of_prefix, of_words, of_body, of_line, said}
 use Rattle.tabletext.specs.Reading.{marked, unmarked}
-use Rattle.tabletext.specs.declared.Said.TheVariants.{Record}
 use Rattle.tabletext.proofs.LineLaws.{map-hop}
 use Rattle.tabletext.proofs.Free.{Free, nil, cons, free_append, up_to-joined, up_to_all, behind-joined, behind_all, has-joined, has_none, unblank-kept, unreturned_free}
 use Rattle.textback.specs.Held.{Held}
@@ -203,7 +202,7 @@ module _ (hops : Bool) (r : Route) (g : Held hops r) where
       rw (prefix-address r.addr r.len g.addr g.len, prefix-length r.addr r.len g.addr g.len, lt-ltb r.addr 4294967296 g.addr, le-leb r.len 32 g.len)
 
 -- The line of a map's route says the route.
-map-said : (r : Route) → Held true r → said true (body_of true r) ≡ Record r.addr r.len r.hop
+map-said : (r : Route) → Held true r → said true (body_of true r) ≡ entry r.addr r.len r.hop
 map-said r g =
     let p = prefix_of r.addr r.len in
     let low = g.hop in
@@ -217,10 +216,10 @@ map-said r g =
     ∙ words-prefix true r g p (decimal r.hop) (up_to-joined 32 p 32 (decimal r.hop) (prefix_plain true r g) refl) rest
     ∙ prefix_end true r g (decimal r.hop)
     ∙ sym (map-hop r.addr r.len (decimal r.hop) (begins-some (decimal r.hop) b) end (omega (arith, hop)))
-    ∙ ap (λ (h : ℕ). Record r.addr r.len h) hop
+    ∙ ap (λ (h : ℕ). entry r.addr r.len h) hop
 
 -- The line of a set's route says the route.
-set-said : (r : Route) → Held false r → said false (body_of false r) ≡ Record r.addr r.len r.hop
+set-said : (r : Route) → Held false r → said false (body_of false r) ≡ entry r.addr r.len r.hop
 unfolding end_of_set unblank
 set-said r g =
     let p = prefix_of r.addr r.len in
@@ -231,10 +230,10 @@ set-said r g =
     body_words false r g
     ∙ words-prefix false r g p [] (ap (up_to 32) same ∙ up_to_all 32 p plain) (ap (λ (l : List ℕ). unblank (behind 32 l)) same ∙ ap unblank (behind_all 32 p plain))
     ∙ prefix_end false r g []
-    ∙ ap (λ (h : ℕ). Record r.addr r.len h) (sym none)
+    ∙ ap (λ (h : ℕ). entry r.addr r.len h) (sym none)
 
 -- The line of a route says the route.
-pub line-said : (hops : Bool) (r : Route) → Held hops r → said hops (body_of hops r) ≡ Record r.addr r.len r.hop
+pub line-said : (hops : Bool) (r : Route) → Held hops r → said hops (body_of hops r) ≡ entry r.addr r.len r.hop
 line-said true r g = map-said r g
 line-said false r g = set-said r g
 

@@ -24,6 +24,7 @@ fn answer_in(table: &[u8], form: Form, output: &mut [u8], out: &mut [u8]) -> usi
 }
 
 // The same with an output of 8,192 records.
+#[tactic(auto, unfolding(crate::specs::Printed::printed))]
 fn answer(table: &[u8], long: bool, out: &mut [u8]) -> usize
     requires { 393252 ≤ length out.old }
     ensures { Put (printed «long» table.now) 0 result out.old out.new }
@@ -34,18 +35,19 @@ fn answer(table: &[u8], long: bool, out: &mut [u8]) -> usize
     };
     if long {
         let mut output = [0u8; 131072];
-        return answer_in(table, form, &mut output, out);
+        answer_in(table, form, &mut output, out)
+    } else {
+        let mut output = [0u8; 65536];
+        answer_in(table, form, &mut output, out)
     }
-    let mut output = [0u8; 65536];
-    answer_in(table, form, &mut output, out)
 }
 
 // Is the first argument `64`?
 fn is_long(rt: &impl Env) -> bool {
     let mut word = [0u8; 4];
     match rt.arg(1, &mut word) {
-        Ok(2) => word[0] == 54 && word[1] == 52,
-        _ => false,
+        Ok(size) => word[..size] == b"64"[..],
+        Err(_) => false,
     }
 }
 
@@ -53,10 +55,7 @@ fn is_long(rt: &impl Env) -> bool {
 fn kept(read: usize, long: bool) -> usize
     ensures { result ≤ read }
 {
-    if long {
-        return read;
-    }
-    if read < 8200 { read } else { 8200 }
+    read.min(if long { 16400 } else { 8200 })
 }
 
 fn main(rt: HostRuntime) -> io::Result<()> {

@@ -40,9 +40,5 @@ pub fn key_contains(key: u64, len: u8, other: u64, other_len: u8) -> bool
 pub fn key_comes_before(a: u64, l: u8, b: u64, m: u8) -> bool
     ensures { (w x y : ℕ) → a ≡ key_of w x → b ≡ key_of w y → result ≡ (ltb x y || (eqb x y && ltb l m)) }
 {
-    if a < b {
-        true
-    } else {
-        if a == b { l < m } else { false }
-    }
+    (a, l) < (b, m)
 }

@@ -1,18 +1,17 @@
 -- How much work room a table needs: what an answer says, and which reply is right.
-use Rattle.std.specs.Prelude.{ℕ, ◌*◌, Bool, List}
-use Rattle.refusals.specs.Rules.{Reply, gives, refuses, judge}
+use Rattle.std.specs.Prelude.{ℕ, ◌*◌, Bool, List, Result}
+use Rattle.refusals.specs.Rules.{Reply, judge}
+use Rattle.refusals.specs.Numbers.{reply_of}
+use Rattle.refusals.specs.declared.Refusal.{Refusal}
 use Rattle.records.specs.Sized.{width_in, routes_in}
 use Rattle.records.specs.declared.Form.{Form}
 use Rattle.records.specs.Forms.{size_of}
 use Rattle.table.specs.TableRules.{form_rules}
 use Rattle.nodecount.specs.Nodes.{nodes}
-use Rattle.workroom.specs.declared.WorkWords.{WorkWords}
-use Rattle.workroom.specs.declared.WorkWords.TheVariants.{Words, Refused}
 
 -- It gives a number of words, or a refusal.
-abbrev pub words_says : WorkWords → Reply ℕ
-words_says (Words n) = gives n
-words_says (Refused number index) = refuses number index
+abbrev pub words_says : Result ℕ Refusal → Reply ℕ
+words_says = reply_of (λ n. n)
 
 -- The words for a table of records of this size: 160 for each node, by document 01.
 abbrev pub words_in : ℕ → List ℕ → ℕ

@@ -22,41 +22,15 @@ fn put_set(work: &mut [u32], top: usize, set: u64)
     work[top - 1] = (set / 4294967296) as u32;
 }
 
-// The writer after one position more, and its set laid if it is stored.
-pub fn push_at(writer: NodeWriter, work: &mut [u32], stored: bool, set: u64) -> NodeWriter
-    requires { MayPush writer (length work.old) stored }
-    ensures { DidPush writer stored set result work.old work.new }
-{
-    let mask = writer.mask;
-    let top = writer.top;
-    if stored {
-        put_set(work, top, set);
-        NodeWriter {
-            mask: mask * 2 + 1,
-            top: top - 2,
-        }
-    } else {
-        NodeWriter {
-            mask: mask * 2,
-            top,
-        }
-    }
-}
-
-// The same of a writer that is lent: its mask and top are altered where it stands.
+// Pushes one position more: a bit for it, and its set laid if it is stored.
 pub fn push(writer: &mut NodeWriter, work: &mut [u32], stored: bool, set: u64)
     requires { MayPush writer.old (length work.old) stored }
     ensures { DidPush writer.old stored set writer.new work.old work.new }
 {
-    *writer = push_at(*writer, work, stored, set);
-}
-
-// Lends a writer for one push, and hands it back.
-pub fn pushed(writer: NodeWriter, work: &mut [u32], stored: bool, set: u64) -> NodeWriter
-    requires { MayPush writer (length work.old) stored }
-    ensures { DidPush writer stored set result work.old work.new }
-{
-    let mut lent = writer;
-    push(&mut lent, work, stored, set);
-    lent
+    writer.mask *= 2;
+    if stored {
+        put_set(work, writer.top, set);
+        writer.mask += 1;
+        writer.top -= 2;
+    }
 }

@@ -5,9 +5,10 @@ use mathlib.Core.Bool.{Bool, true}
 use mathlib.Core.List.{List}
 use native.Mathlib.Omega.{arith}
 use borrow.Author.Rules.{rules}
+use Rattle.std.proofs.lemmas.Result.{err_from_is_err_and}
 use Rattle.theory.specs.Results.{start_of, throughout}
 use Rattle.theory.specs.Routes.{held}
-use Rattle.table.specs.Checking.{checked_says, check_reply_in}
+use Rattle.table.specs.Checking.{check_reply_in}
 use Rattle.nodecount.specs.Nodes.{nodes}
 use Rattle.refusals.specs.Rules.{gives}
 use Rattle.records.specs.Sized.{width_in, routes_in, Bytes}
@@ -38,30 +39,30 @@ pub returns-then-size-n : goal.returns-then-size-n
 returns-then-size-n c =
     let args = c.args in
     let size = c.size_of-size.ensures in
-    let valid = at_form args.form true args.table.now size.value (sym c.check_sized.ensures ∙ ap checked_says c.in-Valid.is) in
-    sym (query_long args.form _ _ _ _ valid (rw size.value at c.if-size-n.true))
+    let valid = at_form args.form true args.table.now size.value (sym c.in_ok-records.ensures) in
+    rw c.at.ensures (sym (query_long args.form _ _ _ _ valid (rw size.value at c.if-size-n.true)))
 
 pub count_nodes-requires : goal.count_nodes-requires
 count_nodes-requires c =
     let args = c.args in
     let size = c.size_of-size.ensures in
-    let valid = at_form args.form true args.table.now size.value (sym c.check_sized.ensures ∙ ap checked_says c.in-Valid.is) in
+    let valid = at_form args.form true args.table.now size.value (sym c.in_ok-records.ensures) in
     (size.size, rw size.value (checked_lawful args.form true _ _ valid (λ k. omega (arith, c.type_inv.table k))).table)
 
 pub returns-then-room-count_nodes : goal.returns-then-room-count_nodes
 returns-then-room-count_nodes c =
     let args = c.args in
     let size = c.size_of-size.ensures in
-    let valid = at_form args.form true args.table.now size.value (sym c.check_sized.ensures ∙ ap checked_says c.in-Valid.is) in
+    let valid = at_form args.form true args.table.now size.value (sym c.in_ok-records.ensures) in
     let short = c.if-room-count_nodes.true in
     let long = rw size.value at c.if-size-n.false in
-    sym (query_room args.form _ _ _ _ valid (omega (arith, long)) (omega (arith, short, rw size.value at c.count_nodes.ensures)))
+    rw c.at-then-room-count_nodes.ensures (sym (query_room args.form _ _ _ _ valid (omega (arith, long)) (omega (arith, short, rw size.value at c.count_nodes.ensures))))
 
 pub overflow_cast-records : goal.overflow_cast-records
 overflow_cast-records c =
     let args = c.args in
     let size = c.size_of-size.ensures in
-    let valid = at_form args.form true args.table.now size.value (sym c.check_sized.ensures ∙ ap checked_says c.in-Valid.is) in
+    let valid = at_form args.form true args.table.now size.value (sym c.in_ok-records.ensures) in
     let few = checked_few args.form true _ _ valid (λ k. omega (arith, c.type_inv.table k)) in
     search rules
 
@@ -69,28 +70,21 @@ pub covers_in_aggregate-requires : goal.covers_in_aggregate-requires
 covers_in_aggregate-requires c =
     let args = c.args in
     let size = c.size_of-size.ensures in
-    let valid = at_form args.form true args.table.now size.value (sym c.check_sized.ensures ∙ ap checked_says c.in-Valid.is) in
+    let valid = at_form args.form true args.table.now size.value (sym c.in_ok-records.ensures) in
     let query = c.half_query-query.ensures in
     let short = c.if-size-n.false in record { node = rw (size.value, checked_count args.form true _ _ valid) (checked_node args.form true _ _ valid (λ k. omega (arith, c.type_inv.table k))); depth_le_len = (omega arith, omega (arith, short)); aligned = rw query (query_aligned _ size.size args.table.now args.address args.len (omega (arith, short))); fact = (omega arith, rw query (query_within _ size.size args.table.now args.address args.len)) }
 
-pub returns-in-Refused : goal.returns-in-Refused
-returns-in-Refused c =
+pub returns-in_err-records : goal.returns-in_err-records
+returns-in_err-records c =
     let args = c.args in
-    let refused = at_form args.form true args.table.now c.size_of-size.ensures.value (sym c.check_sized.ensures ∙ ap checked_says c.in-Refused.is) in
-    sym (query_table args.form _ _ _ _ refused)
+    let p = err_from_is_err_and c.from_residual.result c.from_residual.ensures.1 in
+    let refused = at_form args.form true args.table.now c.size_of-size.ensures.value (sym c.in_err-records.ensures) in
+    rw (p.1, p.2) (sym (query_table args.form _ _ _ _ refused))
 
-pub returns-then-covers_in_aggregate : goal.returns-then-covers_in_aggregate
-returns-then-covers_in_aggregate c =
+pub returns : goal.returns
+returns c =
     let args = c.args in
     let size = c.size_of-size.ensures in
-    let valid = at_form args.form true args.table.now size.value (sym c.check_sized.ensures ∙ ap checked_says c.in-Valid.is) in
+    let valid = at_form args.form true args.table.now size.value (sym c.in_ok-records.ensures) in
     replied args.form _ _ _ _ _ _ size.value valid (λ k. omega (arith, c.type_inv.table k)) (omega (arith, c.if-size-n.false))
-    (omega (arith, c.count_nodes.ensures)) c.half_query-query.ensures (sym c.if-covers_in_aggregate.true ∙ c.covers_in_aggregate.ensures)
-
-pub returns-else-covers_in_aggregate : goal.returns-else-covers_in_aggregate
-returns-else-covers_in_aggregate c =
-    let args = c.args in
-    let size = c.size_of-size.ensures in
-    let valid = at_form args.form true args.table.now size.value (sym c.check_sized.ensures ∙ ap checked_says c.in-Valid.is) in
-    replied args.form _ _ _ _ _ _ size.value valid (λ k. omega (arith, c.type_inv.table k)) (omega (arith, c.if-size-n.false))
-    (omega (arith, c.count_nodes.ensures)) c.half_query-query.ensures (sym c.if-covers_in_aggregate.false ∙ c.covers_in_aggregate.ensures)
+    (omega (arith, c.count_nodes.ensures)) c.half_query-query.ensures c.covers_in_aggregate.ensures

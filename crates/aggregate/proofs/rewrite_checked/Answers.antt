@@ -5,6 +5,7 @@ use mathlib.Core.Path.{◌∙◌}
 use native.Mathlib.Omega.{arith}
 use borrow.Author.Rules.{rules}
 use lib.ListN.{length}
+use Rattle.calls.proofs.Modes.{number-used}
 use Rattle.records.proofs.SizedReading.{size-some}
 use Rattle.calls.proofs.Ending.{change-fits, change_is, result-most, finished_refused, finished_written}
 use Rattle.aggregate.proofs.WalkLaws.{written_count, written-most, written-bytes, records-fit}
@@ -22,7 +23,7 @@ returns-then-output-size-2 c =
     let pre = c.requires in
     let count = written_count _ pre.size.0 _ _ _ _ pre.size.1.valid c.write-count.ensures in
     let short = c.if-output-size-2.true in
-    finished_refused _ pre.size.0 _ _ _ _ _ (omega (arith, short, count))
+    rw c.at.ensures (finished_refused _ pre.size.0 _ _ _ _ _ (omega (arith, short, count)))
 
 pub overflow_cast-result : goal.overflow_cast-result
 overflow_cast-result c =
@@ -47,7 +48,7 @@ returns c =
           let long = w.if-output-size-2.false in
           omega arith
       | else-output-size w ↦
-          let most = result-most _ _ _ c.args.fill c.args.ranks.now pre.in_use pre.size.1 pre.before_value c.most_records.ensures in
+          let most = result-most _ _ _ c.args.fill c.args.ranks.now (number-used c.args.mode) pre.size.1 pre.before_value c.most_records.ensures in
           let long = w.if-output-size.false in
           omega arith
     ] in

@@ -1,21 +1,11 @@
 -- `assign::assign_nodes` meets its contract. The loop's invariant: the positions before b are assigned, and the reader stands before b.
 -- Assumes nothing.
-use Prim.Native.Nat.{◌-◌}
 use mathlib.Core.Path.{◌≡◌, refl}
 use native.Mathlib.Omega.{arith}
 use lib.ListN.{replicate}
 use Rattle.theory.specs.Ranks.{lowest}
-use Rattle.nodes.proofs.RoomLaws.{Read, begins-word}
-use Rattle.assign.specs.Packed.{mask_of, words_of}
 use Rattle.assign.proofs.AssignLaws.{assigning_start, assigning_first, assigning_room, assigning_next, assigning_rest, assigning_end}
 use Rattle.assign.proofs.assign_nodes.Goals as goal
-
-pub new-requires : goal.new-requires
-new-requires c =
-    let a = c.args in
-    let h = c.requires.by_index in
-    let r : Read (mask_of h.0 31) (words_of h.0 31) a.top a.work.now = begins-word h.1 in
-    r.within
 
 pub step_at-first-requires : goal.step_at-first-requires
 step_at-first-requires c =

@@ -1,18 +1,14 @@
 -- `assign::emit` meets its contract. Assumes nothing.
-use borrow.Author.Tests.{eq-eqb, ne_eqb, lt-ltb, le-ltb}
+use borrow.Author.Tests.{eq-eqb, ne_eqb, le-ltb}
 use Rattle.nodes.proofs.OutputLaws.{wrote_none}
 use Rattle.positions.specs.Runs.{no_hop}
 use Rattle.assign.proofs.emit.Goals as goal
+use Rattle.assign.proofs.emit.Goals.{else-hop-above-via-then-hop-above+else-hop-lt-NO_HOP, else-hop-above-via-else-hop-above}
 
-pub returns-then-hop-above : goal.returns-then-hop-above
-returns-then-hop-above c at half = rw (eq-eqb c.args.hop c.args.above c.if-hop-above.true) (wrote_none c.requires.1 0 _)
-
-pub returns-then-hop-lt-NO_HOP : goal.returns-then-hop-lt-NO_HOP
-returns-then-hop-lt-NO_HOP c at half =
+pub returns-else-hop-above : goal.returns-else-hop-above
+returns-else-hop-above c at half =
     let a = c.args in
-    rw (ne_eqb a.hop a.above c.if-hop-above.false, lt-ltb a.hop no_hop c.if-hop-lt-NO_HOP.true) (c.put.ensures at half)
-
-pub returns : goal.returns
-returns c at half =
-    let a = c.args in
-    rw (ne_eqb a.hop a.above c.if-hop-above.false, le-ltb a.hop no_hop c.if-hop-lt-NO_HOP.false) (wrote_none c.requires.1 0 _)
+    elim c.else-hop-above.branch [
+      | else-hop-above-via-then-hop-above+else-hop-lt-NO_HOP w ↦ rw (ne_eqb a.hop a.above w.if-hop-above.true, le-ltb a.hop no_hop w.if-hop-lt-NO_HOP.false) (wrote_none c.requires.1 0 _)
+      | else-hop-above-via-else-hop-above w ↦ rw (eq-eqb a.hop a.above w.if-hop-above.false) (wrote_none c.requires.1 0 _)
+    ]

@@ -2,7 +2,7 @@
 use Prim.Native.Nat.{suc, ◌-◌}
 use mathlib.Core.Path.{◌≡◌}
 use native.Mathlib.Omega.{arith}
-use Rattle.assign.proofs.AssignLaws.{folded_none, folded_next, folded_node}
+use Rattle.assign.proofs.AssignLaws.{folded_none, folded_next}
 use Rattle.assign.proofs.fold_sets.Goals as goal
 
 pub loop-b-init : goal.loop-b-init
@@ -13,7 +13,3 @@ loop-b-preserved c =
     let l = c.loop-b in
     let e : l.b ≡ suc (l.b - 1) = omega arith in
     (omega arith, folded_next (rw e at l.invariant.1) (omega arith) c.combine.result c.combine.ensures)
-
-pub returns : goal.returns
-returns c =
-    let l = c.loop-b in record { slots_len_unchanged = l.invariant.1.sized; by_index = folded_node l.invariant.1 (omega arith) }

@@ -1,11 +1,7 @@
 -- `assign::leaf_slots` meets its contract. The loop's invariant: the positions of the last level before p are marked. Assumes nothing.
-use Prim.Native.Nat.{◌-◌}
 use native.Mathlib.Omega.{arith}
 use Rattle.assign.proofs.AssignLaws.{leaves_start, leaves_next, leaves_end}
 use Rattle.assign.proofs.leaf_slots.Goals as goal
-
-pub returns-then-leaves_same : goal.returns-then-leaves_same
-returns-then-leaves_same c = c.leaves_same.ensures c.if-leaves_same.true
 
 pub loop-p-init : goal.loop-p-init
 loop-p-init c = (omega arith, leaves_start _ _ _)

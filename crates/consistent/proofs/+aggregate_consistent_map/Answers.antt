@@ -1,11 +1,11 @@
 -- `consistent::aggregate_consistent_map` meets its contract: one cycle of calls, by falling bits below the node. The loop's invariant: the
 -- node is found, the word has the slots to visit, and the node's slots before c are written. Assumes nothing.
-use Prim.Native.Nat.{◌+◌, ◌-◌, ◌*◌, ◌<◌}
+use Prim.Native.Nat.{◌+◌, ◌*◌, ◌<◌}
 use mathlib.Core.Path.{◌≡◌, refl}
 use lib.ListN.{get_or, get_or-replicate}
 use native.Mathlib.Omega.{arith}
 use Rattle.positions.specs.Runs.{place_at}
-use Rattle.nodes.specs.Node.{run, slot_size}
+use Rattle.nodes.specs.Node.{slot_size}
 use Rattle.nodes.proofs.OutputLaws.{wrote_count}
 use Rattle.nodes.proofs.OutputWalk.{relaid, Begun, walked_none, begun, begun_few, walked_alone, walked_child, walked_all}
 use Rattle.gather.proofs.GatherLaws.{absent, ends_in, child_node}
@@ -40,21 +40,12 @@ loop-c-init t c =
       (busy, walked_next busy c.next_bit-c.ensures (walked_none c.requires.node.sized c.args.out.now)),
     )
 
-pub emit_slot-n-requires : goal.emit_slot-n-requires
-emit_slot-n-requires t c =
-    let n = c.loop-c.invariant.0.node in
-    let lt = c.loop-c-test.true in
-    (lt, (n.at.deep, n.sized))
-
 pub overflow_add-n : goal.overflow_add-n
 overflow_add-n t c =
     let entered : let a = c.args in let run = c.gather_run-g.new in let hops = c.covering_hops-hops.result in let lp = c.loop-c in let heads = c.emit_slot-n in Begun a.size c.entries_of-entries.result hops a.depth (a.key * 2) (map_slot a.size a.table.now run.first run.end hops a.depth (a.key * 2)) lp.c (lp.n + heads.result) a.out.now (relaid c.past_sized-here.result heads.new.out lp.out) = let heads = c.emit_slot-n in let lt = c.loop-c-test.true in let key = c.slot_key-slot.ensures.value in begun c.loop-c.invariant.1.1 lt (c.past_sized-here.ensures.upper_bound, c.past_sized-here.ensures.value) key heads.ensures c.out-1.given.1 in
     let few = begun_few entered in
     let most = map-most c.loop-c.invariant.0 in
     omega (arith, c.well_formed)
-
-pub overflow_add-depth : goal.overflow_add-depth
-overflow_add-depth t c = let deep = c.loop-c.invariant.0.node.at.deep in omega arith
 
 pub aggregate_consistent_map-n-requires : goal.aggregate_consistent_map-n-requires
 aggregate_consistent_map-n-requires t c =
@@ -78,11 +69,6 @@ overflow_add-n-then-from-to t c =
     let most = map-most f in
     omega (arith, c.well_formed)
 
-pub loop-c-smaller-then-from-to : goal.loop-c-smaller-then-from-to
-loop-c-smaller-then-from-to t c =
-    let lt = c.loop-c-test.true in
-    omega (arith, lt, c.next_bit-c-in-loop-c.ensures.low)
-
 pub loop-c-preserved-then-from-to : goal.loop-c-preserved-then-from-to
 loop-c-preserved-then-from-to t c =
     let entered : let a = c.args in let run = c.gather_run-g.new in let hops = c.covering_hops-hops.result in let lp = c.loop-c in let heads = c.emit_slot-n in Begun a.size c.entries_of-entries.result hops a.depth (a.key * 2) (map_slot a.size a.table.now run.first run.end hops a.depth (a.key * 2)) lp.c (lp.n + heads.result) a.out.now (relaid c.past_sized-here.result heads.new.out lp.out) = let heads = c.emit_slot-n in let lt = c.loop-c-test.true in let key = c.slot_key-slot.ensures.value in begun c.loop-c.invariant.1.1 lt (c.past_sized-here.ensures.upper_bound, c.past_sized-here.ensures.value) key heads.ensures c.out-1.given.1 in
@@ -96,9 +82,6 @@ loop-c-preserved-then-from-to t c =
     c.out-then-from-to-1.given.1 in
     (f, (lp.invariant.1.0, walked_next lp.invariant.1.0 c.next_bit-c-in-loop-c.ensures slot))
 
-pub loop-c-smaller : goal.loop-c-smaller
-loop-c-smaller t c = omega (arith, c.loop-c-test.true, c.next_bit-c-in-loop-c.ensures.low)
-
 pub loop-c-preserved : goal.loop-c-preserved
 loop-c-preserved t c =
     let entered : let a = c.args in let run = c.gather_run-g.new in let hops = c.covering_hops-hops.result in let lp = c.loop-c in let heads = c.emit_slot-n in Begun a.size c.entries_of-entries.result hops a.depth (a.key * 2) (map_slot a.size a.table.now run.first run.end hops a.depth (a.key * 2)) lp.c (lp.n + heads.result) a.out.now (relaid c.past_sized-here.result heads.new.out lp.out) = let heads = c.emit_slot-n in let lt = c.loop-c-test.true in let key = c.slot_key-slot.ensures.value in begun c.loop-c.invariant.1.1 lt (c.past_sized-here.ensures.upper_bound, c.past_sized-here.ensures.value) key heads.ensures c.out-1.given.1 in
@@ -108,9 +91,6 @@ loop-c-preserved t c =
     let hops = c.covering_hops-hops.result in
     let slot = walked_alone entered (map_no_child f.gathered hops lp.c lt c.if-from-to.false) in
     (f, (lp.invariant.1.0, walked_next lp.invariant.1.0 c.next_bit-c-in-loop-c.ensures slot))
-
-pub shape_of-out : goal.shape_of-out
-shape_of-out t c = c.loop-c.invariant.1.1.sized
 
 pub returns : goal.returns
 returns t c =

@@ -15,6 +15,3 @@ returns-then-present-eq-NONE c l j le lt =
     λ b h. c.requires.by_index_2 b h (rw c.if-present-eq-NONE.true (bit-zero b)) in
     get_or-replicate 31 (position l j) a.inherited 0 (in_word l j le lt)
     ∙ sym (covering_none a.size a.table.now a.first.now a.end.now a.inherited none l j le lt)
-
-pub covering_values-requires : goal.covering_values-requires
-covering_values-requires c = let pre = c.requires in record { by_index = pre.by_index; size = pre.size }

@@ -7,12 +7,6 @@ use Rattle.gather.proofs.Halves.{marked, slot_of, slot_small, index_up, index-sm
 use Rattle.gather.proofs.GatherPlaces.{in_heap}
 use Rattle.gather.proofs.heap_index.Goals as goal
 
-pub overflow_sub-result-2 : goal.overflow_sub-result-2
-overflow_sub-result-2 c =
-    let l = c.args.level in
-    let y = c.args.addr * 2 ^ c.args.depth % 2 ^ 64 in
-    omega (arith, marked y l c.requires.1, pow_pos l)
-
 pub returns : goal.returns
 returns c =
     let a = c.args in

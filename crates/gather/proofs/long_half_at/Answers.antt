@@ -10,9 +10,6 @@ use Rattle.records.proofs.SizedKeys.{raw_key_16}
 use Rattle.gather.proofs.Halves.{key_wide}
 use Rattle.gather.proofs.long_half_at.Goals as goal
 
-pub length_at-requires : goal.length_at-requires
-length_at-requires c = (inr refl, c.requires)
-
 pub returns : goal.returns
 unfolding route_in
 returns c =

@@ -1,7 +1,6 @@
 -- `holes::fits` meets its contract: where the most that there can be fits, all do; else they are counted. Assumes nothing.
-use mathlib.Core.Path.{sym, ap}
+use mathlib.Core.Path.{sym, ◌∙◌}
 use native.Mathlib.Omega.{arith}
-use lib.Dec.{leb}
 use lib.ListN.{length}
 use borrow.Author.Rules.{rules}
 use borrow.Author.Tests.{le-leb}
@@ -26,7 +25,4 @@ pub returns-then-size-records : goal.returns-then-size-records
 returns-then-size-records c =
     let a = c.args in
     let sure = holes_sure c.requires.position in
-    sym (le-leb (length (holes_at a.size a.table.now 0 a.records 0 0)) a.room (omega arith))
-
-pub returns : goal.returns
-returns c = ap (λ n. leb n c.args.room) c.count.ensures
+    le-leb _ a.room c.if-size-records.true ∙ sym (le-leb (length (holes_at a.size a.table.now 0 a.records 0 0)) a.room (omega arith))

@@ -1,6 +1,6 @@
 -- `lookup` replies with the longest match in a live map, and refuses any other room. Assumes nothing.
 use mathlib.Core.Bool.{true}
-use mathlib.Core.Path.{◌≡◌, refl, ◌∙◌}
+use mathlib.Core.Path.{◌≡◌}
 use native.Mathlib.Omega.{arith}
 use Rattle.liveroom.specs.Rooms.{shown, live, Words}
 use Rattle.liveroom.proofs.Holding.{held-live, held_dead}
@@ -12,7 +12,7 @@ use Rattle.live.proofs.lookup.Goals as goal
 pub returns-then-nodes_held-eq0 : goal.returns-then-nodes_held-eq0
 returns-then-nodes_held-eq0 c =
     let a = c.args in
-    looks_dead a.room.now a.address (held_dead a.room.now _ c.nodes_held.ensures c.if-nodes_held-eq0.true)
+    rw c.at.ensures (looks_dead a.room.now a.address (held_dead a.room.now _ c.nodes_held.ensures c.if-nodes_held-eq0.true))
 
 pub bounds-room-1 : goal.bounds-room-1
 bounds-room-1 c =
@@ -37,4 +37,4 @@ unfolding shown
 returns c =
     let is_live_room : live c.args.room.now ≡ true = (held-live c.args.room.now _ c.nodes_held.ensures c.if-nodes_held-eq0.false).0 in
     let a = c.args in
-    c.longest_in.ensures ∙ looks-past a.room.now a.address _ is_live_room refl
+    looks-past a.room.now a.address _ is_live_room c.longest_in.ensures

@@ -5,7 +5,7 @@ use Rattle.live.proofs.Replies.{makes-short, makes_done}
 use Rattle.live.proofs.make_empty.Goals as goal
 
 pub returns-then-room-lt160 : goal.returns-then-room-lt160
-returns-then-room-lt160 c = makes-short c.args.room.now c.if-room-lt160.true
+returns-then-room-lt160 c = rw c.at.ensures (makes-short c.args.room.now c.if-room-lt160.true)
 
 pub bounds-room-1 : goal.bounds-room-1
 bounds-room-1 c = simp length-set (omega arith)

@@ -59,7 +59,7 @@ returns-then-n-eq1024 c =
     let words : Words a.room.now = λ k. (c.slice_known-1.given k).fits in
     let v : Proper (route a.addr a.len a.hop) = sound_proper (route a.addr a.len a.hop) c.ranges.addr.fits c.requires.1.1 in
     let new : is_at a.room.now (count_in a.room.now) c.place-at.result a.addr a.len ≡ false = sym c.is_at.ensures ∙ c.if-is_at.false in
-    put_17 a.room.now words l a.addr a.len c.place-at.result c.place-at.ensures new a.hop v c.if-n-eq1024.true
+    rw c.at.ensures (put_17 a.room.now words l a.addr a.len c.place-at.result c.place-at.ensures new a.hop v c.if-n-eq1024.true)
 
 pub held_with-requires : goal.held_with-requires
 unfolding shown
@@ -83,7 +83,7 @@ returns-then-room-held_with c =
     let words : Words a.room.now = λ k. (c.slice_known-1.given k).fits in
     let v : Proper (route a.addr a.len a.hop) = sound_proper (route a.addr a.len a.hop) c.ranges.addr.fits c.requires.1.1 in
     let new : is_at a.room.now (count_in a.room.now) c.place-at.result a.addr a.len ≡ false = sym c.is_at.ensures ∙ c.if-is_at.false in
-    put_10 a.room.now words l a.addr a.len c.place-at.result c.place-at.ensures new a.hop v c.if-n-eq1024.false _ c.held_with.ensures c.if-room-held_with.true
+    rw c.at-then-room-held_with.ensures (put_10 a.room.now words l a.addr a.len c.place-at.result c.place-at.ensures new a.hop v c.if-n-eq1024.false _ c.held_with.ensures c.if-room-held_with.true)
 
 pub insert-requires : goal.insert-requires
 insert-requires c =

@@ -13,7 +13,7 @@ returns-then-room_stays c =
     let change = c.change-answer.ensures in
     let put = c.put_kept-end.ensures in
     let s = stays-left c.args.command (λ k. search rules) c.change-answer.result change.0 (sym c.room_stays.ensures ∙ c.if-room_stays.true) in
-    let t = c.put_touched.ensures (c.copy.ensures ∙ sym s ∙ sym change.1) in record { put = (put_same t.0 t.1 (put_as (ap kept_line change.0) put.0), omega (arith, put.1, t.0)); room_after = change.1 }
+    let t = c.put_touched.ensures (c.copy_from_slice.ensures.after ∙ sym s ∙ sym change.1) in record { put = (put_same t.0 t.1 (put_as (ap kept_line change.0) put.0), omega (arith, put.1, t.0)); room_after = change.1 }
 
 pub returns : goal.returns
 returns c =

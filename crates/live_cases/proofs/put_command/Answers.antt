@@ -7,26 +7,26 @@ use Rattle.live_cases.proofs.Laid.{put-short}
 use Rattle.live_cases.proofs.Carried.{as_unknown, as_flip, as_look, as_change}
 use Rattle.live_cases.proofs.put_command.Goals as goal
 
-pub returns-then-command-gt4 : goal.returns-then-command-gt4
-returns-then-command-gt4 c =
-    let a = c.args in
-    let p = c.put_bytes.ensures in
-    let is = as_unknown a.command a.room.now c.if-command-gt4.true in record { put = (put_as is.0 p, put-short p (let h : 16 ≤ 36 = omega arith in h)); room_after = is.1 }
-
-pub returns-then-command-eq4 : goal.returns-then-command-eq4
-returns-then-command-eq4 c =
-    let a = c.args in
-    let p = c.put_bytes-then-command-eq4.ensures in
-    let is = as_flip a.command a.room.now c.if-command-gt4.false c.if-command-eq4.true in record { put = (put_as is.0 p, put-short p (let h : 8 ≤ 36 = omega arith in h)); room_after = c.flip.ensures ∙ is.1 }
-
-pub returns-then-command-eq3 : goal.returns-then-command-eq3
-returns-then-command-eq3 c =
-    let a = c.args in
-    let p = c.put_lookup.ensures in
-    let is = as_look a.command a.room.now c.if-command-gt4.false c.if-command-eq4.false c.if-command-eq3.true in record { put = (put_as is.0 p.0, p.1); room_after = is.1 }
-
-pub returns : goal.returns
-returns c =
+pub returns-in-0-to-2 : goal.returns-in-0-to-2
+returns-in-0-to-2 c =
     let a = c.args in
     let p = c.put_change.ensures in
-    let is = as_change a.command a.room.now c.if-command-gt4.false c.if-command-eq4.false c.if-command-eq3.false in record { put = (put_as is.0 p.put.0, p.put.1); room_after = p.room_after ∙ is.1 }
+    let is = as_change a.command a.room.now (omega arith) (λ e. omega arith) (λ e. omega arith) in record { put = (put_as is.0 p.put.0, p.put.1); room_after = p.room_after ∙ is.1 }
+
+pub returns-in-3 : goal.returns-in-3
+returns-in-3 c =
+    let a = c.args in
+    let p = c.put_lookup.ensures in
+    let is = as_look a.command a.room.now (omega arith) (λ e. omega arith) c.in-3.is in record { put = (put_as is.0 p.0, p.1); room_after = is.1 }
+
+pub returns-in-4 : goal.returns-in-4
+returns-in-4 c =
+    let a = c.args in
+    let p = c.put_bytes.ensures in
+    let is = as_flip a.command a.room.now (omega arith) c.in-4.is in record { put = (put_as is.0 p, put-short p (let h : 8 ≤ 36 = omega arith in h)); room_after = c.flip.ensures ∙ is.1 }
+
+pub returns-in_default : goal.returns-in_default
+returns-in_default c =
+    let a = c.args in
+    let p = c.put_bytes-in_default.ensures in
+    let is = as_unknown a.command a.room.now (omega arith) in record { put = (put_as is.0 p, put-short p (let h : 16 ≤ 36 = omega arith in h)); room_after = is.1 }

@@ -3,7 +3,6 @@ use Prim.Native.Nat.{ℕ, ◌/◌}
 use mathlib.Core.Path.{◌≡◌, refl, ap, ap₂, ◌∙◌}
 use mathlib.Core.List.{◌++◌}
 use native.Mathlib.Omega.{arith}
-use borrow.Author.Rules.{rules}
 use lib.ListN.{length}
 use Rattle.text.proofs.Puts.{put_none, put_as, put-length, put_then}
 use Rattle.live_cases.specs.Commands.{line_of, left_of, left_after, lines_of}
@@ -13,12 +12,12 @@ use Rattle.live_cases.proofs.put_commands.Goals as goal
 pub loop-i-init : goal.loop-i-init
 unfolding left_after lines_of
 loop-i-init c =
-    (omega arith, omega arith, refl, refl, refl, put_none _ _ (omega (arith, c.requires.commands_in_bounds)))
+    (omega arith, refl, put_none _ _ (omega (arith, c.requires.commands_in_bounds)))
 
 pub put_command-end-requires : goal.put_command-end-requires
 put_command-end-requires c =
     let inv = c.loop-i.invariant in
-    let pre = c.requires in record { before_len = omega (arith, inv.2, inv.3, pre.before_len); at_in_bounds = omega (arith, inv.0, inv.1, put-length inv.5, pre.commands_in_bounds) }
+    let pre = c.requires in record { before_len = omega (arith, pre.before_len); at_in_bounds = omega (arith, inv.0, put-length inv.2, pre.commands_in_bounds) }
 
 pub loop-i-preserved : goal.loop-i-preserved
 loop-i-preserved c =
@@ -27,26 +26,14 @@ loop-i-preserved c =
     let inv = l.invariant in
     let put = c.put_command-end.ensures in
     let is = c.command_at.ensures in (
-      omega (arith, inv.0),
-      omega (arith, inv.1, put.put.1),
-      search (rules, inv.2),
-      search (rules, inv.3),
-      put.room_after ∙ ap₂ left_of is inv.4 ∙ left_more a.commands.now a.room.now l.i,
-      put_as (ap₂ (λ u v. lines_of a.commands.now l.i a.room.now ++ line_of u v) is inv.4 ∙ lines_more a.commands.now a.room.now l.i)
-          (put_then inv.5 put.put.0),
+      omega (arith, inv.0, put.put.1),
+      put.room_after ∙ ap₂ left_of is inv.1 ∙ left_more a.commands.now a.room.now l.i,
+      put_as (ap₂ (λ u v. lines_of a.commands.now l.i a.room.now ++ line_of u v) is inv.1 ∙ lines_more a.commands.now a.room.now l.i)
+          (put_then inv.2 put.put.0),
     )
-
-pub shape_of-room : goal.shape_of-room
-shape_of-room c = c.loop-i.invariant.2
-
-pub shape_of-before : goal.shape_of-before
-shape_of-before c = c.loop-i.invariant.3
-
-pub shape_of-out : goal.shape_of-out
-shape_of-out c = put-length c.loop-i.invariant.5
 
 pub returns : goal.returns
 returns c =
     let inv = c.loop-i.invariant in
     let a = c.args in
-    put_as (ap (λ (k : ℕ). lines_of a.commands.now k a.room.now) (let e : c.loop-i.i ≡ length a.commands.now / 8 = omega (arith, inv.0) in e)) inv.5
+    put_as (ap (λ (k : ℕ). lines_of a.commands.now k a.room.now) (let e : c.loop-i.i ≡ length a.commands.now / 8 = omega (arith, c.loop-i.auto.i-end, c.loop-i-test.false) in e)) inv.2

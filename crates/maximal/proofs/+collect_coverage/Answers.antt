@@ -1,12 +1,16 @@
 -- `maximal::collect_coverage`, which calls itself on the slots that are walked, meets its contract, by falling bits below the node. The loop's
 -- invariant: of the slots from k on the coverage is laid, and the word has the covered ones. Assumes nothing.
-use Prim.Native.Nat.{◌-◌}
+use Prim.Native.Nat.{ℕ, ◌-◌, ◌<◌}
 use mathlib.Core.Path.{◌≡◌, refl}
-use mathlib.Core.Bool.{true}
+use mathlib.Core.Bool.{◌&&◌, ◌||◌}
+use lib.Dec.{eqb}
+use Rattle.words.specs.Bits.{bit}
 use native.Mathlib.Omega.{arith}
-use lib.ListN.{get_or-replicate, length-set}
-use Rattle.maximal.proofs.MaximalRoom.{slot-node, collect_start, collect_length, collect_within, collect_least, collect_room, collect_child, collect_end}
+use lib.ListN.{get_or-replicate}
+use Rattle.cover.proofs.CoverLaws.{slot_set, slot_left}
+use Rattle.maximal.proofs.MaximalRoom.{slot-node, collect_start, collect_within, collect_room, collect_child, collect_end}
 use Rattle.maximal.proofs.+collect_coverage.Goals as goal
+use Rattle.maximal.proofs.+collect_coverage.Goals.{then-has_bit, else-has_bit}
 
 pub gather_run-g-requires : goal.gather_run-g-requires
 gather_run-g-requires t c = record { node = c.requires.node; first_len = (refl, refl); by_index = λ b lt. (get_or-replicate 63 b 0 0 lt, get_or-replicate 63 b 0 0 lt) }
@@ -47,21 +51,11 @@ loop-k-preserved t c =
     let coverage = rw here at c.collect_coverage-child.ensures.coverage in
     let laid = rw here at c.collect_coverage-child.ensures.laid_by in
     let last = c.last_bit-k-in-loop-k.ensures in
-    (collect_child l.invariant.0 pos (l.invariant.1 pos) _ _ coverage laid c.has_bit.ensures c.with_slot-covered.ensures last, last.is_set)
-
-pub overflow_sub-work : goal.overflow_sub-work
-overflow_sub-work t c = omega (arith, collect_least c.loop-k.invariant.0)
-
-pub bounds-work-at : goal.bounds-work-at
-bounds-work-at t c =
-    let w = c.loop-k.invariant.0 in
-    omega (arith, collect_least w, collect_within w)
-
-pub overflow_sub-result : goal.overflow_sub-result
-overflow_sub-result t c = omega (arith, collect_least c.loop-k.invariant.0)
-
-pub shape_of-work : goal.shape_of-work
-shape_of-work t c = simp length-set (collect_length c.loop-k.invariant.0)
+    let taken : (i : ℕ) → i < 32 → bit c.if-has_bit.covered i ≡ ((eqb i (l.k - 1) && c.has_bit.result) || bit l.covered i) = elim c.if-has_bit.branch [
+      | then-has_bit w ↦ rw w.covered-is (slot_set l.covered (l.k - 1) c.has_bit.result w.with_bit-covered.result w.if-has_bit.true w.with_bit-covered.ensures)
+      | else-has_bit w ↦ rw w.covered-is (slot_left l.covered (l.k - 1) c.has_bit.result w.if-has_bit.false)
+    ] in
+    (collect_child l.invariant.0 pos (l.invariant.1 pos) _ _ coverage laid c.has_bit.ensures taken last, last.is_set)
 
 pub returns : goal.returns
 returns t c =

@@ -11,8 +11,8 @@ use Rattle.maximal.proofs.entries_of.Goals as goal
 pub returns-then-above : goal.returns-then-above
 returns-then-above c = rw c.if-above.true (record { root = bit-zero _; below = λ l j le lt. bit-zero _ })
 
-pub returns : goal.returns
-returns c =
+pub returns-else-above : goal.returns-else-above
+returns-else-above c =
     let k = c.keep_of.ensures in
     let p = c.parent_coverage.ensures in
     rw c.if-above.false (record {

@@ -5,16 +5,11 @@ use lib.Dec.{eqb}
 use Rattle.words.proofs.KeyLaws.{key_bits}
 use native.Mathlib.Omega.{arith}
 use Rattle.nodecount.specs.Nodes.{bare}
-use Rattle.nodecount.proofs.NodeCount.{node-short, node-long}
+use Rattle.nodecount.proofs.NodeCount.{node-long}
 use Rattle.nodecount.proofs.is_shared.Goals as goal
 
-pub returns-then-last_len-depth : goal.returns-then-last_len-depth
-returns-then-last_len-depth c w a b le deep e f =
-    let s = c.args in
-    sym (node-short w s.m a (bare b s.last_len) (omega arith))
-
-pub returns : goal.returns
-returns c w a b le deep e f =
+pub returns-then-depth-last_len : goal.returns-then-depth-last_len
+returns-then-depth-last_len c w a b le deep e f =
     let s = c.args in
     ap₂ (λ (x y : ℕ). eqb (x / 2 ^ (64 - 5 * s.m)) (y / 2 ^ (64 - 5 * s.m))) f e
     ∙ ap₂ eqb (key_bits w (5 * s.m) b le deep) (key_bits w (5 * s.m) a le deep)

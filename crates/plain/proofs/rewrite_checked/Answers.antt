@@ -5,6 +5,7 @@ use mathlib.Core.Path.{◌∙◌}
 use native.Mathlib.Omega.{arith}
 use borrow.Author.Rules.{rules}
 use lib.ListN.{length}
+use Rattle.calls.specs.Modes.{mode_number}
 use Rattle.records.proofs.SizedReading.{size-some}
 use Rattle.calls.proofs.Ending.{change-fits, change_is, result-most, finished_refused}
 use Rattle.plain.proofs.Walk.{entries_few}
@@ -30,10 +31,10 @@ pub returns-then-output-size-2 : goal.returns-then-output-size-2
 returns-then-output-size-2 c =
     let a = c.args in
     let pre = c.requires in
-    let count = whole-count pre.size.0 a.table.now a.mode a.fill a.ranks.now a.before pre.table.1.1 pre.fills pre.before_value (mode_had a.mode pre.size.1)
+    let count = whole-count pre.size.0 a.table.now (mode_number a.mode) a.fill a.ranks.now a.before pre.table.1.1 pre.fills pre.before_value (mode_had (mode_number a.mode) pre.size.1)
     c.write-count.ensures in
     let short = c.if-output-size-2.true in
-    finished_refused _ pre.size.0 _ _ _ _ _ (omega arith)
+    rw c.at.ensures (finished_refused _ pre.size.0 _ _ _ _ _ (omega arith))
 
 pub write-written-requires : goal.write-written-requires
 write-written-requires c =
@@ -59,13 +60,13 @@ returns c =
     let few : (c.write-written.result < 2 ^ 62) × (c.args.before < 2 ^ 62) = let a = c.args in let pre = c.requires in let counted = c.write-written.ensures.counted in let most = entries_few a.ranks.now a.fill 64 (all_run pre.size.0 a.table.now a.before pre.table.0 pre.before_value).is_run in let table = records-few a.size pre.size.0 a.table.now in (omega (arith, pre.before_value), omega (arith, pre.before_value)) in
     let a = c.args in
     let pre = c.requires in
-    let had = mode_had a.mode pre.size.1 in
+    let had = mode_had (mode_number a.mode) pre.size.1 in
     let put = c.write-written.ensures in
-    let count = whole-count pre.size.0 a.table.now a.mode a.fill a.ranks.now a.before pre.table.1.1 pre.fills pre.before_value had put in
+    let count = whole-count pre.size.0 a.table.now (mode_number a.mode) a.fill a.ranks.now a.before pre.table.1.1 pre.fills pre.before_value had put in
     let room : c.write-written.result ≤ length a.output.now / a.size =
     elim c.if-output-size.branch [
       | then-output-size+else-output-size-2 w ↦
-          let dry = whole-count pre.size.0 a.table.now a.mode a.fill a.ranks.now a.before pre.table.1.1 pre.fills pre.before_value had w.write-count.ensures in
+          let dry = whole-count pre.size.0 a.table.now (mode_number a.mode) a.fill a.ranks.now a.before pre.table.1.1 pre.fills pre.before_value had w.write-count.ensures in
           let long = w.if-output-size-2.false in
           omega arith
       | else-output-size w ↦
@@ -73,5 +74,5 @@ returns c =
           let long = w.if-output-size.false in
           omega arith
     ] in
-    whole_finished pre.size.0 a.table.now a.mode a.fill a.ranks.now a.before pre.table.1.1 pre.fills pre.before_value had put room
+    whole_finished pre.size.0 a.table.now (mode_number a.mode) a.fill a.ranks.now a.before pre.table.1.1 pre.fills pre.before_value had put room
     (change_is c.write-written.result a.before few.0 few.1 ∙ rw pre.before_value)

@@ -1,64 +1,50 @@
--- Each turn shows the check the step that it asks for, and so finds out more.
-use Rattle.std.proofs.Common.{◌≡◌, ◌<◌, ◌-◌, ◌^◌, length}
-use mathlib.Core.Path.{sym, ap, subst, ◌∙◌}
+-- `plans::check_plan` meets its contract. Assumes nothing.
+use Prim.Native.Nat.{◌^◌, ◌<◌}
+use mathlib.Core.Path.{◌≡◌, sym, ◌∙◌}
+use mathlib.Core.Bool.{true}
 use native.Mathlib.Omega.{arith}
-use Rattle.checking.specs.declared.Pass.{Pass}
-use Rattle.checking.specs.declared.Check.{Check}
-use Rattle.checking.specs.Passes.{puts}
-use Rattle.checking.specs.Checking.{seen_of}
+use lib.ListN.{length}
+use borrow.Author.Count.{below_more}
+use Rattle.std.proofs.lemmas.Result.{err_from_is_err_and}
 use Rattle.plans.specs.Following.{step_at}
-use Rattle.plans.specs.Judging.{Judges}
-use Rattle.plans.proofs.Deciding.{rank_of}
-use Rattle.plans.proofs.Checked.{Found, found_begin, after_it, found-next, found_falls, found_follow, found_tables, found_see, found_end}
+use Rattle.plans.proofs.Rules.{both_given, tables_first, all_kept, step_refused}
+use Rattle.plans.proofs.Deciding.{may_follow}
+use Rattle.plans.proofs.Checked.{answers_refused, answers_given}
 use Rattle.plans.proofs.check_plan.Goals as goal
 
-pub loop-c-init : goal.loop-c-init
-loop-c-init c =
+pub returns-in_err-check_tables : goal.returns-in_err-check_tables
+returns-in_err-check_tables c =
     let a = c.args in
-    let b = c.begin-c.ensures in (
-      b.old_bytes,
-      b.new_bytes,
-      subst (Found a.form a.installed.now a.new.now a.steps.now b.old_bytes b.new_bytes) (sym b.state) (found_begin a.form a.installed.now a.new.now a.steps.now b.old_bytes b.new_bytes),
-    )
+    let p = err_from_is_err_and c.from_residual.result c.from_residual.ensures.1 in
+    rw (p.1, p.2) (answers_refused a.form a.installed.now a.new.now a.steps.now (tables_first a.form a.installed.now a.new.now a.steps.now (sym c.in_err-check_tables.ensures)))
 
-pub follow-p-requires : goal.follow-p-requires
-follow-p-requires c =
+pub returns-then-not-step_kept : goal.returns-then-not-step_kept
+returns-then-not-step_kept c =
     let a = c.args in
-    let v = c.loop-c.invariant in
-    found_follow a.form a.installed.now a.new.now a.steps.now v.0 v.1 v.2 (omega arith)
+    let both = both_given a.form a.installed.now a.new.now {a = true} (sym c.in_ok-check_tables.ensures) in
+    rw c.at.ensures
+    (answers_refused a.form a.installed.now a.new.now a.steps.now
+    (step_refused a.form a.installed.now a.new.now a.steps.now true both.0.1 both.1.1
+    c.loop-index.index c.loop-index-test.true (λ j lt. (c.loop-index.invariant j lt).0) (sym c.step_kept.ensures ∙ c.if-not-step_kept.true)))
 
-pub see-c-requires : goal.see-c-requires
-see-c-requires c =
+pub is_hitless-requires : goal.is_hitless-requires
+is_hitless-requires c =
     let a = c.args in
-    let v = c.loop-c.invariant in
-    let lt : c.loop-c.c.index < length a.steps.now = omega arith in
-    (found_tables a.form a.installed.now a.new.now a.steps.now v.0 v.1 v.2 lt, found_see a.form a.installed.now a.new.now a.steps.now v.0 v.1 v.2 lt)
+    let e : c.loop-index.index ≡ length a.steps.now = omega arith in
+    let both = both_given a.form a.installed.now a.new.now {a = true} (sym c.in_ok-check_tables.ensures) in
+    may_follow a.form a.installed.now a.new.now a.steps.now (λ k. omega (arith, c.type_inv.installed k)) (λ k. omega (arith, c.type_inv.new k))
+    both.0.1 both.1.1 (λ j lt. (c.loop-index.invariant j (omega arith)).0) (λ j lt. (c.loop-index.invariant j (omega arith)).1)
 
-pub loop-c-smaller : goal.loop-c-smaller
-loop-c-smaller c =
-    let a = c.args in
-    let v = c.loop-c.invariant in
-    let i = c.loop-c.c in
-    let e = step_at a.steps.now i.index in
-    let lt : i.index < length a.steps.now = omega arith in
-    let is : c.see-c.result ≡ after_it a.form a.installed.now a.new.now a.steps.now v.0 v.1 i =
-    c.see-c.ensures ∙ ap (λ (y : Pass). seen_of a.installed.now a.new.now (length a.steps.now) i y (puts e.put) e.addr e.len e.hop) c.follow-p.ensures in
-    subst (λ (d : Check). rank_of a.installed.now a.steps.now d < rank_of a.installed.now a.steps.now i) (sym is) (found_falls a.form a.installed.now a.new.now a.steps.now v.0 v.1 v.2 lt)
-
-pub loop-c-preserved : goal.loop-c-preserved
-loop-c-preserved c =
-    let a = c.args in
-    let v = c.loop-c.invariant in
-    let i = c.loop-c.c in
-    let e = step_at a.steps.now i.index in
-    let lt : i.index < length a.steps.now = omega arith in
-    let small : (step_at c.args.steps.now c.loop-c.c.index).addr < 2 ^ 32 = omega arith in
-    let is : c.see-c.result ≡ after_it a.form a.installed.now a.new.now a.steps.now v.0 v.1 i =
-    c.see-c.ensures ∙ ap (λ (y : Pass). seen_of a.installed.now a.new.now (length a.steps.now) i y (puts e.put) e.addr e.len e.hop) c.follow-p.ensures in
-    (v.0, v.1, subst (Found a.form a.installed.now a.new.now a.steps.now v.0 v.1) (sym is) (found-next a.form a.installed.now a.new.now a.steps.now v.0 v.1 v.2 lt small))
+pub loop-index-preserved : goal.loop-index-preserved
+loop-index-preserved c =
+    let small : (step_at c.args.steps.now c.loop-index.index).addr < 2 ^ 32 = omega arith in
+    below_more _ _ c.loop-index.invariant (sym c.step_kept.ensures ∙ c.if-not-step_kept.false, small)
 
 pub returns : goal.returns
 returns c =
     let a = c.args in
-    let v = c.loop-c.invariant in
-    subst (Judges a.form a.installed.now a.new.now a.steps.now) (sym c.verdict.ensures) (found_end a.form a.installed.now a.new.now a.steps.now v.0 v.1 v.2 (omega arith))
+    let e : c.loop-index.index ≡ length a.steps.now = omega arith in
+    let both = both_given a.form a.installed.now a.new.now {a = true} (sym c.in_ok-check_tables.ensures) in
+    answers_given a.form a.installed.now a.new.now a.steps.now c.is_hitless.result
+    (all_kept a.form a.installed.now a.new.now a.steps.now true both.0.1 both.1.1 (λ j lt. (c.loop-index.invariant j (omega arith)).0))
+    c.is_hitless.ensures.yes c.is_hitless.ensures.no

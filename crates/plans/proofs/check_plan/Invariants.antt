@@ -1,11 +1,8 @@
--- The state is one that the check has found out.
-use Rattle.records.specs.Sized.{Bytes}
-use Rattle.plans.proofs.Deciding.{rank_of}
-use Rattle.plans.proofs.Checked.{Found}
+-- The steps so far keep their rule, and their addresses are addresses.
+use Rattle.std.specs.Prelude.{ℕ, ◌^◌, ◌<◌, ◌≡◌, true}
+use Rattle.plans.specs.Following.{step_at}
+use Rattle.plans.proofs.Rules.{kept}
 use Rattle.plans.proofs.check_plan.Given as goal
 
-abbrev pub invariant-loop-c : goal.invariant-loop-c
-invariant-loop-c l = (bt : Bytes l.installed) × (bu : Bytes l.new) × Found l.fn.form l.installed l.new l.steps bt bu l.c
-
-abbrev pub decreases-loop-c : goal.decreases-loop-c
-decreases-loop-c l = rank_of l.installed l.steps l.c
+abbrev pub invariant-loop-index : goal.invariant-loop-index
+invariant-loop-index l = (j : ℕ) → j < l.index → (kept l.form (step_at l.steps j) ≡ true) × ((step_at l.steps j).addr < 2 ^ 32)

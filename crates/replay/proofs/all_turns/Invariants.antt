@@ -1,8 +1,6 @@
-use Rattle.std.proofs.Common.{◌≡◌, ◌≤◌, length}
+-- `all_turns`: the text that is kept stands in its room.
+use Rattle.std.proofs.Common.{◌≤◌, length}
 use Rattle.replay.proofs.all_turns.Given as goal
 
-abbrev pub invariant-loop-turns : goal.invariant-loop-turns
-invariant-loop-turns g l = (l.at ≤ length l.kept) × (length l.kept ≡ length l.fn.kept) × (length l.table ≡ length l.fn.table)
-
-abbrev pub decreases-loop-turns : goal.decreases-loop-turns
-decreases-loop-turns g l = l.turns
+abbrev pub invariant-loop : goal.invariant-loop
+invariant-loop g l = l.at ≤ length l.kept

@@ -1,7 +1,6 @@
 -- `keep_covers` meets its contract: the query leaves the room zero, so that no line about it is kept. Assumes nothing.
 use mathlib.Core.Path.{ap, ◌∙◌}
 use Prim.Native.Nat.{ℕ}
-use lib.ListN.{length, length-replicate}
 use Rattle.text.proofs.Puts.{put_as}
 use Rattle.replaying.specs.Answers.{cover_answer}
 use Rattle.kept.proofs.KeptLaws.{put_at}
@@ -17,5 +16,5 @@ returns c =
     put_at c.room_for-begin.ensures.value nothing.0 nothing.1
     (put_as
     (covers_kept _ _ _ _ _ _ done.ensures.answer
-    ∙ ap (λ (words : ℕ). cover_answer s.form s.table.now s.address s.len words) (ap length fill.ensures ∙ length-replicate _ _))
+    ∙ ap (λ (words : ℕ). cover_answer s.form s.table.now s.address s.len words) fill.ensures.len)
     c.put_covers-end.ensures)

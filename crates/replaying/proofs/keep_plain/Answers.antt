@@ -5,7 +5,7 @@ use native.Mathlib.Omega.{arith}
 use Prim.Native.Nat.{ℕ}
 use mathlib.Core.Bool.{true}
 use lib.Dec.{ltb}
-use lib.ListN.{length, length-replicate}
+use lib.ListN.{length}
 use Rattle.plain.proofs.Calls.{plain_guarded}
 use Rattle.text.specs.Answers.{rewritten_text}
 use Rattle.text.proofs.Puts.{put_as}
@@ -19,14 +19,14 @@ pub put_rewritten-end-requires : goal.put_rewritten-end-requires
 put_rewritten-end-requires c =
     let size = c.size_of-size.ensures in
     let done = c.rewrite-answer in
-    let filled = c.fill.auto.room in
+    let filled = c.fill.auto.self in
     let fits = by_fits _ _ _ _ _ _ _ (plain_guarded _ _ _ _ _ _) _ _ done.ensures in record { size = (size.size, rw size.value fits); answer_in_bounds = rw size.value (omega (arith, fits, done.auto.output, filled, c.requires.output_len_bound, c.room_for-begin.ensures.result_in_bounds)) }
 
 pub written-requires : goal.written-requires
 written-requires c =
     let size = c.size_of-size.ensures in
     let done = c.rewrite-answer in
-    let filled = c.fill.auto.room in
+    let filled = c.fill.auto.self in
     (size.size, rw size.value (omega (arith, by_fits _ _ _ _ _ _ _ (plain_guarded _ _ _ _ _ _) _ _ done.ensures, done.auto.output, filled, c.requires.output_len_bound)))
 
 pub returns : goal.returns
@@ -37,10 +37,10 @@ returns c =
     let done = c.rewrite-answer in
     let nothing =
     c.keep_output.ensures
-    (rw (c.written.ensures, size) (output-filled _ _ _ _ _ _ _ (plain_guarded _ _ _ _ _ _) _ 165 (length s.output.now) bytes.ensures _ done.ensures)) in
+    (rw (c.written.ensures, size) (output-filled _ _ _ _ _ _ _ (plain_guarded _ _ _ _ _ _) _ 165 (length s.output.now) (bytes.ensures.after (λ y e. e)) _ done.ensures)) in
     put_at c.room_for-begin.ensures.value nothing.0 nothing.1
     (put_as
     (ap (λ (n : ℕ). rewritten_text n true (ltb 1 s.mode) done.result done.new.output) size
     ∙ by_text _ _ _ _ _ _ _ (plain_guarded _ _ _ _ _ _) _ true (ltb 1 s.mode) (λ k. (c.type_inv.table k).fits) _ done.ensures
-    ∙ ap (plain_answer s.form s.table.now s.mode s.default s.ranks.now) (ap length bytes.ensures ∙ length-replicate _ _))
+    ∙ ap (plain_answer s.form s.table.now s.mode s.default s.ranks.now) bytes.ensures.len)
     c.put_rewritten-end.ensures)

@@ -5,7 +5,7 @@ use native.Mathlib.Omega.{arith}
 use Prim.Native.Nat.{ℕ}
 use mathlib.Core.Bool.{true}
 use lib.Dec.{ltb}
-use lib.ListN.{length, length-replicate}
+use lib.ListN.{length}
 use Rattle.calls.proofs.Refusals.{rewrite_guarded}
 use Rattle.text.specs.Answers.{rewritten_text}
 use Rattle.text.proofs.Puts.{put_as}
@@ -19,7 +19,7 @@ pub put_rewritten-end-requires : goal.put_rewritten-end-requires
 put_rewritten-end-requires c =
     let size = c.size_of-size.ensures in
     let done = c.rewrite-answer in
-    let fits = rewritten_fits _ _ _ _ _ _ _ _ _ _ done.ensures in record { size = (size.size, rw size.value fits); answer_in_bounds = rw size.value (omega (arith, fits, done.auto.output, c.fill.auto.room, c.requires.output_len_bound, c.room_for-begin.ensures.result_in_bounds)) }
+    let fits = rewritten_fits _ _ _ _ _ _ _ _ _ _ done.ensures in record { size = (size.size, rw size.value fits); answer_in_bounds = rw size.value (omega (arith, fits, done.auto.output, c.fill.auto.self, c.requires.output_len_bound, c.room_for-begin.ensures.result_in_bounds)) }
 
 pub keep_work-after-requires : goal.keep_work-after-requires
 keep_work-after-requires c =
@@ -30,7 +30,7 @@ pub written-requires : goal.written-requires
 written-requires c =
     let size = c.size_of-size.ensures in
     let done = c.rewrite-answer in
-    (size.size, rw size.value (omega (arith, rewritten_fits _ _ _ _ _ _ _ _ _ _ done.ensures, done.auto.output, c.fill.auto.room, c.requires.output_len_bound)))
+    (size.size, rw size.value (omega (arith, rewritten_fits _ _ _ _ _ _ _ _ _ _ done.ensures, done.auto.output, c.fill.auto.self, c.requires.output_len_bound)))
 
 pub keep_output-requires : goal.keep_output-requires
 keep_output-requires c =
@@ -40,7 +40,7 @@ keep_output-requires c =
     record { at_in_bounds = omega (arith, text.ensures.fits, text.auto.out, nothing.0, work.auto.kept, c.requires.in_bounds); in_bounds = omega (arith, text.ensures.fits, text.auto.out, nothing.0, work.auto.kept, c.requires.in_bounds) }
 
 pub shape_of-output : goal.shape_of-output
-shape_of-output c = omega (arith, c.rewrite-answer.auto.output, c.fill.auto.room)
+shape_of-output c = omega (arith, c.rewrite-answer.auto.output, c.fill.auto.self)
 
 pub returns : goal.returns
 returns c =
@@ -52,10 +52,10 @@ returns c =
     let nothing = c.keep_work-after.ensures (rewrite_zero done.ensures) in
     let neither =
     c.keep_output.ensures
-    (rw (c.written.ensures, size) (output-filled _ _ _ _ _ _ _ (rewrite_guarded _ _ _ _ _ _ _) _ 165 (length s.output.now) bytes.ensures _ done.ensures.inner)) in
+    (rw (c.written.ensures, size) (output-filled _ _ _ _ _ _ _ (rewrite_guarded _ _ _ _ _ _ _) _ 165 (length s.output.now) (bytes.ensures.after (λ y e. e)) _ done.ensures.inner)) in
     put_at c.room_for-begin.ensures.value (neither.0 ∙ nothing.0) (neither.1 ∙ nothing.1)
     (put_as
     (ap (λ (n : ℕ). rewritten_text n true (ltb 1 s.mode) done.result done.new.output) size
     ∙ rewritten_text_lem _ _ _ _ _ _ _ _ _ true (ltb 1 s.mode) (λ k. (c.type_inv.table k).fits) _ done.ensures
-    ∙ ap₂ (rewrite_answer s.form s.table.now s.mode s.default s.ranks.now) (ap length bytes.ensures ∙ length-replicate _ _) (ap length words.ensures ∙ length-replicate _ _))
+    ∙ ap₂ (rewrite_answer s.form s.table.now s.mode s.default s.ranks.now) bytes.ensures.len words.ensures.len)
     c.put_rewritten-end.ensures)

@@ -4,7 +4,7 @@ use mathlib.Core.Bool.{true}
 use mathlib.Core.Path.{refl, ap, ◌∙◌}
 use Prim.Native.Nat.{ℕ}
 use native.Mathlib.Omega.{arith}
-use lib.ListN.{length, length-replicate}
+use lib.ListN.{length}
 use Rattle.text.specs.Answers.{listed_text}
 use Rattle.text.proofs.Puts.{put_as}
 use Rattle.text.proofs.Replies.{listed-text, listed-fits}
@@ -17,14 +17,14 @@ pub put_listed-end-requires : goal.put_listed-end-requires
 put_listed-end-requires c =
     let size = c.size_of-size.ensures in
     let done = c.unrouted-answer in
-    let filled = c.fill.auto.room in
+    let filled = c.fill.auto.self in
     let fits = listed-fits _ _ _ _ _ done.ensures in record { size = (size.size, rw size.value fits); answer_in_bounds = rw size.value (omega (arith, fits, done.auto.output, filled, c.requires.output_len_bound, c.requires.in_bounds)) }
 
 pub listed-requires : goal.listed-requires
 listed-requires c =
     let size = c.size_of-size.ensures in
     let done = c.unrouted-answer in
-    let filled = c.fill.auto.room in
+    let filled = c.fill.auto.self in
     (size.size, rw size.value (omega (arith, listed-fits _ _ _ _ _ done.ensures, done.auto.output, filled, c.requires.output_len_bound)))
 
 pub returns : goal.returns
@@ -35,9 +35,9 @@ returns c =
     let done = c.unrouted-answer in
     let nothing =
     c.keep_output.ensures
-    (rw (c.listed.ensures, size) (list_filled _ _ _ _ 165 (length s.output.now) bytes.ensures _ done.ensures)) in
+    (rw (c.listed.ensures, size) (list_filled _ _ _ _ 165 (length s.output.now) (bytes.ensures.after (λ y e. e)) _ done.ensures)) in
     put_at refl nothing.0 nothing.1
     (put_as
     (ap (λ (n : ℕ). listed_text n true true done.result done.new.output) size
-    ∙ listed-text _ _ _ _ true true _ done.ensures ∙ ap (list_answer s.form s.table.now) (ap length bytes.ensures ∙ length-replicate _ _))
+    ∙ listed-text _ _ _ _ true true _ done.ensures ∙ ap (list_answer s.form s.table.now) bytes.ensures.len)
     c.put_listed-end.ensures)

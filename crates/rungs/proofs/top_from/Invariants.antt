@@ -1,11 +1,8 @@
--- `rungs::top_from` meets its contract. The loop's invariant: the top up to `from` is the top up to l. Assumes nothing.
-use Prim.Native.Nat.{◌≤◌}
+-- `rungs::top_from` meets its contract. The loop's invariant: the top up to `from` is the top below l. Assumes nothing.
+use Prim.Native.Nat.{◌-◌, ◌≤◌}
 use mathlib.Core.Path.{◌≡◌}
 use Rattle.rungs.specs.Rungs.{top_from}
 use Rattle.rungs.proofs.top_from.Given as goal
 
 abbrev pub invariant-loop-l : goal.invariant-loop-l
-invariant-loop-l l = (l.l ≤ 32) × (top_from l.hops l.from ≡ top_from l.hops l.l)
-
-abbrev pub decreases-loop-l : goal.decreases-loop-l
-decreases-loop-l l = l.l
+invariant-loop-l l = (1 ≤ l.l) × (top_from l.hops l.from ≡ top_from l.hops (l.l - 1))

@@ -1,30 +1,19 @@
--- `first_special`: the first record that lies in a range is the first of those from record i on. Assumes nothing.
-use mathlib.Core.Path.{◌≡◌, refl, sym, ap, ◌∙◌}
-use native.Mathlib.Omega.{arith}
-use Rattle.refusals.specs.Rules.{gives}
-use Rattle.records.specs.Wire.{route_at, routes}
-use Rattle.records.proofs.Reading.{rest_all}
+-- `first_special` is the first place at which a record lies in a range. Assumes nothing.
+use Rattle.std.proofs.Common.{◌≡◌, rules, ◌∙◌, ap, sym, refl, arith, ℕ}
+use Rattle.std.proofs.lemmas.Iterator.{YieldsList-from_range}
+use Rattle.std.proofs.lemmas.Iterator.Search.{find_from_yields_List}
+use Rattle.std.specs.List.{find, range_with_len}
+use Rattle.std.specs.Option.{option_map}
+use Rattle.records.specs.Wire.{route_at, routes, records}
 use Rattle.special.specs.Ranges.{is_special}
-use Rattle.special.proofs.Scan.{any_hop, record_met, record_passed, records_end}
+use Rattle.special.specs.Calls.{place_of}
+use Rattle.special.proofs.Scan.{place_kept, found_first}
 use Rattle.special.proofs.first_special.Goals as goal
 
-pub loop-i-init : goal.loop-i-init
-loop-i-init c = (omega arith, rw (rest_all c.args.table.now 0 refl))
-
-pub is_special-requires : goal.is_special-requires
-is_special-requires c = c.requires
-
-pub returns-then-is_special : goal.returns-then-is_special
-returns-then-is_special c =
-    let lies : c.is_special.result ≡ is_special 32 (routes c.args.ranges.now) (route_at c.args.table.now c.loop-i.i) = let a = c.args in let r = route_at a.table.now c.loop-i.i in rw (c.addr_at.ensures, c.len_at.ensures) at c.is_special.ensures ∙ any_hop 32 (routes a.ranges.now) r in
-    ap gives (sym (c.loop-i.invariant.1 ∙ record_met _ c.args.table.now c.loop-i.i (omega arith) (sym lies ∙ c.if-is_special.true)))
-
-pub loop-i-preserved : goal.loop-i-preserved
-loop-i-preserved c =
-    let lies : c.is_special.result ≡ is_special 32 (routes c.args.ranges.now) (route_at c.args.table.now c.loop-i.i) = let a = c.args in let r = route_at a.table.now c.loop-i.i in rw (c.addr_at.ensures, c.len_at.ensures) at c.is_special.ensures ∙ any_hop 32 (routes a.ranges.now) r in (
-      omega arith,
-      c.loop-i.invariant.1 ∙ record_passed _ c.args.table.now c.loop-i.i (omega arith) (sym lies ∙ c.if-is_special.false),
-    )
-
 pub returns : goal.returns
-returns c = ap gives (sym (c.loop-i.invariant.1 ∙ records_end _ c.args.table.now c.loop-i.i (omega arith)))
+returns c =
+    let r = c.args.table.now in
+    let found : option_map (λ (i : ℕ). i) c.find.result ≡ find (λ j. is_special 32 (routes c.args.ranges.now) (route_at r j)) (range_with_len 0 (records r)) =
+    find_from_yields_List (λ j. is_special 32 (routes c.args.ranges.now) (route_at r j)) _ _ _ c.find.ensures.ran (YieldsList-from_range 0 (records r) (records r) refl (omega arith))
+    (λ x b g k. search rules) in
+    sym (place_kept c.find.result) ∙ ap place_of found ∙ found_first (routes c.args.ranges.now) r

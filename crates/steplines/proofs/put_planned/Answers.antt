@@ -1,26 +1,43 @@
 -- `steplines::put_planned` meets its contract. Assumes nothing.
-use mathlib.Core.Path.{sym, ap, ◌∙◌}
+use mathlib.Core.Path.{◌≡◌, sym, ap, ◌∙◌}
+use Prim.Native.Nat.{ℕ}
 use native.Mathlib.Omega.{arith}
-use Rattle.text.proofs.Puts.{put_as, put_none}
-use Rattle.planner.specs.declared.Planned.{Planned}
-use Rattle.steplines.specs.Lines.{planned_text}
+use Rattle.std.specs.Prelude.{Option, None, Some, Result, Ok}
+use Rattle.refusals.specs.declared.Refusal.{Refusal}
+use Rattle.text.proofs.Puts.{put_as, put_none, put_then}
+use mathlib.Core.List.{List, ◌++◌}
+use lib.ListN.{take}
+use Rattle.std.proofs.lemmas.List.{take_min}
+use Rattle.plans.specs.declared.answers.Step.{Step}
+use Rattle.steplines.specs.Lines.{planned_text, step_lines, steps_end}
 use Rattle.steplines.proofs.StepLines.{planned_long, planned_short}
 use Rattle.steplines.proofs.put_planned.Goals as goal
 
 pub returns-then-count-gt2048 : goal.returns-then-count-gt2048
 returns-then-count-gt2048 c =
-    put_as (sym (ap (λ (r : Planned). planned_text c.args.total r c.args.room) c.in-Steps.is ∙ planned_long c.args.total _ c.args.room c.if-count-gt2048.true)) (put_none _ _ (omega (arith, c.requires)))
+    let a = c.args in
+    let s = c.in-Ok-Some in
+    let f : s.field-0 ≡ Some s.count = rw s.is at s.field-0-is in
+    put_as (sym (ap (λ (r : Result (Option ℕ) Refusal). planned_text a.total r a.room.now) (s.is ∙ ap Ok f) ∙ planned_long a.total s.count a.room.now c.if-count-gt2048.true))
+    (put_none _ _ (omega (arith, c.requires)))
 
 pub returns-else-count-gt2048 : goal.returns-else-count-gt2048
 returns-else-count-gt2048 c =
-    put_as (sym (ap (λ (r : Planned). planned_text c.args.total r c.args.room) c.in-Steps.is ∙ planned_short c.args.total _ c.args.room (omega (arith, c.if-count-gt2048.false)))) c.put_plan.ensures
+    let a = c.args in
+    let s = c.in-Ok-Some in
+    let f : s.field-0 ≡ Some s.count = rw s.is at s.field-0-is in
+    put_as
+    (sym (ap (λ (r : Result (Option ℕ) Refusal). planned_text a.total r a.room.now) (s.is ∙ ap Ok f) ∙ planned_short a.total s.count a.room.now (omega (arith, c.if-count-gt2048.false)) ∙ ap (λ (ss : List Step). step_lines ss ++ steps_end a.total s.count) (sym (ap (λ (k : ℕ). take k a.room.now) c.min.ensures ∙ take_min s.count a.room.now))))
+    (put_then c.put_steps-end.ensures.put c.put_total.ensures)
 
-pub returns-in-GaveUp : goal.returns-in-GaveUp
+pub returns-in-Ok-None : goal.returns-in-Ok-None
 unfolding planned_text
-returns-in-GaveUp c =
-    put_as (sym (ap (λ (r : Planned). planned_text c.args.total r c.args.room) c.in-GaveUp.is)) c.put_bytes.ensures
+returns-in-Ok-None c =
+    let a = c.args in
+    let s = c.in-Ok-None in
+    let f : s.field-0 ≡ None = rw s.is at s.field-0-is in
+    put_as (sym (ap (λ (r : Result (Option ℕ) Refusal). planned_text a.total r a.room.now) (s.is ∙ ap Ok f))) c.put_bytes.ensures
 
-pub returns-in-Refused : goal.returns-in-Refused
+pub returns-in-Err : goal.returns-in-Err
 unfolding planned_text
-returns-in-Refused c =
-    put_as (sym (ap (λ (r : Planned). planned_text c.args.total r c.args.room) c.in-Refused.is)) c.put_refused.ensures
+returns-in-Err c = rw c.in-Err.is c.put_refused.ensures

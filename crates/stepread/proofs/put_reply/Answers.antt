@@ -2,8 +2,8 @@
 use Rattle.stepread.specs.Reading.Replied.{answered, no_step}
 use Rattle.stepread.proofs.put_reply.Goals as goal
 
-pub returns-then-line-ne0 : goal.returns-then-line-ne0
-returns-then-line-ne0 c = record { replied = no_step _ c.put_no_step.ensures; upper_bound = c.put_no_step.ensures.fits }
+pub returns-in-Some-clause-replied : goal.returns-in-Some-clause-replied
+returns-in-Some-clause-replied c = no_step _ c.put_no_step.ensures
 
-pub returns : goal.returns
-returns c = record { replied = answered _ c.check_room-answer.result (c.wrong_line-line.ensures c.if-line-ne0.false) c.check_room-answer.ensures c.put_judged.ensures; upper_bound = c.put_judged.ensures.fits }
+pub returns-in-None-clause-replied : goal.returns-in-None-clause-replied
+returns-in-None-clause-replied c = answered _ c.check_plan.result c.in-None.ensures c.check_plan.ensures c.put_judged.ensures

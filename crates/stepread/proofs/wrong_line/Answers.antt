@@ -8,9 +8,4 @@ pub slice_bounds-common-end : goal.slice_bounds-common-end
 slice_bounds-common-end c = simp length-take (omega (arith, c.put_steps-end.ensures.put.fits, c.put_steps-end.auto.out))
 
 pub returns-then-same-text : goal.returns-then-same-text
-returns-then-same-text c =
-    λ e.
-    put_whole c.put_steps-end.ensures.put c.common-same.ensures.2 c.if-same-end.true c.if-same-text.true
-
-pub returns : goal.returns
-returns c = λ e. absurd (omega (arith, e, c.line_at.ensures))
+returns-then-same-text c = put_whole c.put_steps-end.ensures.put c.common-same.ensures.2 c.if-same-end.true c.if-same-text.true

@@ -23,6 +23,6 @@ returns c =
     let end = c.put_ending.ensures in
     let bits = 64 - width_in c.args.size in
     let address = ap (λ (k : ℕ). k / 2 ^ bits) c.key_at.ensures ∙ mul-div_cancel (route_in c.args.size c.args.table.now c.args.i).addr (pow_pos bits) in
-    let shown = put_as (ap (λ (a : ℕ). address_in c.args.size c.args.hex a ++ (47 ∷ [])) address) prefix.put in
+    let shown = put_as (ap (λ (a : ℕ). address_in c.args.size c.args.style.hex a ++ (47 ∷ [])) address) prefix.put in
     rw (← c.length_at.ensures, ← c.hop_of.ensures)
     (record { put = put_as (simp append_assoc) (put_then shown end.put); upper_bound = omega (arith, prefix.upper_bound, end.upper_bound, (size-some c.args.size c.requires.size.0).0) })

@@ -7,7 +7,8 @@ use native.Mathlib.Omega.{arith}
 use lib.ListN.{length}
 use Rattle.records.specs.declared.Form.{Form}
 use Rattle.records.specs.Forms.{size_of}
-use Rattle.holes.specs.declared.Listed.{Listed}
+use Rattle.std.specs.Prelude.{Result}
+use Rattle.refusals.specs.declared.Refusal.{Refusal}
 use Rattle.holes.specs.Listing.{listed_count, Lists}
 use Rattle.holes.proofs.Calls.{unrouted-length}
 use Rattle.text.specs.Answers.{listed_text}
@@ -17,14 +18,14 @@ use Rattle.unrouted.specs.Printed.{printed_in}
 use Rattle.unrouted.proofs.answer_in.Goals as goal
 
 -- What the list asks of the buffers: its records stand in the output, and their text fits.
-fits : (form : Form) (t o o' : List ℕ) (r : Listed) {size room : ℕ} → size ≡ size_of form → Lists form t o r o' → 3 * length o + 36 ≤ room
+fits : (form : Form) (t o o' : List ℕ) (r : Result ℕ Refusal) {size room : ℕ} → size ≡ size_of form → Lists form t o r o' → 3 * length o + 36 ≤ room
     → (size * listed_count r ≤ length o') × (0 + 3 * (size * listed_count r) + 36 ≤ room)
 fits form t o o' r e ok le =
     let f = subst (λ (n : ℕ). n * listed_count r ≤ length o') (sym e) (listed-fits form t o o' r ok) in
     (f, omega (arith, f, unrouted-length form t o r o' ok))
 
 -- Its text is that of the right reply.
-as_text : (form : Form) (t o o' : List ℕ) (r : Listed) {size : ℕ} → size ≡ size_of form → Lists form t o r o'
+as_text : (form : Form) (t o o' : List ℕ) (r : Result ℕ Refusal) {size : ℕ} → size ≡ size_of form → Lists form t o r o'
     → listed_text size false false r o' ≡ printed_in form (length o) t
 unfolding printed_in
 as_text form t o o' r e ok = ap (λ (n : ℕ). listed_text n false false r o') e ∙ listed-text form t o o' false false r ok

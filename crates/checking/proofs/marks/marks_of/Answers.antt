@@ -1,19 +1,19 @@
 -- `checking::marks::marks_of` meets its contract. Assumes nothing.
 use mathlib.Core.Path.{◌≡◌, ap, ◌∙◌}
 use native.Mathlib.Omega.{arith}
-use Prim.Native.Nat.{suc}
+use Prim.Native.Nat.{◌+◌, suc}
 use Rattle.checking.specs.Marks.{marks_upto}
 use Rattle.checking.proofs.Stepping.{marks_none, marks_next}
 use Rattle.checking.proofs.marks.marks_of.Goals as goal
 
 pub loop-l-init : goal.loop-l-init
-loop-l-init c = (omega arith, c.bare-marks.ensures ∙ marks_none _ _ c.args.hops.now, c.fine_of-fine.ensures)
-
-pub overflow_add-l : goal.overflow_add-l
-overflow_add-l c = record { fits = omega arith }
+loop-l-init c = (c.bare-marks.ensures ∙ marks_none _ _ c.args.hops.now, c.fine_of-fine.ensures)
 
 pub loop-l-preserved : goal.loop-l-preserved
-loop-l-preserved c = let l = c.loop-l in (omega arith, (rw (l.invariant.2, l.invariant.1) at c.marked-marks.ensures) ∙ marks_next _ _ c.args.hops.now l.l, l.invariant.2)
+loop-l-preserved c = let l = c.loop-l in ((rw (l.invariant.1, l.invariant.0) at c.marked-marks.ensures) ∙ marks_next _ _ c.args.hops.now l.l, l.invariant.1)
 
-pub returns : goal.returns
-returns c = let l = c.loop-l in let e : l.l ≡ suc c.args.len = omega arith in l.invariant.1 ∙ ap (marks_upto _ _ _) e
+pub returns-2 : goal.returns-2
+returns-2 c =
+    let l = c.loop-l in
+    let e : l.l + 1 ≡ suc c.args.len = omega arith in
+    (rw (l.invariant.1, l.invariant.0) at c.marked-marks.ensures) ∙ marks_next _ _ c.args.hops.now l.l ∙ ap (marks_upto _ _ _) e

@@ -9,24 +9,11 @@ use Rattle.theory.specs.Results.{throughout}
 use Rattle.theory.specs.Routes.{Route, held}
 use Rattle.nodes.specs.Node.{wide}
 use Rattle.gather.proofs.GatherRuns.{run_none}
-use Rattle.cover.proofs.CoverLaws.{none_covered, Sought, place_lt, record_covers, position-answer, place-slot, slot-node, slot-lies, slot-answer}
+use Rattle.cover.proofs.CoverLaws.{none_covered, Sought, record_covers, position-answer, slot-node, slot-lies, slot-answer}
 use Rattle.cover.proofs.query.+covers_in_aggregate.Goals as goal
 
 pub gather_run-requires : goal.gather_run-requires
 gather_run-requires t c = record { node = c.requires.node; first_len = (refl, refl); by_index = λ b lt. (get_or-replicate 63 b 0 0 lt, get_or-replicate 63 b 0 0 lt) }
-
-pub level_of-requires : goal.level_of-requires
-level_of-requires t c =
-    let pre = c.requires in
-    (pre.node.at.deep, pre.depth_le_len.0)
-
-pub heap_index-b-requires : goal.heap_index-b-requires
-heap_index-b-requires t c =
-    let pre = c.requires in
-    (pre.node.at.deep, c.level_of.ensures.1)
-
-pub record_over-over-requires : goal.record_over-over-requires
-record_over-over-requires t c = c.if-b-lt31.true
 
 pub returns-then-over : goal.returns-then-over
 returns-then-over t c =
@@ -34,52 +21,15 @@ returns-then-over t c =
     let s = sought in
     position-answer s true c.if-b-lt31.true (λ l j le lt e. record_covers s.node s.gathered l j le lt (sym c.if-over.true ∙ c.record_over-over.ensures l j le lt e))
 
-pub bit_covered-requires : goal.bit_covered-requires
-bit_covered-requires t c = record { node = c.requires.node; b_bound = c.if-b-lt31.true }
-
 pub returns-then-b-lt31 : goal.returns-then-b-lt31
 returns-then-b-lt31 t c =
     let sought : Sought c.args.size c.args.table.now c.args.lo c.args.hi c.args.depth (c.args.key * 2) (c.args.query * 2) c.args.len c.gather_run.new.first c.gather_run.new.end c.gather_run.result.present c.level_of.result c.heap_index-b.result = let pre = c.requires in record { node = pre.node; gathered = c.gather_run.ensures.gathered; lens = pre.depth_le_len; aligned = pre.aligned; lies = pre.fact; leveled = c.level_of.ensures; placed = c.heap_index-b.ensures.by_index _ pre.node.at pre.fact } in
     position-answer sought _ c.if-b-lt31.true c.bit_covered.ensures
 
-pub record_over-requires : goal.record_over-requires
-record_over-requires t c =
-    let sought : Sought c.args.size c.args.table.now c.args.lo c.args.hi c.args.depth (c.args.key * 2) (c.args.query * 2) c.args.len c.gather_run.new.first c.gather_run.new.end c.gather_run.result.present c.level_of.result c.heap_index-b.result = let pre = c.requires in record { node = pre.node; gathered = c.gather_run.ensures.gathered; lens = pre.depth_le_len; aligned = pre.aligned; lies = pre.fact; leveled = c.level_of.ensures; placed = c.heap_index-b.ensures.by_index _ pre.node.at pre.fact } in
-    omega (arith, place_lt sought)
-
 pub returns-then-record_over : goal.returns-then-record_over
 returns-then-record_over t c =
     let sought : Sought c.args.size c.args.table.now c.args.lo c.args.hi c.args.depth (c.args.key * 2) (c.args.query * 2) c.args.len c.gather_run.new.first c.gather_run.new.end c.gather_run.result.present c.level_of.result c.heap_index-b.result = let pre = c.requires in record { node = pre.node; gathered = c.gather_run.ensures.gathered; lens = pre.depth_le_len; aligned = pre.aligned; lies = pre.fact; leveled = c.level_of.ensures; placed = c.heap_index-b.ensures.by_index _ pre.node.at pre.fact } in
     slot-answer sought true c.if-b-lt31.false (λ l j le lt e. sym c.if-record_over.true ∙ c.record_over.ensures l j le lt e)
-
-pub offset_bounds-first-b : goal.offset_bounds-first-b
-offset_bounds-first-b t c =
-    let sought : Sought c.args.size c.args.table.now c.args.lo c.args.hi c.args.depth (c.args.key * 2) (c.args.query * 2) c.args.len c.gather_run.new.first c.gather_run.new.end c.gather_run.result.present c.level_of.result c.heap_index-b.result = let pre = c.requires in record { node = pre.node; gathered = c.gather_run.ensures.gathered; lens = pre.depth_le_len; aligned = pre.aligned; lies = pre.fact; leveled = c.level_of.ensures; placed = c.heap_index-b.ensures.by_index _ pre.node.at pre.fact } in
-    omega (arith, place_lt sought)
-
-pub bounds-first-b : goal.bounds-first-b
-bounds-first-b t c =
-    let sought : Sought c.args.size c.args.table.now c.args.lo c.args.hi c.args.depth (c.args.key * 2) (c.args.query * 2) c.args.len c.gather_run.new.first c.gather_run.new.end c.gather_run.result.present c.level_of.result c.heap_index-b.result = let pre = c.requires in record { node = pre.node; gathered = c.gather_run.ensures.gathered; lens = pre.depth_le_len; aligned = pre.aligned; lies = pre.fact; leveled = c.level_of.ensures; placed = c.heap_index-b.ensures.by_index _ pre.node.at pre.fact } in
-    omega (arith, place_lt sought)
-
-pub offset_bounds-end-b : goal.offset_bounds-end-b
-offset_bounds-end-b t c =
-    let sought : Sought c.args.size c.args.table.now c.args.lo c.args.hi c.args.depth (c.args.key * 2) (c.args.query * 2) c.args.len c.gather_run.new.first c.gather_run.new.end c.gather_run.result.present c.level_of.result c.heap_index-b.result = let pre = c.requires in record { node = pre.node; gathered = c.gather_run.ensures.gathered; lens = pre.depth_le_len; aligned = pre.aligned; lies = pre.fact; leveled = c.level_of.ensures; placed = c.heap_index-b.ensures.by_index _ pre.node.at pre.fact } in
-    omega (arith, place_lt sought)
-
-pub bounds-end-b : goal.bounds-end-b
-bounds-end-b t c =
-    let sought : Sought c.args.size c.args.table.now c.args.lo c.args.hi c.args.depth (c.args.key * 2) (c.args.query * 2) c.args.len c.gather_run.new.first c.gather_run.new.end c.gather_run.result.present c.level_of.result c.heap_index-b.result = let pre = c.requires in record { node = pre.node; gathered = c.gather_run.ensures.gathered; lens = pre.depth_le_len; aligned = pre.aligned; lies = pre.fact; leveled = c.level_of.ensures; placed = c.heap_index-b.ensures.by_index _ pre.node.at pre.fact } in
-    omega (arith, place_lt sought)
-
-pub overflow_add-depth : goal.overflow_add-depth
-overflow_add-depth t c = omega (arith, c.requires.node.at.deep)
-
-pub slot_key-requires : goal.slot_key-requires
-slot_key-requires t c =
-    let sought : Sought c.args.size c.args.table.now c.args.lo c.args.hi c.args.depth (c.args.key * 2) (c.args.query * 2) c.args.len c.gather_run.new.first c.gather_run.new.end c.gather_run.result.present c.level_of.result c.heap_index-b.result = let pre = c.requires in record { node = pre.node; gathered = c.gather_run.ensures.gathered; lens = pre.depth_le_len; aligned = pre.aligned; lies = pre.fact; leveled = c.level_of.ensures; placed = c.heap_index-b.ensures.by_index _ pre.node.at pre.fact } in
-    let s = sought in
-    (omega (arith, (place-slot s c.if-b-lt31.false).2), s.node.at)
 
 pub covers_in_aggregate-requires : goal.covers_in_aggregate-requires
 covers_in_aggregate-requires t c =

@@ -4,14 +4,10 @@ use mathlib.Core.Path.{sym, ◌∙◌}
 use native.Mathlib.Omega.{arith}
 use lib.ListN.{length}
 use lib.Seq.{slice}
-use Rattle.hopruns.specs.Runs.{no_hop, hop_of}
+use Rattle.hopruns.specs.Runs.{no_hop}
 use Rattle.hopruns.proofs.Merge.{run_length}
-use Rattle.hopruns.proofs.Assigning.{assign_hole, assign_kept, assign_taken, lowest-below}
+use Rattle.hopruns.proofs.Assigning.{assign_kept, assign_taken, lowest-below}
 use Rattle.hopruns.proofs.choosing.assign.Goals as goal
-
-pub returns-then-from-to : goal.returns-then-from-to
-returns-then-from-to c =
-    let a = c.args in record { result_value = assign_hole a.ranks.now a.work.now a.from a.to (hop_of a.above) c.if-from-to.true; upper_bound = λ le. omega arith }
 
 pub returns-then-has : goal.returns-then-has
 returns-then-has c =

@@ -3,7 +3,8 @@ use Prim.Native.Nat.{suc, ◌+◌}
 use mathlib.Core.Path.{◌≡◌, sym, ◌∙◌}
 use mathlib.Core.List.{◌∷◌}
 use native.Mathlib.Omega.{arith}
-use lib.ListN.{get_or}
+use lib.ListN.{length, get_or}
+use borrow.Author.Tests.{eqb-true}
 use lib.Seq.{slice, slice-cons, slice_empty}
 use Rattle.theory.specs.Ranks.{best}
 use Rattle.theory.specs.Shapes.{Sorted}
@@ -11,33 +12,14 @@ use Rattle.hopruns.proofs.Merge.{run-cons}
 use Rattle.hopruns.proofs.Assigning.{unranked_first, best_end, best-next}
 use Rattle.hopruns.proofs.choosing.choose.Goals as goal
 
-pub bounds-work-from : goal.bounds-work-from
-bounds-work-from c = let r = c.requires.run in omega (arith, r.within, c.requires.from_lt_to)
-
-pub returns-then-ranks-eq0 : goal.returns-then-ranks-eq0
-returns-then-ranks-eq0 c =
+pub returns-then-is_empty : goal.returns-then-is_empty
+returns-then-is_empty c =
     let a = c.args in
     let p = c.requires in
     let o = a.work.now in
     let cons = run-cons o a.from a.to p.run p.from_lt_to in
     let sorted : Sorted (get_or o a.from 0 ∷ slice (suc a.from) a.to o) = rw cons at p.run.sorted in
-    rw cons (unranked_first a.ranks.now (get_or o a.from 0) (slice (suc a.from) a.to o) c.if-ranks-eq0.true sorted)
-
-pub overflow_add-i : goal.overflow_add-i
-overflow_add-i c = omega (arith, c.requires.from_lt_to)
-
-pub loop-i-init : goal.loop-i-init
-loop-i-init c =
-    let a = c.args in
-    let p = c.requires in
-    let one : a.from + 1 ≡ suc a.from = omega arith in
-    (omega (arith, p.from_lt_to), p.run.within, rw (one, run-cons a.work.now a.from a.to p.run p.from_lt_to))
-
-pub bounds-work-i : goal.bounds-work-i
-bounds-work-i c = let l = c.loop-i in omega (arith, l.invariant.1)
-
-pub better-h-requires : goal.better-h-requires
-better-h-requires c = tt
+    rw cons (unranked_first a.ranks.now (get_or o a.from 0) (slice (suc a.from) a.to o) (eqb-true (length a.ranks.now) 0 (sym c.is_empty.ensures ∙ c.if-is_empty.true)) sorted)
 
 pub loop-i-preserved : goal.loop-i-preserved
 loop-i-preserved c =

@@ -6,7 +6,4 @@ use Rattle.hopruns.specs.Leaves.{leaf_words}
 use Rattle.hopruns.proofs.leaves.lay_leaves.Given as goal
 
 abbrev pub invariant-loop-p : goal.invariant-loop-p
-invariant-loop-p l = (l.p ≤ 16) × (l.at + 16 ≡ l.top + l.p) × Pushed (leaf_words l.covering l.fill (16 - l.p)) l.top l.at l.initial.work l.work
-
-abbrev pub decreases-loop-p : goal.decreases-loop-p
-decreases-loop-p l = l.p
+invariant-loop-p l = (l.p ≤ 16) × (l.at + 16 ≡ l.top) × Pushed (leaf_words l.covering l.fill (16 - l.p)) l.top (l.at + l.p) l.initial.work l.work

@@ -7,6 +7,3 @@ use Rattle.hopruns.proofs.ranking.is_ranking.Given as goal
 
 abbrev pub invariant-loop-i : goal.invariant-loop-i
 invariant-loop-i l = (l.i ≤ l.n) × (length l.ranks ≡ l.n) × Seen l.n l.ranks l.i l.seen
-
-abbrev pub decreases-loop-i : goal.decreases-loop-i
-decreases-loop-i l = l.i

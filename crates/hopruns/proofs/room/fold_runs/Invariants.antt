@@ -12,6 +12,3 @@ abbrev pub invariant-loop-b : goal.invariant-loop-b
 invariant-loop-b l =
     (l.b ≤ 31) × (length l.from ≡ 63) × (length l.to ≡ 63)
     × ((runs : ℕ → List ℕ) → MayFold runs l.holding l.initial.work l.initial.from l.initial.to l.top l.left → Folding runs l.holding l.top l.left l.initial.work l.work l.from l.to l.node l.rest l.b)
-
-abbrev pub decreases-loop-b : goal.decreases-loop-b
-decreases-loop-b l = l.b

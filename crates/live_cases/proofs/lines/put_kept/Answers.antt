@@ -1,29 +1,25 @@
 -- `lines::put_kept` puts the line of an answer. Assumes nothing.
 use Prim.Native.Nat.{◌≤◌}
-use mathlib.Core.Path.{sym, ap}
 use native.Mathlib.Omega.{arith}
-use Rattle.live.specs.declared.answers.Kept.{Kept}
-use Rattle.live.specs.Calls.{kept_says}
-use Rattle.text.proofs.Puts.{put_as}
 use Rattle.live_cases.specs.Lines.{kept_line}
 use Rattle.live_cases.proofs.Laid.{put-short, refused_short}
 use borrow.Author.Rules.{rules}
 use Rattle.live_cases.proofs.lines.put_kept.Goals as goal
 
-pub returns-in-Done : goal.returns-in-Done
+pub returns-in-Ok-true : goal.returns-in-Ok-true
 unfolding kept_line
-returns-in-Done c =
+returns-in-Ok-true c =
     let p = c.put_bytes.ensures in
-    (put_as (sym (ap (λ (k : Kept). kept_line (kept_says k)) c.in-Done.is)) p, put-short p (let h : 5 ≤ 36 = omega arith in h))
+    rw (c.in-Ok-true.is, c.in-Ok-true.field-0-test) (p, put-short p (let h : 5 ≤ 36 = omega arith in h))
 
-pub returns-in-Absent : goal.returns-in-Absent
+pub returns-in-Ok-false : goal.returns-in-Ok-false
 unfolding kept_line
-returns-in-Absent c =
-    let p = c.put_bytes-in-Absent.ensures in
-    (put_as (sym (ap (λ (k : Kept). kept_line (kept_says k)) c.in-Absent.is)) p, put-short p (let h : 7 ≤ 36 = omega arith in h))
+returns-in-Ok-false c =
+    let p = c.put_bytes-in-Ok-false.ensures in
+    rw (c.in-Ok-false.is, c.in-Ok-false.field-0-test) (p, put-short p (let h : 7 ≤ 36 = omega arith in h))
 
-pub returns-in-Refused : goal.returns-in-Refused
+pub returns-in-Err : goal.returns-in-Err
 unfolding kept_line
-returns-in-Refused c =
+returns-in-Err c =
     let p = c.put_refused.ensures in
-    (put_as (sym (ap (λ (k : Kept). kept_line (kept_says k)) c.in-Refused.is)) p, put-short p (refused_short _ _ (search rules) (search rules)))
+    rw c.in-Err.is (p, put-short p (refused_short _ _ (search rules) (search rules)))

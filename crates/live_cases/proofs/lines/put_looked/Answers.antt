@@ -1,29 +1,29 @@
 -- `lines::put_looked` puts the line of an answer. Assumes nothing.
 use Prim.Native.Nat.{◌≤◌}
-use mathlib.Core.Path.{sym, ap}
+use mathlib.Core.Path.{◌≡◌}
 use native.Mathlib.Omega.{arith}
-use Rattle.lookup.specs.declared.answers.Lookup.{Lookup}
-use Rattle.lookup.specs.Calls.{lookup_says}
-use Rattle.text.proofs.Puts.{put_as}
+use Rattle.std.specs.Prelude.{None, Some}
 use Rattle.live_cases.specs.Lines.{look_line}
 use Rattle.live_cases.proofs.Laid.{put-short, refused_short, found-short}
 use borrow.Author.Rules.{rules}
 use Rattle.live_cases.proofs.lines.put_looked.Goals as goal
 
-pub returns-in-Route : goal.returns-in-Route
+pub returns-in-Ok-Some : goal.returns-in-Ok-Some
 unfolding look_line
-returns-in-Route c =
+returns-in-Ok-Some c =
     let p = c.put_found.ensures in
-    (put_as (sym (ap (λ (k : Lookup). look_line (lookup_says k)) c.in-Route.is)) p, put-short p (found-short _ _ (search rules) (search rules)))
+    let e : c.in-Ok-Some.field-0 ≡ Some c.in-Ok-Some.found = rw c.in-Ok-Some.is at c.in-Ok-Some.field-0-is in
+    rw (c.in-Ok-Some.is, e) (p, put-short p (found-short _ _ (search rules) (search rules)))
 
-pub returns-in-NoRoute : goal.returns-in-NoRoute
+pub returns-in-Ok-None : goal.returns-in-Ok-None
 unfolding look_line
-returns-in-NoRoute c =
+returns-in-Ok-None c =
     let p = c.put_bytes.ensures in
-    (put_as (sym (ap (λ (k : Lookup). look_line (lookup_says k)) c.in-NoRoute.is)) p, put-short p (let h : 9 ≤ 36 = omega arith in h))
+    let e : c.in-Ok-None.field-0 ≡ None = rw c.in-Ok-None.is at c.in-Ok-None.field-0-is in
+    rw (c.in-Ok-None.is, e) (p, put-short p (let h : 9 ≤ 36 = omega arith in h))
 
-pub returns-in-Refused : goal.returns-in-Refused
+pub returns-in-Err : goal.returns-in-Err
 unfolding look_line
-returns-in-Refused c =
+returns-in-Err c =
     let p = c.put_refused.ensures in
-    (put_as (sym (ap (λ (k : Lookup). look_line (lookup_says k)) c.in-Refused.is)) p, put-short p (refused_short _ _ (search rules) (search rules)))
+    rw c.in-Err.is (p, put-short p (refused_short _ _ (search rules) (search rules)))

@@ -10,4 +10,4 @@ use Rattle.liveroom.proofs.changes.remove.Goals as goal
 pub returns : goal.returns
 returns c =
     let a = c.args in
-    ap (λ (u : List ℕ). set u 1 (a.n - 1)) c.move_down.ensures ∙ remove_is a.room.now a.n a.at (omega arith) (omega arith)
+    ap (λ (u : List ℕ). set u 1 (a.n - 1)) c.copy_within.ensures.after ∙ remove_is a.room.now a.n a.at (omega arith) (omega arith)

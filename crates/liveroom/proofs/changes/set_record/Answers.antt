@@ -3,15 +3,9 @@ use Prim.Native.Nat.{ℕ, ◌+◌, ◌*◌}
 use mathlib.Core.List.{◌∷◌, ◌++◌}
 use mathlib.Core.Path.{◌≡◌, ap, ◌∙◌}
 use native.Mathlib.Omega.{arith}
-use lib.ListN.{length-set, take, drop}
+use lib.ListN.{take, drop}
 use Rattle.liveroom.proofs.Moving.{two-sets}
 use Rattle.liveroom.proofs.changes.set_record.Goals as goal
-
-pub bounds-room-i-2 : goal.bounds-room-i-2
-bounds-room-i-2 c = simp length-set (omega arith)
-
-pub shape_of-room : goal.shape_of-room
-shape_of-room c = simp length-set
 
 pub returns : goal.returns
 returns c =

@@ -6,8 +6,8 @@ use Rattle.liveroom.proofs.check.nodes_held.Goals as goal
 pub returns-then-size-lt160 : goal.returns-then-size-lt160
 returns-then-size-lt160 c = held_none c.args.room.now (too_short c.args.room.now c.if-size-lt160.true)
 
-pub returns-then-room-ne1818850917 : goal.returns-then-room-ne1818850917
-returns-then-room-ne1818850917 c = held_none c.args.room.now (λ l. c.if-room-ne1818850917.true l.marked)
+pub returns-then-room-ne-MARK : goal.returns-then-room-ne-MARK
+returns-then-room-ne-MARK c = held_none c.args.room.now (λ l. c.if-room-ne-MARK.true l.marked)
 
 pub returns-then-room-gt1024 : goal.returns-then-room-gt1024
 returns-then-room-gt1024 c = held_none c.args.room.now (λ l. omega (arith, c.if-room-gt1024.true, l.few))
@@ -23,4 +23,4 @@ returns-then-size-count c =
 pub returns : goal.returns
 returns c =
     let room = c.args.room.now in
-    pass_held room _ c.if-room-ne1818850917.false c.if-room-gt1024.false c.if-size-n.false c.pass-count.ensures c.if-size-count.false
+    pass_held room _ c.if-room-ne-MARK.false c.if-room-gt1024.false c.if-size-n.false c.pass-count.ensures c.if-size-count.false

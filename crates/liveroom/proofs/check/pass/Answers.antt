@@ -28,14 +28,6 @@ returns-then-not-is_sound c =
     (first_bad a.room.now a.n 0 _ _ _ some c.addr_in-last_addr.ensures c.len_in-last_len.ensures c.hop_in.ensures refl
     (sym c.is_sound.ensures ∙ c.if-not-is_sound.true))
 
-pub brought-count-requires : goal.brought-count-requires
-brought-count-requires c =
-    let first-sound : sound (route c.addr_in-last_addr.result c.len_in-last_len.result c.hop_in.result) ≡ true = sym c.is_sound.ensures ∙ c.if-not-is_sound.false in
-    (sound-short _ _ c.hop_in.result first-sound, omega arith)
-
-pub overflow_add-count : goal.overflow_add-count
-overflow_add-count c = omega (arith, c.brought-count.ensures.1)
-
 pub loop-i-init : goal.loop-i-init
 loop-i-init c =
     let first-sound : sound (route c.addr_in-last_addr.result c.len_in-last_len.result c.hop_in.result) ≡ true = sym c.is_sound.ensures ∙ c.if-not-is_sound.false in
@@ -43,8 +35,6 @@ loop-i-init c =
     let some : 0 < a.n = pos a.n c.if-n-eq0.false in
     let e : 1 + passed 32 root (rest_in a.room.now a.n 0) ≡ 1 + passed 32 root (shown_from a.room.now 0 a.n) =
     ap (λ (t : List Route). 1 + passed 32 root t) (rest_all a.room.now a.n 0 refl) in (
-      omega arith,
-      some,
       sound-short _ _ c.hop_in.result first-sound,
       omega (arith, c.brought-count.ensures.1),
       first_good a.room.now a.n 0 _ _ _ some c.addr_in-last_addr.ensures c.len_in-last_len.ensures c.hop_in.ensures refl
@@ -58,46 +48,31 @@ returns-then-not-follows c =
     let a = c.args in
     let l = c.loop-i in
     passed_false a.room.now a.n
-    (l.invariant.4
-    ∙ next_bad a.room.now a.n l.i _ _ _ c.loop-i-test.true c.addr_in-addr.ensures c.len_in-len.ensures
+    (l.invariant.2
+    ∙ next_bad a.room.now a.n l.i _ _ _ (omega arith) c.addr_in-addr.ensures c.len_in-len.ensures
     c.hop_in-in-loop-i.ensures (bare l.last_addr l.last_len) (sym c.follows.ensures ∙ c.if-not-follows.true))
-
-pub brought-count-requires-in-loop-i : goal.brought-count-requires-in-loop-i
-brought-count-requires-in-loop-i c =
-    let went : (before (bare c.loop-i.last_addr c.loop-i.last_len) (route c.addr_in-addr.result c.len_in-len.result c.hop_in-in-loop-i.result) && sound (route c.addr_in-addr.result c.len_in-len.result c.hop_in-in-loop-i.result)) ≡ true = sym c.follows.ensures ∙ c.if-not-follows.false in
-    let l = c.loop-i in
-    let k : l.last_len ≤ 32 = omega arith in
-    (follows_short (bare l.last_addr l.last_len) _ _ c.hop_in-in-loop-i.result went, k)
-
-pub overflow_add-count-in-loop-i : goal.overflow_add-count-in-loop-i
-overflow_add-count-in-loop-i c =
-    let k = c.loop-i.invariant in
-    let b = c.brought-count-in-loop-i.ensures in
-    omega arith
 
 pub loop-i-preserved : goal.loop-i-preserved
 loop-i-preserved c =
     let went : (before (bare c.loop-i.last_addr c.loop-i.last_len) (route c.addr_in-addr.result c.len_in-len.result c.hop_in-in-loop-i.result) && sound (route c.addr_in-addr.result c.len_in-len.result c.hop_in-in-loop-i.result)) ≡ true = sym c.follows.ensures ∙ c.if-not-follows.false in
     let a = c.args in
     let l = c.loop-i in
-    let lt : l.i < a.n = c.loop-i-test.true in
+    let lt : l.i < a.n = omega arith in
     let b = c.brought-count-in-loop-i.ensures in (
-      omega arith,
-      omega arith,
       follows_short (bare l.last_addr l.last_len) _ _ c.hop_in-in-loop-i.result went,
       omega arith,
-      l.invariant.4
+      l.invariant.2
           ∙ next_good a.room.now a.n l.i _ _ _ lt c.addr_in-addr.ensures c.len_in-len.ensures c.hop_in-in-loop-i.ensures
           (bare l.last_addr l.last_len) went,
       next-count a.room.now a.n l.i _ _ _ lt c.addr_in-addr.ensures c.len_in-len.ensures c.hop_in-in-loop-i.ensures
-          (bare l.last_addr l.last_len) l.count _ _ b.0 l.invariant.5,
+          (bare l.last_addr l.last_len) l.count _ _ b.0 l.invariant.3,
     )
 
 pub returns : goal.returns
 returns c =
     let a = c.args in
     let l = c.loop-i in
-    let end : a.n ≤ l.i = c.loop-i-test.false in
+    let end : a.n ≤ l.i = omega arith in
     passed_true a.room.now a.n l.count (λ k. (c.type_inv.room k).fits)
-    (l.invariant.4 ∙ done_order a.room.now a.n l.i (bare l.last_addr l.last_len) end)
-    (omega (arith, l.invariant.5, done_count a.room.now a.n l.i (bare l.last_addr l.last_len) end))
+    (l.invariant.2 ∙ done_order a.room.now a.n l.i (bare l.last_addr l.last_len) end)
+    (omega (arith, l.invariant.3, done_count a.room.now a.n l.i (bare l.last_addr l.last_len) end))

@@ -1,5 +1,5 @@
 -- `check::pass` goes through the records once. Assumes nothing.
-use Prim.Native.Nat.{◌+◌, ◌-◌, ◌*◌, ◌≤◌}
+use Prim.Native.Nat.{◌+◌, ◌*◌, ◌≤◌}
 use mathlib.Core.Path.{◌≡◌}
 use Rattle.nodecount.proofs.NodeCount.{root, passed}
 use Rattle.nodecount.specs.Nodes.{bare}
@@ -9,12 +9,7 @@ use Rattle.liveroom.proofs.check.pass.Given as goal
 
 abbrev pub invariant-loop-i : goal.invariant-loop-i
 invariant-loop-i l =
-    (1 ≤ l.i)
-    × (l.i ≤ l.n)
-    × (l.last_len ≤ 32)
+    (l.last_len ≤ 32)
     × (l.count ≤ 1 + 6 * l.i)
     × (lawful (shown_from l.room 0 l.n) ≡ after (bare l.last_addr l.last_len) (rest_in l.room l.n l.i))
     × (l.count + passed 32 (bare l.last_addr l.last_len) (rest_in l.room l.n l.i) ≡ 1 + passed 32 root (shown_from l.room 0 l.n))
-
-abbrev pub decreases-loop-i : goal.decreases-loop-i
-decreases-loop-i l = l.n - l.i

@@ -1,21 +1,17 @@
 -- `matching::longest_in` goes back from place to place. The loop's invariant: no record from i on matches, and those before it stand at no higher address.
 -- Assumes nothing.
 use Prim.Native.Nat.{ℕ, ◌+◌, ◌-◌, ◌≤◌, ◌<◌}
-use mathlib.Core.Path.{◌≡◌, sym, ap, subst, ◌∙◌}
+use mathlib.Core.Path.{◌≡◌, sym, subst, ◌∙◌}
 use mathlib.Core.Bool.{false}
 use mathlib.Core.List.{List}
 use native.Mathlib.Decide.{dec_lt}
 use native.Mathlib.Omega.{arith}
 use Rattle.theory.specs.Results.{start_of}
 use Rattle.theory.specs.Routes.{matches}
-use Rattle.refusals.specs.Rules.{gives}
 use Rattle.liveroom.specs.Rooms.{route_in}
 use Rattle.liveroom.specs.Inner.{Placed, Shared}
 use Rattle.liveroom.proofs.Looking.{asked_matches, past-place, before-place, order_to, skipped, last_match, no_match}
 use Rattle.liveroom.proofs.matching.longest_in.Goals as goal
-
-pub place-i-requires : goal.place-i-requires
-place-i-requires c = let p = c.requires in (p.0, p.1.0.order)
 
 pub loop-i-init : goal.loop-i-init
 loop-i-init c =
@@ -25,35 +21,17 @@ loop-i-init c =
       before-place c.args.room.now c.args.n c.args.address table _ c.place-i.ensures,
     )
 
-pub overflow_cast-length : goal.overflow_cast-length
-overflow_cast-length c = omega (arith, c.requires.1.1 (c.loop-i.i - 1) (omega arith), c.len_in-length.ensures)
-
-pub contains-requires : goal.contains-requires
-contains-requires c = omega (arith, c.requires.1.1 (c.loop-i.i - 1) (omega arith), c.len_in-length.ensures)
-
-pub overflow_cast-result : goal.overflow_cast-result
-overflow_cast-result c = omega (arith, c.requires.1.1 (c.loop-i.i - 1) (omega arith), c.hop_in.ensures)
-
 pub returns-then-contains : goal.returns-then-contains
 returns-then-contains c =
     let told : c.contains.result ≡ matches 32 (route_in c.args.room.now (c.loop-i.i - 1)) c.args.address = let i = c.loop-i.i - 1 in let le : c.len_in-length.result ≤ 32 = omega (arith, c.requires.1.1 i (omega arith), c.len_in-length.ensures) in c.contains.ensures ∙ asked_matches (route_in c.args.room.now i) c.args.address _ _ c.addr_in-addr.ensures c.len_in-length.ensures le in
     let i = c.loop-i.i - 1 in
-    ap gives (last_match c.args.room.now c.args.n c.args.address c.requires.1.0 i _ _ (omega arith) c.len_in-length.ensures c.hop_in.ensures
-    (sym told ∙ c.if-contains.true) (λ k l h. c.loop-i.invariant.1 k (omega arith) h))
-
-pub overflow_cast-shared : goal.overflow_cast-shared
-overflow_cast-shared c = omega (arith, c.shared_bits-shared.ensures.most)
-
-pub overflow_add-shared : goal.overflow_add-shared
-overflow_add-shared c = omega (arith, c.shared_bits-shared.ensures.most)
+    last_match c.args.room.now c.args.n c.args.address c.requires.1.0 i _ _ (omega arith) c.len_in-length.ensures c.hop_in.ensures
+    (sym told ∙ c.if-contains.true) (λ k l h. c.loop-i.invariant.1 k (omega arith) h)
 
 pub place-i-requires-in-loop-i : goal.place-i-requires-in-loop-i
 place-i-requires-in-loop-i c =
     let holds = c.requires.0 in
     (omega arith, order_to c.args.room.now c.args.n c.args.address c.requires.1.0 _ (omega arith))
-
-pub loop-i-smaller : goal.loop-i-smaller
-loop-i-smaller c = omega (arith, c.place-i-in-loop-i.ensures.low)
 
 pub loop-i-preserved : goal.loop-i-preserved
 loop-i-preserved c =
@@ -87,4 +65,4 @@ loop-i-preserved c =
 
 pub returns : goal.returns
 returns c =
-    ap gives (no_match c.args.room.now c.args.n c.args.address c.requires.1.0 c.loop-i.i (omega arith) c.loop-i.invariant.1)
+    no_match c.args.room.now c.args.n c.args.address c.requires.1.0 c.loop-i.i (omega arith) c.loop-i.invariant.1

@@ -9,9 +9,6 @@ use Rattle.liveroom.specs.Rooms.{route_in}
 use Rattle.liveroom.proofs.Placing.{before-below, before_above}
 use Rattle.liveroom.proofs.matching.place.Goals as goal
 
-pub loop-from-init : goal.loop-from-init
-loop-from-init c = (omega arith, omega arith, λ k h. absurd (omega arith), λ k l h. absurd (omega arith))
-
 pub loop-from-preserved-then-comes_before : goal.loop-from-preserved-then-comes_before
 loop-from-preserved-then-comes_before c =
     let middle : ℕ = c.loop-from.from + (c.loop-from.to - c.loop-from.from) / 2 in
@@ -37,8 +34,3 @@ loop-from-preserved c =
       lp.invariant.2,
       λ i le h. before_above c.args.room.now c.args.n middle c.args.addr c.args.len c.requires.1 is i le h,
     )
-
-pub returns : goal.returns
-returns c =
-    let lp = c.loop-from in
-    record { low = omega arith; over = λ k h. lp.invariant.2 k h; stops = λ lt. lp.invariant.3 lp.from (omega arith) lt }

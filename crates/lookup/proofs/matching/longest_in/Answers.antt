@@ -5,31 +5,22 @@ use mathlib.Core.Path.{refl, sym, ap, ap₂, ◌∙◌}
 use native.Mathlib.Omega.{arith}
 use Rattle.theory.specs.Routes.{Route, longer, lookup}
 use Rattle.records.specs.Sized.{width_in, records_in}
-use Rattle.records.proofs.SizedReading.{size-some, in_rest_end, in_rest_all, in_rest_step}
+use Rattle.records.proofs.SizedReading.{in_rest_end, in_rest_all, in_rest_step}
 use Rattle.lookup.proofs.matching.longest_in.Goals as goal
 
-pub nonzero_div-i : goal.nonzero_div-i
-nonzero_div-i c = omega (arith, size-some c.args.size c.requires)
-
 pub loop-i-init : goal.loop-i-init
-loop-i-init c =
+loop-i-init c x e =
     let a = c.args in
-    (omega arith, λ x e. ap (λ (rs : List Route). lookup (width_in a.size) rs x) (sym (in_rest_end a.size a.table.now (records_in a.size a.table.now) refl)))
-
-pub tried_at-requires : goal.tried_at-requires
-tried_at-requires c = (c.requires, omega arith)
+    ap (λ (rs : List Route). lookup (width_in a.size) rs x) (sym (in_rest_end a.size a.table.now (records_in a.size a.table.now) refl))
 
 pub loop-i-preserved : goal.loop-i-preserved
-loop-i-preserved c =
-    let a = c.args in (
-      omega arith,
-      λ x e.
-          c.longer_of-best.ensures
-          ∙ ap₂ longer (c.tried_at.ensures x e) (c.loop-i.invariant.1 x e)
-          ∙ ap (λ (rs : List Route). lookup (width_in a.size) rs x) (sym (in_rest_step a.size a.table.now c.loop-i.i (omega arith) (omega arith))),
-    )
+loop-i-preserved c x e =
+    let a = c.args in
+    c.longer_of-best.ensures
+    ∙ ap₂ longer (c.tried_at.ensures x e) (c.loop-i.invariant x e)
+    ∙ ap (λ (rs : List Route). lookup (width_in a.size) rs x) (sym (in_rest_step a.size a.table.now c.loop-i.i (omega arith) (omega arith)))
 
 pub returns : goal.returns
 returns c x e =
     let a = c.args in
-    c.loop-i.invariant.1 x e ∙ ap (λ (rs : List Route). lookup (width_in a.size) rs x) (in_rest_all a.size a.table.now c.loop-i.i (omega arith))
+    c.loop-i.invariant x e ∙ ap (λ (rs : List Route). lookup (width_in a.size) rs x) (in_rest_all a.size a.table.now c.loop-i.i (omega arith))

@@ -1,31 +1,12 @@
 -- `nodes::emit::emit_level` meets its contract. Assumes nothing.
 use mathlib.Core.Path.{sym, ◌∙◌}
-use Prim.Native.Nat.{◌-◌}
 use native.Mathlib.Omega.{arith}
-use lib.Pow.{pow_pos}
-use borrow.Author.Rules.{rules}
 use Rattle.nodes.proofs.OutputLaws.{wrote_none, wrote_tail}
-use Rattle.nodes.proofs.OutputLevels.{shifted_one, index_lt, head_apart, head_absent, head-entry}
+use Rattle.nodes.proofs.OutputLevels.{index_lt, head_apart, head_absent, head-entry}
 use Rattle.nodes.proofs.emit.emit_level.Goals as goal
-
-pub nonzero_rem-c : goal.nonzero_rem-c
-nonzero_rem-c c = rw (shifted_one (5 - c.args.l) (omega arith)) (pow_pos (5 - c.args.l))
 
 pub returns-then-c-below-ne0 : goal.returns-then-c-below-ne0
 returns-then-c-below-ne0 c = record { upper_bound = omega arith; by_index = λ a half. rw (head_apart c.args.entries c.args.hops.now c.args.depth a c.args.c c.args.l c.requires.c_bound.1.0 c.if-c-below-ne0.true) (wrote_none c.requires.c_bound.1.1.1 _ _) }
-
-pub overflow_sub-b : goal.overflow_sub-b
-overflow_sub-b c = rw (shifted_one c.args.l (omega arith)) (pow_pos c.args.l)
-
-pub overflow_add-b : goal.overflow_add-b
-overflow_add-b c =
-    let h = index_lt c.args.l c.args.c c.requires.c_bound.1.0 c.requires.c_bound.0 in
-    search rules
-
-pub overflow_cast-b : goal.overflow_cast-b
-overflow_cast-b c =
-    let h = index_lt c.args.l c.args.c c.requires.c_bound.1.0 c.requires.c_bound.0 in
-    search rules
 
 pub has_bit-requires : goal.has_bit-requires
 has_bit-requires c =
@@ -36,15 +17,9 @@ pub returns-then-not-has_bit : goal.returns-then-not-has_bit
 returns-then-not-has_bit c =
     let clear = sym c.has_bit.ensures ∙ c.if-not-has_bit.true in record { upper_bound = omega arith; by_index = λ a half. rw (head_absent c.args.entries c.args.hops.now c.args.depth a c.args.c c.args.l c.requires.c_bound.1.0 c.if-c-below-ne0.false clear) (wrote_none c.requires.c_bound.1.1.1 _ _) }
 
-pub past_sized-at-requires : goal.past_sized-at-requires
-past_sized-at-requires c = c.requires.c_bound.1.1.1
-
 pub bounds-hops-b : goal.bounds-hops-b
 bounds-hops-b c =
     index_lt c.args.l c.args.c c.requires.c_bound.1.0 c.requires.c_bound.0
-
-pub put-requires : goal.put-requires
-put-requires c = (omega arith, c.requires.c_bound.1.1.1)
 
 pub returns : goal.returns
 returns c =

@@ -1,18 +1,7 @@
 -- `nodes::emit::head_slots` meets its contract. The loop: the slots of the positions below b that have an entry are marked. Assumes nothing.
 use native.Mathlib.Omega.{arith}
-use Rattle.nodes.proofs.OutputHeads.{heads-start, heads_pass, heads-mark, heads_all}
+use Rattle.nodes.proofs.OutputHeads.{heads_pass, heads-mark, heads_all}
 use Rattle.nodes.proofs.emit.head_slots.Goals as goal
-
-pub loop-b-init : goal.loop-b-init
-loop-b-init c =
-    let next = c.next_bit-b.ensures in
-    (next.high, heads_pass c.args.entries 0 (heads-start c.args.entries 0) next)
-
-pub with_bit-marked-requires : goal.with_bit-marked-requires
-with_bit-marked-requires c = c.slot_of.ensures.upper_bound
-
-pub loop-b-smaller : goal.loop-b-smaller
-loop-b-smaller c = omega (arith, c.next_bit-b-in-loop-b.ensures.low)
 
 pub loop-b-preserved : goal.loop-b-preserved
 loop-b-preserved c =

@@ -1,17 +1,10 @@
 -- `nodes::emit::slot_of` meets its contract. Assumes nothing.
 use native.Mathlib.Omega.{arith}
-use borrow.Author.Rules.{rules}
 use Rattle.nodes.proofs.OutputHeads.{slot_of, slot-found}
 use Rattle.nodes.proofs.emit.slot_of.Goals as goal
 
 pub overflow_sub-result : goal.overflow_sub-result
 overflow_sub-result c = let slot = slot-found c.args.b c.requires in omega arith
-
-pub overflow_cast-result-2 : goal.overflow_cast-result-2
-overflow_cast-result-2 c = let slot = slot-found c.args.b c.requires in search rules
-
-pub overflow_shl-result : goal.overflow_shl-result
-overflow_shl-result c = let slot = slot-found c.args.b c.requires in omega arith
 
 pub overflow_sub-result-2 : goal.overflow_sub-result-2
 overflow_sub-result-2 c = let slot = slot-found c.args.b c.requires in omega arith

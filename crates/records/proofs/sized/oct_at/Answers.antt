@@ -1,6 +1,7 @@
 -- `records::sized::oct_at` joins eight octets. Assumes nothing.
-use mathlib.Core.Path.{◌≡◌, sym, ap₂, ◌∙◌}
+use mathlib.Core.Path.{◌≡◌, ap₂, ◌∙◌}
 use mathlib.Core.List.{List}
+use native.Mathlib.Omega.{arith}
 use Prim.Native.Nat.{ℕ, ◌+◌, ◌*◌}
 use native.Mathlib.Nat.{add_assoc}
 use lib.ListN.{get_or}
@@ -20,4 +21,4 @@ octets : (t : List ℕ) (k : ℕ)
 octets t k = number_eight t k ∙ ap₂ (λ (x y : ℕ). x * 4294967296 + y) (number_four t k) (low t k)
 
 pub returns : goal.returns
-returns c = c.join8.ensures ∙ sym (octets _ _)
+returns c = omega (arith, c.from_be_bytes.ensures, octets c.args.table.now c.args.k)

@@ -9,5 +9,5 @@ pub returns : goal.returns
 returns c =
     let a = c.args in
     c.write_eight-2.ensures
-    ∙ ap (laid (a.k + 8) (last_eight a.len a.hop)) c.write_eight.ensures
+    ∙ ap (laid (a.k + 8) (last_eight a.len a.hop)) (rw c.to_be_bytes.ensures at c.write_eight.ensures)
     ∙ laid-long a.k (route a.key a.len a.hop) a.out.now c.requires

@@ -2,7 +2,7 @@
 -- the call's statement says, so that no line about it is kept. Assumes nothing.
 use mathlib.Core.Path.{ap, ◌∙◌}
 use native.Mathlib.Omega.{arith}
-use lib.ListN.{length, length-replicate}
+use lib.ListN.{length}
 use Rattle.text.proofs.Puts.{put_as, put-length}
 use Rattle.replaying_more.specs.ChipKept.{chip_answer}
 use Rattle.kept.proofs.KeptLaws.{put_at}
@@ -22,9 +22,9 @@ returns c =
     let s = c.args in
     let bytes = c.fill in
     let done = c.load-answer in
-    let nothing = c.keep_image.ensures (image_as_said _ _ _ _ (length s.image.now) bytes.ensures _ done.ensures) in
+    let nothing = c.keep_image.ensures (image_as_said _ _ _ _ (length s.image.now) (bytes.ensures.after (λ y e. e)) _ done.ensures) in
     put_at c.room_for-begin.ensures.value nothing.0 nothing.1
     (put_as
     (chip_kept _ _ _ _ (λ k. (c.type_inv.table k).fits) _ done.ensures
-    ∙ ap (chip_answer s.form s.table.now) (ap length bytes.ensures ∙ length-replicate _ _))
+    ∙ ap (chip_answer s.form s.table.now) bytes.ensures.len)
     c.put_loaded-end.ensures)

@@ -1,17 +1,16 @@
 -- `rules::clear_between` tests byte by byte. Assumes nothing.
-use mathlib.Core.Path.{refl, sym, ◌∙◌}
-use native.Mathlib.Omega.{arith}
-use Rattle.records.proofs.Numbers.{clear_pass, clear_stop, clear_end}
+use mathlib.Core.Path.{◌≡◌, sym, ◌∙◌}
+use Rattle.std.proofs.Common.{rules}
+use lib.Dec.{eqb}
+use Rattle.std.specs.List.{between, list_all}
+use Rattle.std.proofs.lemmas.Iterator.{YieldsList-from_slice}
+use Rattle.std.proofs.lemmas.Iterator.Search.{all_from_yields_List}
+use borrow.Author.Tests.{tests}
+use Rattle.table.proofs.Clear.{clear_all}
 use Rattle.table.proofs.rules.clear_between.Goals as goal
 
-pub loop-at-init : goal.loop-at-init
-loop-at-init c = (omega arith, refl)
-
-pub returns-then-table-at-ne0 : goal.returns-then-table-at-ne0
-returns-then-table-at-ne0 c = sym (c.loop-at.invariant.1 ∙ clear_stop _ _ _ (omega arith) c.if-table-at-ne0.true)
-
-pub loop-at-preserved : goal.loop-at-preserved
-loop-at-preserved c = (omega arith, c.loop-at.invariant.1 ∙ clear_pass _ _ _ (omega arith) c.if-table-at-ne0.false)
-
 pub returns : goal.returns
-returns c = sym (c.loop-at.invariant.1 ∙ clear_end _ _ _ (omega arith))
+returns c =
+    let e : c.all.result ≡ list_all (λ b. eqb b 0) (between c.args.k c.args.end c.args.table.now) =
+    all_from_yields_List (λ b. eqb b 0) _ _ c.all.result c.all.ensures.ran (YieldsList-from_slice (between c.args.k c.args.end c.args.table.now) cc) (λ x b q k. search (rules, tests)) in
+    e ∙ sym (clear_all c.args.table.now c.args.k c.args.end c.requires.0 c.requires.1)

@@ -1,32 +1,14 @@
--- `tabletext::pieces::place` meets its contract: before byte i the byte is not. Assumes nothing.
+-- `tabletext::pieces::place` meets its contract. Assumes nothing.
+use mathlib.Core.Path.{◌≡◌, ap, ◌∙◌}
 use native.Mathlib.Omega.{arith}
-use mathlib.Core.Path.{sym, ◌∙◌}
-use Rattle.tabletext.proofs.PieceLaws.{place_here, place_on, place_end}
+use lib.ListN.{length}
+use Rattle.std.specs.Option.{unwrap_or}
+use Rattle.tabletext.specs.Pieces.{place}
+use Rattle.tabletext.proofs.PieceLaws.{place-most, place_found}
 use Rattle.tabletext.proofs.pieces.place.Goals as goal
-
-pub loop-i-init : goal.loop-i-init
-loop-i-init c = (omega arith, omega arith)
-
-pub is-requires : goal.is-requires
-is-requires c = tt
-
-pub returns-then-is : goal.returns-then-is
-returns-then-is c =
-    let l = c.loop-i in
-    let a = c.args in
-    let here = place_here a.b a.s.now l.i (omega arith) (sym c.is.ensures ∙ c.if-is.true) in
-    (omega (arith, l.invariant.1, here), omega arith)
-
-pub loop-i-preserved : goal.loop-i-preserved
-loop-i-preserved c =
-    let l = c.loop-i in
-    let a = c.args in
-    let on = place_on a.b a.s.now l.i (omega arith) (sym c.is.ensures ∙ c.if-is.false) in
-    (omega arith, l.invariant.1 ∙ omega (arith, on))
 
 pub returns : goal.returns
 returns c =
-    let l = c.loop-i in
     let a = c.args in
-    let end = place_end a.b a.s.now l.i (omega arith) in
-    (omega (arith, l.invariant.1, end), omega arith)
+    let e : c.unwrap_or.result ≡ place a.b a.s.now = c.unwrap_or.ensures ∙ ap (λ o. unwrap_or o (length a.s.now)) c.find.ensures ∙ place_found a.b a.s.now in
+    (e, omega (arith, place-most a.b a.s.now))

@@ -1,12 +1,11 @@
--- `tabletext::pieces::unblank` meets its contract: before byte i are blanks alone. Assumes nothing.
+-- `tabletext::pieces::unblank` meets its contract: before the rest are blanks alone. Assumes nothing.
 use mathlib.Core.Path.{◌≡◌}
-use Prim.Native.Nat.{◌-◌, ◌≤◌}
-use lib.ListN.{length, drop}
+use lib.ListN.{length}
 use Rattle.tabletext.specs.Pieces.{unblank}
 use Rattle.tabletext.proofs.pieces.unblank.Given as goal
 
-abbrev pub invariant-loop-i : goal.invariant-loop-i
-invariant-loop-i l = (l.i ≤ length l.s) × (unblank l.s ≡ unblank (drop l.i l.s))
+abbrev pub invariant-loop-rest : goal.invariant-loop-rest
+invariant-loop-rest l = unblank l.s ≡ unblank l.rest
 
-abbrev pub decreases-loop-i : goal.decreases-loop-i
-decreases-loop-i l = length l.s - l.i
+abbrev pub decreases-loop-rest : goal.decreases-loop-rest
+decreases-loop-rest l = length l.rest

@@ -5,11 +5,11 @@ use lib.Seq.{slice_empty}
 use Rattle.hopruns.proofs.Reading.{read_hole, read_some}
 use Rattle.hopruns.proofs.room.NodeReader.pop.Goals as goal
 
-pub returns-then-mask-eq0 : goal.returns-then-mask-eq0
-returns-then-mask-eq0 c =
+pub returns-then-self-eq0 : goal.returns-then-self-eq0
+returns-then-self-eq0 c =
     let a = c.args in
     λ runs k h.
-    let r = read_hole runs k a.self.mask a.self.top a.work.now h.masked h.begins c.if-mask-eq0.true in
+    let r = read_hole runs k a.self.mask a.self.top a.work.now h.masked h.begins c.if-self-eq0.true in
     record {
       order = omega arith;
       within = h.within;
@@ -17,28 +17,18 @@ returns-then-mask-eq0 c =
       past = record { masked = r.masked; within = h.within; begins = r.begins };
     }
 
-pub bounds-work-top : goal.bounds-work-top
-bounds-work-top c =
+pub bounds-work-self : goal.bounds-work-self
+bounds-work-self c =
     let a = c.args in
     let h = c.requires.2 in
-    let r = read_some _ _ a.self.mask a.self.top a.work.now h.masked h.begins c.if-mask-eq0.false in
+    let r = read_some _ _ a.self.mask a.self.top a.work.now h.masked h.begins c.if-self-eq0.false in
     omega (arith, r.word)
-
-pub overflow_cast-to : goal.overflow_cast-to
-overflow_cast-to c = omega (arith, c.type_inv.work c.args.self.top)
-
-pub overflow_add-to-2 : goal.overflow_add-to-2
-overflow_add-to-2 c =
-    let a = c.args in
-    let h = c.requires.2 in
-    let r = read_some _ _ a.self.mask a.self.top a.work.now h.masked h.begins c.if-mask-eq0.false in
-    omega (arith, r.within)
 
 pub returns : goal.returns
 returns c =
     let a = c.args in
     λ runs k h.
-    let r = read_some runs k a.self.mask a.self.top a.work.now h.masked h.begins c.if-mask-eq0.false in
+    let r = read_some runs k a.self.mask a.self.top a.work.now h.masked h.begins c.if-self-eq0.false in
     record {
       order = omega arith;
       within = r.within;

@@ -1,7 +1,0 @@
--- `keep_work` meets its contract. Assumes nothing.
-use mathlib.Core.Path.{sym, ◌∙◌}
-use mathlib.Core.Bool.{true≢false}
-use Rattle.kept.proofs.keep_work.Goals as goal
-
-pub returns : goal.returns
-returns c = λ e. absurd (true≢false (sym e ∙ sym c.are.ensures ∙ c.if-are.false))

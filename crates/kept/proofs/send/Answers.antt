@@ -1,1 +1,0 @@
--- `send` is safe and ends. Assumes nothing.

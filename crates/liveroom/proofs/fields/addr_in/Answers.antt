@@ -1,8 +1,0 @@
--- `fields::addr_in` reads the address of record i. Assumes nothing.
-use mathlib.Core.Path.{refl}
-use Rattle.liveroom.specs.Rooms.{route_in}
-use Rattle.liveroom.proofs.fields.addr_in.Goals as goal
-
-pub returns : goal.returns
-unfolding route_in
-returns c = refl

@@ -1,2 +1,0 @@
--- The laws of rooms of one value.
-pub mod RoomLaws

@@ -1,9 +1,10 @@
 // What every engine's rewrite asks beside its walk: which mode a number names, by which hop is what has no route filled, may these ranks be lent, and how many
-// records can the result have at most.
+// records can the result have at most. The last three are asked of a mode, and of any number as a mode.
 
-ghost use Rattle.std.specs.Prelude.{◌≡◌, ◌+◌, ◌^◌, ◌<◌};
+ghost use Rattle.std.specs.Prelude.{◌≡◌, not, ◌+◌, ◌^◌, ◌≤◌, ◌<◌};
+ghost use Rattle.positions.specs.Runs.{no_hop};
 ghost use Rattle.calls.specs.Rewriting.{takes_set};
-ghost use Rattle.calls.specs.Modes.{mode_number, Names, FilledBy, RankedBy};
+ghost use Rattle.calls.specs.Modes.{mode_number, default_known, ranks_known, Names, FilledBy, RankedBy};
 
 use hops::NO_HOP;
 use hops::ranking::is_ranking;
@@ -54,27 +55,20 @@ impl Mode {
     pub fn fill(self, default: u32) -> Result<u8, Cause>
         ensures { FilledBy (mode_number self) default result }
     {
-        if self != Mode::MapFill {
-            return Ok(NO_HOP);
-        }
-        if GREATEST < default {
+        if no_hop(self as u32, default) {
             return Err(Cause::Default);
         }
-        Ok(default as u8)
+        Ok(fill_of(self as u32, default))
     }
 
     // May these ranks be lent? The modes without a choice of hops do not read them.
     pub fn check_ranks(self, ranks: &[u16]) -> Result<(), Cause>
         ensures { RankedBy (mode_number self) ranks.now result }
     {
-        if (self as u32) < 4 {
-            return Ok(());
+        if no_ranks(self as u32, ranks) {
+            return Err(Cause::Ranks);
         }
-        if is_ranking(ranks) {
-            Ok(())
-        } else {
-            Err(Cause::Ranks)
-        }
+        Ok(())
     }
 
     // The most records that the mode makes of so many.
@@ -82,10 +76,44 @@ impl Mode {
         requires { records + 1 < 2 ^ 64 }
         ensures { (mode_number self ≡ 5 → result ≡ records + 1) × ((mode_number self ≡ 5 → ⊥) → result ≡ records) }
     {
-        if self == Mode::MapFill {
-            records + 1
-        } else {
-            records
-        }
+        most_records(self as u32, records)
     }
+}
+
+// ---- By any number.
+
+// Is the default of fill no hop?
+pub fn no_hop(mode: u32, default: u32) -> bool
+    ensures { result ≡ not (default_known mode default) }
+{
+    mode == 5 && GREATEST < default
+}
+
+// Are these ranks not to be lent in the mode? Modes 1 and 3 do not read them.
+pub fn no_ranks(mode: u32, ranks: &[u16]) -> bool
+    ensures { result ≡ not (ranks_known mode ranks.now) }
+{
+    if mode < 4 {
+        return false;
+    }
+    !is_ranking(ranks)
+}
+
+// The hop of what has no route: the default in mode 5, and none in the others.
+pub fn fill_of(mode: u32, default: u32) -> u8
+    ensures { (mode ≡ 5 → default ≤ 63 → result ≡ default) × ((mode ≡ 5 → ⊥) → result ≡ no_hop) }
+{
+    if mode == 5 {
+        (default % 256) as u8
+    } else {
+        NO_HOP
+    }
+}
+
+// The most records that the mode makes of so many.
+pub fn most_records(mode: u32, records: usize) -> usize
+    requires { records + 1 < 2 ^ 64 }
+    ensures { (mode ≡ 5 → result ≡ records + 1) × ((mode ≡ 5 → ⊥) → result ≡ records) }
+{
+    if mode == 5 { records + 1 } else { records }
 }

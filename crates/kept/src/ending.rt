@@ -1,7 +1,8 @@
 // How a run ends (docs/CASES.md).
 
-ghost use Rattle.std.specs.Prelude.{◌≤◌, length, IfOk};
+ghost use Rattle.std.specs.Prelude.{◌≡◌, ◌≤◌, length, IfOk};
 ghost use Rattle.std.specs.Io.KnownBytes.{Consumes};
+ghost use Rattle.kept.specs.declared.ending.Ending.TheVariants.{At, Failed};
 
 use std::io;
 use std::io::Read;
@@ -52,12 +53,16 @@ pub enum Ending {
 }
 
 impl From<Fault> for Ending {
+    ghost from_gives = { λ fault ending. ending ≡ At fault };
+
     fn from(fault: Fault) -> Ending {
         Ending::At(fault)
     }
 }
 
 impl From<io::Error> for Ending {
+    ghost from_gives = { λ error ending. ending ≡ Failed error };
+
     fn from(error: io::Error) -> Ending {
         Ending::Failed(error)
     }

@@ -1,6 +1,6 @@
 -- What the checker finds out of the steps one after the other, of a prefix, and of the class of a prefix: the addresses that no longer prefix holds, of the
 -- tables' and those that a step puts. Tables are records of 8 bytes, addresses have 32 bits.
-use Rattle.std.specs.Prelude.{ℕ, ◌-◌, ◌^◌, ◌≤◌, ◌<◌, ◌≡◌, true, false, List, map, ◌⊎◌, length, Option, MatchOption}
+use Rattle.std.specs.Prelude.{ℕ, ◌-◌, ◌^◌, ◌≤◌, ◌<◌, ◌≡◌, Bool, true, false, ◌&&◌, List, map, eqb, ◌⊎◌, length, Option, MatchOption}
 use Rattle.theory.specs.Results.{start_of}
 use Rattle.theory.specs.Routes.{Route, Answer, none}
 use Rattle.theory.specs.Shapes.{routed}
@@ -22,6 +22,10 @@ pub record MayFollow (t u : List ℕ) (ss : List Step) : Type 0 where
   pub short : (j : ℕ) → j < length ss → (step_at ss j).len ≤ 32
   pub hopped : (j : ℕ) → j < length ss → puts (step_at ss j).put ≡ true → (step_at ss j).hop < no_hop
   pub small : (j : ℕ) → j < length ss → (step_at ss j).addr < 2 ^ 32
+
+-- Are two routes one?
+abbrev pub same_route : Route → Route → Bool
+same_route r s = (eqb r.addr s.addr && eqb r.len s.len) && eqb r.hop s.hop
 
 -- The table after the first k steps.
 abbrev pub table_after : List ℕ → List Step → ℕ → List Route

@@ -15,7 +15,7 @@ ghost use Rattle.steps.specs.Steps.{entry};
 ghost use Rattle.rungs.specs.Rungs.{number_of};
 ghost use Rattle.plans.specs.Judging.{Accepts};
 ghost use Rattle.plans.specs.Following.{step_at};
-ghost use Rattle.plans.specs.Deciding.{MayFollow, table_after, LastLeft, PutBy, Known, InClass, NoClass, Kept, Done};
+ghost use Rattle.plans.specs.Deciding.{MayFollow, same_route, table_after, LastLeft, PutBy, Known, InClass, NoClass, Kept, Done};
 
 use crate::answers::Step;
 use checking::marks::{fine_of, is_fine};
@@ -71,6 +71,16 @@ fn standing(installed: &[u8], x: u32, len: u8, left: Option<u8>) -> u8
         Some(hop) => hop,
         None => climb(installed, x).hops[len as usize],
     }
+}
+
+// Is record i of two tables the same route?
+fn is_same_at(installed: &[u8], new: &[u8], i: usize) -> bool
+    requires { (i < records installed.now) × (i < records new.now) }
+    ensures { result ≡ same_route (route_at installed.now i) (route_at new.now i) }
+{
+    addr_at(installed, i) == addr_at(new, i)
+        && len_at(installed, i) == len_at(new, i)
+        && hop_at(installed, i) == hop_at(new, i)
 }
 
 // Two accepted tables, and steps from the one to the other that each keep their rule.
@@ -194,12 +204,32 @@ impl Change<'_> {
         Some(count)
     }
 
-    // Do the steps change the installed table to the new one without a detour?
+    // Have the two tables the same routes?
+    fn is_same(&self) -> bool
+        ensures yes { result ≡ true → routes self.now.installed.now ≡ routes self.now.new.now }
+        ensures no { result ≡ false → routes self.now.installed.now ≡ routes self.now.new.now → ⊥ }
+    {
+        let n = self.installed.len() / 8;
+        if n != self.new.len() / 8 {
+            return false;
+        }
+        for i in 0..n {
+            if !is_same_at(self.installed, self.new, i) {
+                return false;
+            }
+        }
+        true
+    }
+
+    // Do the steps change the installed table to the new one without a detour? Without steps the two tables must be one, and no prefix is climbed for.
     pub fn is_hitless(&self) -> bool
         requires { MayFollow self.now.installed.now self.now.new.now self.now.steps.now }
         ensures yes { result ≡ true → Accepts self.now.installed.now self.now.new.now self.now.steps.now }
         ensures no { result ≡ false → Accepts self.now.installed.now self.now.new.now self.now.steps.now → ⊥ }
     {
+        if self.steps.is_empty() {
+            return self.is_same();
+        }
         self.count_after() == Some(self.new.len() / 8) && self.are_records_kept()
     }
 }

@@ -24,8 +24,8 @@ use records::{Form, join4, size_of};
 use refusals::Refusal;
 use std::io::Stdout;
 use streams::outlet::Outlet;
-use text::Style;
 use text::answers::{put_covers, put_held, put_listed, put_lookup, put_rewritten};
+use text::{Refused, Style};
 
 // The bytes of the output that an answer's records take.
 fn written(answer: Result<Rewritten, Refusal>, size: usize) -> usize
@@ -219,7 +219,8 @@ pub fn list_text(
     let size = size_of(form);
     output.fill(FILLED_BYTE);
     let answer = unrouted(table, form, output);
-    let end = put_listed(answer, output, size, true, true, 0, text);
+    let said = answer.map_err(Refused::from);
+    let end = put_listed(said, output, size, true, true, 0, text);
     keep_output(outlet, output, listed(answer, size), end, text)
 }
 

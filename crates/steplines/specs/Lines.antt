@@ -6,7 +6,9 @@ use Rattle.plans.specs.declared.answers.Step.{Step}
 use Rattle.checking.specs.Checking.{puts}
 use Rattle.records.specs.declared.Form.{Form}
 use Rattle.planner.specs.Planning.{Plans}
-use Rattle.text.specs.Text.{Put, decimal, line_of, refusal_line}
+use Rattle.text.specs.declared.Refused.{Refused}
+use Rattle.text.specs.Text.{Put, decimal, line_of, refused_line, refusal_line}
+use Rattle.text.specs.Answers.{as_said}
 
 -- `yes`, `no` or the refusal.
 unfoldable pub judged_text : Result Bool Refusal → List ℕ
@@ -31,16 +33,16 @@ step_lines (s ∷ ss) = step_line s ++ step_lines ss
 unfoldable pub steps_end : Bool → ℕ → List ℕ
 steps_end total n = cond total (115 ∷ 116 ∷ 101 ∷ 112 ∷ 115 ∷ 32 ∷ decimal n ++ (10 ∷ [])) []
 
--- Of the planner's answer, with the steps of the room that it left: the lines of a plan; `gave up`; or the refusal. Of a plan of more than 2,048 steps, which
--- no tables have, nothing.
-unfoldable pub planned_text : Bool → Result (Option ℕ) Refusal → List Step → List ℕ
+-- Of the planner's answer, with the steps of the room that it left: the lines of a plan; `gave up`; or the refusal, whatever its number and index. Of a plan
+-- of more than 2,048 steps, which no tables have, nothing.
+unfoldable pub planned_text : Bool → Result (Option ℕ) Refused → List Step → List ℕ
 planned_text total (Ok (Some count)) room = cond (ltb 2048 count) [] (step_lines (take count room) ++ steps_end total count)
 planned_text total (Ok None) room = 103 ∷ 97 ∷ 118 ∷ 101 ∷ 32 ∷ 117 ∷ 112 ∷ 10 ∷ []
-planned_text total (Err refusal) room = refusal_line refusal
+planned_text total (Err refused) room = refused_line refused.number refused.index
 
 -- The text of a right answer, which is the only one (planner, `plan_settled`), for a room of steps.
 pub record PlanPut (form : Form) (t u : List ℕ) (room : List Step) (total : Bool) (at r : ℕ) (o o' : List ℕ) : Type 0 where
   pub answer : Result (Option ℕ) Refusal
   pub left : List Step
   pub plans : Plans form t u room answer (take (length room) left)
-  pub text : Put (planned_text total answer left) at r o o'
+  pub text : Put (planned_text total (as_said answer) left) at r o o'

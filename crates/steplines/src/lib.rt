@@ -1,7 +1,9 @@
 // The text of steps and of the checker's answer.
 #![tactic(auto)]
 
-ghost use Rattle.std.specs.Prelude.{◌≡◌, ℕ, ◌+◌, ◌*◌, ◌≤◌, length};
+ghost use Rattle.std.specs.Prelude.{◌≡◌, ℕ, ◌+◌, ◌*◌, ◌≤◌, length, Option, Result};
+ghost use Rattle.refusals.specs.declared.Refusal.{Refusal};
+ghost use Rattle.planner.specs.Planning.{Plans};
 ghost use Rattle.checking.specs.Checking.{puts};
 ghost use Rattle.text.specs.Text.{Put};
 ghost use Rattle.steplines.specs.Lines.{judged_text, word_of, step_line, step_lines, steps_end, planned_text, PlanPut};
@@ -10,7 +12,7 @@ use planner::plan;
 use plans::answers::Step;
 use records::Form;
 use refusals::Refusal;
-use text::{put_bytes, put_dotted, put_ending, put_last, put_refused};
+use text::{Refused, put_bytes, put_dotted, put_ending, put_last, put_refused, put_said};
 
 // `yes`, `no` or the refusal.
 #[tactic(auto, unfolding(crate::specs::Lines::judged_text))]
@@ -77,7 +79,7 @@ fn put_total(n: usize, total: bool, at: usize, out: &mut [u8]) -> usize
 
 // The text of the planner's answer, from the room that it left; nothing of a plan of more than 2,048 steps, which no tables have.
 pub fn put_planned(
-    answer: Result<Option<usize>, Refusal>,
+    answer: Result<Option<usize>, Refused>,
     room: &[Step],
     total: bool,
     at: usize,
@@ -95,7 +97,7 @@ pub fn put_planned(
             put_total(count, total, end, out)
         }
         Ok(None) => put_bytes(b"gave up\n", at, out),
-        Err(refusal) => put_refused(refusal, at, out),
+        Err(refused) => put_said(refused, at, out),
     }
 }
 
@@ -110,8 +112,9 @@ pub fn plan_text(
     out: &mut [u8],
 ) -> usize
     requires { at + 59428 ≤ length out.old }
-    ensures { PlanPut form installed.now new.now room.old total at result out.old out.new }
+    ensures text { PlanPut form installed.now new.now room.old total at result out.old out.new }
+    ensures room { (answer : Result (Option ℕ) Refusal) × Plans form installed.now new.now room.old answer room.new }
 {
-    let answer = plan(installed, new, form, room);
+    let answer = plan(installed, new, form, room).map_err(Refused::from);
     put_planned(answer, room, total, at, out)
 }

@@ -40,6 +40,11 @@ abbrev pub Below : ℕ → Option ℕ → ℕ → Type 0
 Below limit None n = limit ≤ n
 Below limit (Some m) n = (m ≡ n) × (n < limit)
 
+-- The same, where what is none counts as the limit exactly.
+abbrev pub Reaches : ℕ → Option ℕ → ℕ → Type 0
+Reaches limit None n = n ≡ limit
+Reaches limit (Some m) n = (m ≡ n) × (n < limit)
+
 -- ---- Numbers: one to three digits, without a leading zero. What is none counts as 1,000 or more.
 
 -- The value of a digit from `low` to 9.

@@ -1,7 +1,7 @@
 // What one line says.
 
 ghost use Rattle.std.specs.Prelude.{◌≡◌};
-ghost use Rattle.tabletext.specs.Pieces.{prefix_address, prefix_length};
+ghost use Rattle.tabletext.specs.Pieces.{Below, prefix_address, prefix_length};
 ghost use Rattle.tabletext.specs.Lines.{as_said, unreturned, end_of_set, end_of_map, of_prefix, of_words, of_body, of_line, said};
 
 use crate::pieces::{behind, has, number_below, prefix_address, prefix_length, unblank, up_to};
@@ -44,13 +44,24 @@ fn end_of_map(addr: u32, len: u8, rest: &[u8]) -> Result<Record, Reason>
     Ok(Record { addr, len, hop })
 }
 
+// The length of a prefix, if one may have it.
+fn length_of(prefix: &[u8]) -> Option<u8>
+    ensures { Below 33 result (prefix_length prefix.now) }
+{
+    let len = prefix_length(prefix)?;
+    if 32 < len {
+        return None;
+    }
+    Some(len as u8)
+}
+
 // A record whose prefix is a word, behind which this stands.
 #[tactic(auto, unfolding(crate::specs::Lines::of_prefix))]
 fn of_prefix(hops: bool, prefix: &[u8], rest: &[u8]) -> Result<Record, Reason>
     ensures { as_said result ≡ of_prefix hops (prefix_address prefix.now) (prefix_length prefix.now) rest.now }
 {
     let addr = prefix_address(prefix).ok_or(Reason::NotPrefix)?;
-    let len = prefix_length(prefix).ok_or(Reason::NotPrefix)?;
+    let len = length_of(prefix).ok_or(Reason::NotPrefix)?;
     if hops {
         end_of_map(addr, len, rest)
     } else {

@@ -2,7 +2,7 @@
 
 ghost use Rattle.std.specs.Prelude.{◌≡◌, ◌≤◌, length};
 ghost use Rattle.std.specs.List.{position};
-ghost use Rattle.tabletext.specs.Pieces.{Below, is, has, place, up_to, behind, unblank, digit_from, number, address, is_default, prefix_address, prefix_length};
+ghost use Rattle.tabletext.specs.Pieces.{Below, Reaches, is, has, place, up_to, behind, unblank, digit_from, number, address, is_default, prefix_address, prefix_length};
 
 use records::join4;
 
@@ -105,7 +105,7 @@ pub(crate) fn number_below(s: &[u8], limit: u16) -> Option<u8>
 // The address that a word is.
 #[tactic(auto, unfolding(crate::specs::Pieces::address, crate::specs::Pieces::joined))]
 fn address(s: &[u8]) -> Option<u32>
-    ensures { Below 4294967296 result (address s.now) }
+    ensures { Reaches 4294967296 result (address s.now) }
 {
     let second = behind(s, b'.');
     let third = behind(second, b'.');
@@ -127,7 +127,7 @@ fn is_default(s: &[u8]) -> bool
 // The address of a prefix, as it is written.
 #[tactic(auto, unfolding(crate::specs::Pieces::prefix_address))]
 pub fn prefix_address(w: &[u8]) -> Option<u32>
-    ensures { Below 4294967296 result (prefix_address w.now) }
+    ensures { Reaches 4294967296 result (prefix_address w.now) }
 {
     if is_default(w) {
         return Some(0);
@@ -135,15 +135,15 @@ pub fn prefix_address(w: &[u8]) -> Option<u32>
     address(up_to(w, b'/'))
 }
 
-// The length of a prefix.
+// The length of a prefix, as it is written: any number, also above 32.
 #[tactic(auto, unfolding(crate::specs::Pieces::prefix_length))]
-pub fn prefix_length(w: &[u8]) -> Option<u8>
-    ensures { Below 33 result (prefix_length w.now) }
+pub fn prefix_length(w: &[u8]) -> Option<u16>
+    ensures { Below 1000 result (prefix_length w.now) }
 {
     if is_default(w) {
         Some(0)
     } else if has(w, b'/') {
-        number_below(behind(w, b'/'), 33)
+        number(behind(w, b'/'))
     } else {
         Some(32)
     }

@@ -13,6 +13,7 @@ use Rattle.records.specs.Sized.{records_in, Bytes}
 use Rattle.records.specs.Forms.{size_of}
 use Rattle.records.specs.declared.Form.{Form}
 use Rattle.std.specs.Prelude.{Result, Ok, Err}
+use Rattle.std.specs.Result.{MatchResult, IsErrAnd}
 use Rattle.refusals.specs.Numbers.{number_of}
 use Rattle.refusals.specs.declared.Refusal.{Refusal}
 use Rattle.calls.specs.Conditions.{Guarded}
@@ -21,8 +22,9 @@ use Rattle.calls.proofs.Engines.{by_reply, by_records, by_length, by_reads}
 use Rattle.calls.proofs.Refusals.{rewrite_guarded}
 use Rattle.holes.specs.Listing.{holes_of, unrouted_rules, listed_count, Lists}
 use Rattle.holes.proofs.Calls.{unrouted-listed, unrouted-length, unrouted-reads}
-use Rattle.text.specs.Text.{lines_in, change_line, total_end}
-use Rattle.text.specs.Answers.{rewritten_text, reply_text, listed_text, list_text}
+use Rattle.text.specs.declared.Refused.{Refused}
+use Rattle.text.specs.Text.{lines_in, change_line, refused_of, total_end}
+use Rattle.text.specs.Answers.{rewritten_text, reply_text, as_said, records_said, listed_text, list_text}
 
 -- A reply that is said as a refusal is that refusal.
 said_refused : (before number index : ℕ) (q : Reply (List Route)) → refuses number index ≡ written_of before q → q ≡ refuses number index
@@ -62,10 +64,21 @@ module _ (form : Form) (t : List ℕ) (mode default : ℕ) (ranks o : List ℕ) 
   pub rewritten_fits : (r : Outcome) → Rewrites form t mode default ranks o words r o' w' → size_of form * count_of r ≤ length o'
   rewritten_fits r ok = by_fits form (rewrite_rules form t mode default ranks (length o) words) t mode default ranks o guarded o' r ok.inner
 
+-- ---- An answer whose refusal is said, as `map_err` makes it.
+pub said_as : {A : Type 0} (r : Result A Refusal) (said : Result A Refused) → MatchResult r (λ a. said ≡ Ok a) (λ e. IsErrAnd said (λ x. x ≡ refused_of e)) → said ≡ as_said r
+said_as (Ok a) said e = e
+said_as (Err refusal) (Ok a) e = absurd e
+said_as (Err refusal) (Err x) e = ap Err e
+
 -- ---- A list of what has no route.
+-- It has as many records with its refusal said.
+pub count_said : (r : Result ℕ Refusal) → records_said (as_said r) ≡ listed_count r
+count_said (Ok count) = refl
+count_said (Err e) = refl
+
 module _ (form : Form) (t o o' : List ℕ) where
   pub listed-text : (hex total : Bool) (r : Result ℕ Refusal) → Lists form t o r o'
-      → listed_text (size_of form) hex total r o' ≡ list_text (size_of form) hex total (judge (unrouted_rules form t (length o)) (holes_of (size_of form) t))
+      → listed_text (size_of form) hex total (as_said r) o' ≡ list_text (size_of form) hex total (judge (unrouted_rules form t (length o)) (holes_of (size_of form) t))
   unfolding listed_text list_text
   listed-text hex total (Ok count) ok =
       ap₂ (λ (rs : List Route) (n : ℕ). lines_in (size_of form) hex false rs ++ total_end total n) (unrouted-reads form t o (Ok count) o' ok count refl)

@@ -8,7 +8,8 @@ use Rattle.lookup.specs.Calls.{lookup_says, held_says}
 use Rattle.lookup.specs.declared.answers.Match.{Match as Found}
 use Rattle.calls.specs.Rewriting.{Outcome}
 use Rattle.calls.specs.Covering.{covers_says}
-use Rattle.text.specs.Text.{lines_in, change_line, refused_line, refusal_line, found_line, addresses_line, total_end}
+use Rattle.text.specs.declared.Refused.{Refused}
+use Rattle.text.specs.Text.{lines_in, change_line, refused_line, refused_of, refusal_line, found_line, addresses_line, total_end}
 
 -- Of a rewrite that left the output o, of records of so many bytes: the records' lines, then the change; or the refusal. The addresses are in hex digits
 -- where `hex` says so.
@@ -46,10 +47,20 @@ lookup_text r = said match_line (lookup_says r)
 unfoldable pub held_text : Result ℕ Refusal → List ℕ
 held_text r = said addresses_line (held_says r)
 
--- Of a list of what has no route, in the output o: a prefix a line, then the total, if it is wanted; or the refusal.
-unfoldable pub listed_text : ℕ → Bool → Bool → Result ℕ Refusal → List ℕ → List ℕ
+-- An answer whose refusal is said.
+abbrev pub as_said : {A : Type 0} → Result A Refusal → Result A Refused
+as_said (Ok a) = Ok a
+as_said (Err refusal) = Err (refused_of refusal)
+
+-- The count of a list, 0 in a refusal.
+abbrev pub records_said : Result ℕ Refused → ℕ
+records_said (Ok count) = count
+records_said (Err refused) = 0
+
+-- Of a list of what has no route, in the output o: a prefix a line, then the total, if it is wanted; or the refusal, whatever its number and index.
+unfoldable pub listed_text : ℕ → Bool → Bool → Result ℕ Refused → List ℕ → List ℕ
 listed_text size hex total (Ok count) o = lines_in size hex false (routes_in size (take (size * count) o)) ++ total_end total count
-listed_text size hex total (Err refusal) o = refusal_line refusal
+listed_text size hex total (Err refused) o = refused_line refused.number refused.index
 
 -- Of the reply to that call.
 unfoldable pub list_text : ℕ → Bool → Bool → Reply (List Route) → List ℕ

@@ -5,6 +5,7 @@ use Rattle.refusals.specs.Numbers.{number_of}
 use Rattle.refusals.specs.declared.Refusal.{Refusal}
 use Rattle.records.specs.Sized.{laid}
 use Rattle.theory.specs.Routes.{Route}
+use Rattle.text.specs.declared.Refused.{Refused}
 use Rattle.text.specs.Places.{places}
 use Rattle.text.specs.Ipv6.{hex16, ipv6}
 
@@ -65,6 +66,10 @@ change_line n = 99 ∷ 104 ∷ 97 ∷ 110 ∷ 103 ∷ 101 ∷ 32 ∷ signed n ++
 unfoldable pub refused_line : ℕ → ℕ → List ℕ
 refused_line number index =
     114 ∷ 101 ∷ 102 ∷ 117 ∷ 115 ∷ 101 ∷ 100 ∷ 32 ∷ decimal number ++ (32 ∷ 97 ∷ 116 ∷ 32 ∷ decimal index ++ (10 ∷ []))
+
+-- A refusal as it is said.
+abbrev pub refused_of : Refusal → Refused
+refused_of refusal = record { number = number_of refusal.cause; index = refusal.index }
 
 -- That of a refusal.
 abbrev pub refusal_line : Refusal → List ℕ

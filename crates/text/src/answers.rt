@@ -3,12 +3,12 @@
 ghost use Rattle.std.specs.Prelude.{◌+◌, ◌*◌, ◌≤◌, length, take};
 ghost use Rattle.records.specs.Sized.{IsSize, routes_in};
 ghost use Rattle.calls.specs.Rewriting.{count_of};
-ghost use Rattle.holes.specs.Listing.{listed_count};
 ghost use Rattle.text.specs.Text.{Put, lines_in};
-ghost use Rattle.text.specs.Answers.{rewritten_text, covers_text, lookup_text, held_text, listed_text};
+ghost use Rattle.text.specs.Answers.{rewritten_text, covers_text, lookup_text, held_text, records_said, listed_text};
 
 use super::{
-    Style, put_addresses, put_bytes, put_change, put_found, put_records, put_refused, put_total,
+    Refused, Style, put_addresses, put_bytes, put_change, put_found, put_records, put_refused,
+    put_said, put_total,
 };
 use calls::Rewritten;
 use lookup::answers::Match;
@@ -96,7 +96,7 @@ pub fn put_held(answer: Result<u64, Refusal>, at: usize, out: &mut [u8]) -> usiz
 // Of a list of what has no route, from the output that it left, with the total where that is wanted. The addresses are in hex digits where `hex` says so.
 #[tactic(auto, unfolding(crate::specs::Answers::listed_text))]
 pub fn put_listed(
-    answer: Result<usize, Refusal>,
+    answer: Result<usize, Refused>,
     output: &[u8],
     size: usize,
     hex: bool,
@@ -104,8 +104,8 @@ pub fn put_listed(
     at: usize,
     out: &mut [u8],
 ) -> usize
-    requires size { IsSize size × (size * listed_count answer ≤ length output.now) }
-    requires answer_in_bounds { at + 3 * (size * listed_count answer) + 36 ≤ length out.old }
+    requires size { IsSize size × (size * records_said answer ≤ length output.now) }
+    requires answer_in_bounds { at + 3 * (size * records_said answer) + 36 ≤ length out.old }
     ensures { Put (listed_text size hex total answer output.now) at result out.old out.new }
 {
     match answer {
@@ -114,6 +114,6 @@ pub fn put_listed(
             let end = put_written(output, size, count, style, at, out);
             put_total(count as u64, total, end, out)
         }
-        Err(refusal) => put_refused(refusal, at, out),
+        Err(refused) => put_said(refused, at, out),
     }
 }

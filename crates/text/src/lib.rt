@@ -8,7 +8,7 @@ pub mod answers;
 ghost use Rattle.std.specs.Prelude.{◌≡◌, [], ◌∷◌, ◌++◌, ◌+◌, ◌-◌, ◌*◌, ◌/◌, ◌^◌, ◌≤◌, ◌<◌, length};
 ghost use Rattle.records.specs.Sized.{IsSize, width_in, records_in, route_in, routes_in};
 ghost use Rattle.text.specs.Ipv6.{hex16, ipv6, group_part};
-ghost use Rattle.text.specs.Text.{Put, decimal, signed, dotted, hop_end, address_in, line_in, lines_in, change_line, refusal_line, found_line, addresses_line, unrouted_line, total_end};
+ghost use Rattle.text.specs.Text.{Put, decimal, signed, dotted, hop_end, address_in, line_in, lines_in, change_line, refused_line, refused_of, refusal_line, found_line, addresses_line, unrouted_line, total_end};
 
 use records::sized::{hop_of, key_at, length_at};
 use refusals::Refusal;
@@ -215,15 +215,41 @@ pub fn put_change(change: i64, at: usize, out: &mut [u8]) -> usize
     put_byte(b'\n', end, out)
 }
 
+// A refusal as it is said: its number and the record or step at fault, whatever they are.
+#[derive(Clone, Copy, Debug, PartialEq, Eq)]
+pub struct Refused {
+    pub number: u8,
+    pub index: usize,
+}
+
+impl From<Refusal> for Refused {
+    ghost from_gives = { λ refusal refused. refused ≡ refused_of refusal };
+
+    fn from(refusal: Refusal) -> Refused {
+        Refused {
+            number: refusal.cause.number(),
+            index: refusal.index,
+        }
+    }
+}
+
 // The line `refused N at I`.
+pub fn put_said(refused: Refused, at: usize, out: &mut [u8]) -> usize
+    requires { at + 36 ≤ length out.old }
+    ensures { Put (refused_line refused.number refused.index) at result out.old out.new }
+{
+    let word = put_bytes(b"refused ", at, out);
+    let end = put_octet(refused.number, b' ', word, out);
+    let place = put_bytes(b"at ", end, out);
+    put_last(refused.index as u64, place, out)
+}
+
+// That of a refusal.
 pub fn put_refused(refusal: Refusal, at: usize, out: &mut [u8]) -> usize
     requires { at + 36 ≤ length out.old }
     ensures { Put (refusal_line refusal) at result out.old out.new }
 {
-    let word = put_bytes(b"refused ", at, out);
-    let end = put_octet(refusal.cause.number(), b' ', word, out);
-    let place = put_bytes(b"at ", end, out);
-    put_last(refusal.index as u64, place, out)
+    put_said(Refused::from(refusal), at, out)
 }
 
 // The line `hop H length L`.

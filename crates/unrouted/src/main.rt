@@ -11,6 +11,7 @@ use records::{Form, size_of};
 use std::io;
 use std::rt::Env;
 use streams::read_full;
+use text::Refused;
 use text::answers::put_listed;
 
 // Lays what is printed for a table into the buffer, from its start, and says where it ends. The output is lent.
@@ -18,7 +19,7 @@ fn answer_in(table: &[u8], form: Form, output: &mut [u8], out: &mut [u8]) -> usi
     requires { 3 * length output.old + 36 ≤ length out.old }
     ensures { Put (printed_in form (length output.old) table.now) 0 result out.old out.new }
 {
-    let answered = holes::unrouted(table, form, output);
+    let answered = holes::unrouted(table, form, output).map_err(Refused::from);
     let size = size_of(form);
     put_listed(answered, output, size, false, false, 0, out)
 }

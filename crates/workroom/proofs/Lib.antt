@@ -1,2 +1,3 @@
--- What the statement settles.
+-- What the check refuses, and what the statement settles.
+pub mod Refused
 pub mod Exactly

@@ -10,10 +10,13 @@ use refusals::Refusal;
 use table::check_sized;
 
 // The words of work room that a table needs, of a set or of a map, read by the form; or the refusal (3 to 8).
+#[tactic(auto, using(crate::proofs::Refused::words_refused))]
 pub fn work_words(table: &[u8], form: Form, is_set: bool) -> Result<usize, Refusal>
     ensures { words_says result ≡ words_reply form is_set table.now }
 {
     let size = size_of(form);
-    check_sized(table, size, form.strict, is_set)?;
-    Ok(160 * count_nodes(table, size))
+    match check_sized(table, size, form.strict, is_set) {
+        Ok(_) => Ok(160 * count_nodes(table, size)),
+        Err(refusal) => Err(refusal),
+    }
 }

@@ -1,13 +1,15 @@
 -- `list_text` meets its contract: the records stand in the output, so that their lines fit; the output past them is as it was, so that no line about it
 -- is kept. Assumes nothing.
 use mathlib.Core.Bool.{true}
-use mathlib.Core.Path.{refl, ap, ◌∙◌}
+use mathlib.Core.Path.{refl, ap, ap₂, ◌∙◌}
 use Prim.Native.Nat.{ℕ}
 use native.Mathlib.Omega.{arith}
 use lib.ListN.{length}
-use Rattle.text.specs.Answers.{listed_text}
+use Rattle.std.specs.Prelude.{Result}
+use Rattle.text.specs.declared.Refused.{Refused}
+use Rattle.text.specs.Answers.{records_said, listed_text}
 use Rattle.text.proofs.Puts.{put_as}
-use Rattle.text.proofs.Replies.{listed-text, listed-fits}
+use Rattle.text.proofs.Replies.{said_as, count_said, listed-text, listed-fits}
 use Rattle.replaying.specs.Answers.{list_answer}
 use Rattle.kept.proofs.KeptLaws.{put_at}
 use Rattle.replaying.proofs.AnswerLaws.{list_filled}
@@ -18,7 +20,8 @@ put_listed-end-requires c =
     let size = c.size_of-size.ensures in
     let done = c.unrouted-answer in
     let filled = c.fill.auto.self in
-    let fits = listed-fits _ _ _ _ _ done.ensures in record { size = (size.size, rw size.value fits); answer_in_bounds = rw size.value (omega (arith, fits, done.auto.output, filled, c.requires.output_len_bound, c.requires.in_bounds)) }
+    let count = ap records_said (said_as _ _ c.map_err-said.ensures.cases) ∙ count_said done.result in
+    let fits = listed-fits _ _ _ _ _ done.ensures in record { size = (size.size, rw (size.value, count) fits); answer_in_bounds = rw (size.value, count) (omega (arith, fits, done.auto.output, filled, c.requires.output_len_bound, c.requires.in_bounds)) }
 
 pub listed-requires : goal.listed-requires
 listed-requires c =
@@ -38,6 +41,6 @@ returns c =
     (rw (c.listed.ensures, size) (list_filled _ _ _ _ 165 (length s.output.now) (bytes.ensures.after (λ y e. e)) _ done.ensures)) in
     put_at refl nothing.0 nothing.1
     (put_as
-    (ap (λ (n : ℕ). listed_text n true true done.result done.new.output) size
+    (ap₂ (λ (n : ℕ) (r : Result ℕ Refused). listed_text n true true r done.new.output) size (said_as _ _ c.map_err-said.ensures.cases)
     ∙ listed-text _ _ _ _ true true _ done.ensures ∙ ap (list_answer s.form s.table.now) bytes.ensures.len)
     c.put_listed-end.ensures)

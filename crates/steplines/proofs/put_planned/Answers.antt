@@ -3,7 +3,7 @@ use mathlib.Core.Path.{◌≡◌, sym, ap, ◌∙◌}
 use Prim.Native.Nat.{ℕ}
 use native.Mathlib.Omega.{arith}
 use Rattle.std.specs.Prelude.{Option, None, Some, Result, Ok}
-use Rattle.refusals.specs.declared.Refusal.{Refusal}
+use Rattle.text.specs.declared.Refused.{Refused}
 use Rattle.text.proofs.Puts.{put_as, put_none, put_then}
 use mathlib.Core.List.{List, ◌++◌}
 use lib.ListN.{take}
@@ -18,7 +18,7 @@ returns-then-count-gt2048 c =
     let a = c.args in
     let s = c.in-Ok-Some in
     let f : s.field-0 ≡ Some s.count = rw s.is at s.field-0-is in
-    put_as (sym (ap (λ (r : Result (Option ℕ) Refusal). planned_text a.total r a.room.now) (s.is ∙ ap Ok f) ∙ planned_long a.total s.count a.room.now c.if-count-gt2048.true))
+    put_as (sym (ap (λ (r : Result (Option ℕ) Refused). planned_text a.total r a.room.now) (s.is ∙ ap Ok f) ∙ planned_long a.total s.count a.room.now c.if-count-gt2048.true))
     (put_none _ _ (omega (arith, c.requires)))
 
 pub returns-else-count-gt2048 : goal.returns-else-count-gt2048
@@ -27,7 +27,7 @@ returns-else-count-gt2048 c =
     let s = c.in-Ok-Some in
     let f : s.field-0 ≡ Some s.count = rw s.is at s.field-0-is in
     put_as
-    (sym (ap (λ (r : Result (Option ℕ) Refusal). planned_text a.total r a.room.now) (s.is ∙ ap Ok f) ∙ planned_short a.total s.count a.room.now (omega (arith, c.if-count-gt2048.false)) ∙ ap (λ (ss : List Step). step_lines ss ++ steps_end a.total s.count) (sym (ap (λ (k : ℕ). take k a.room.now) c.min.ensures ∙ take_min s.count a.room.now))))
+    (sym (ap (λ (r : Result (Option ℕ) Refused). planned_text a.total r a.room.now) (s.is ∙ ap Ok f) ∙ planned_short a.total s.count a.room.now (omega (arith, c.if-count-gt2048.false)) ∙ ap (λ (ss : List Step). step_lines ss ++ steps_end a.total s.count) (sym (ap (λ (k : ℕ). take k a.room.now) c.min.ensures ∙ take_min s.count a.room.now))))
     (put_then c.put_steps-end.ensures.put c.put_total.ensures)
 
 pub returns-in-Ok-None : goal.returns-in-Ok-None
@@ -36,8 +36,8 @@ returns-in-Ok-None c =
     let a = c.args in
     let s = c.in-Ok-None in
     let f : s.field-0 ≡ None = rw s.is at s.field-0-is in
-    put_as (sym (ap (λ (r : Result (Option ℕ) Refusal). planned_text a.total r a.room.now) (s.is ∙ ap Ok f))) c.put_bytes.ensures
+    put_as (sym (ap (λ (r : Result (Option ℕ) Refused). planned_text a.total r a.room.now) (s.is ∙ ap Ok f))) c.put_bytes.ensures
 
 pub returns-in-Err : goal.returns-in-Err
 unfolding planned_text
-returns-in-Err c = rw c.in-Err.is c.put_refused.ensures
+returns-in-Err c = rw c.in-Err.is c.put_said.ensures

@@ -4,11 +4,10 @@ use mathlib.Core.Bool.{Bool}
 use mathlib.Core.List.{List}
 use mathlib.Core.Path.{◌≡◌, sym, ap, ◌∙◌}
 use native.Mathlib.Omega.{arith}
-use Rattle.std.proofs.lemmas.Result.{err_from_is_err_and}
+use Rattle.table.specs.Checking.{checked_says}
 use Rattle.table.specs.SizedRules.{table_rules_in}
 use Rattle.refusals.specs.Rules.{gives, judge}
 use Rattle.refusals.proofs.Judged.{gives_any}
-use Rattle.refusals.proofs.Replies.{passed_on}
 use Rattle.records.specs.Sized.{width_in}
 use Rattle.records.specs.Forms.{size_of}
 use Rattle.records.specs.declared.Form.{Form}
@@ -22,20 +21,13 @@ use Rattle.workroom.proofs.work_words.Goals as goal
 judged : (form : Form) (s : Bool) (t : List ℕ) (size : ℕ) → size ≡ size_of form → judge (table_rules_in size form.strict s t) (words_in size t) ≡ words_reply form s t
 judged form s t size e = ap (λ (n : ℕ). judge (table_rules_in n form.strict s t) (words_in n t)) e
 
-pub returns-in_err-check_sized : goal.returns-in_err-check_sized
-returns-in_err-check_sized c =
-    let a = c.args in
-    let p = err_from_is_err_and c.from_residual.result c.from_residual.ensures.1 in
-    rw (p.1, p.2)
-    (passed_on _ _ _ _ c.in_err-check_sized.ensures ∙ judged a.form a.is_set a.table.now c.size_of-size.result c.size_of-size.ensures.value)
-
 pub count_nodes-requires : goal.count_nodes-requires
 count_nodes-requires c =
     let size = c.size_of-size in
     let a = c.args in (
       size.ensures.size,
       (in_accepted_table size.result size.ensures.size a.form.strict a.is_set a.table.now (λ k. omega (arith, c.type_inv.table k)) _ _
-          (sym c.in_ok-check_sized.ensures)).0.table,
+          (sym c.check_sized.ensures ∙ ap checked_says c.in-Ok.is)).0.table,
     )
 
 pub overflow_mul-result : goal.overflow_mul-result
@@ -44,14 +36,14 @@ overflow_mul-result c =
     let a = c.args in
     let lawful =
     (in_accepted_table size.result size.ensures.size a.form.strict a.is_set a.table.now (λ k. omega (arith, c.type_inv.table k)) _ _
-    (sym c.in_ok-check_sized.ensures)).0 in
+    (sym c.check_sized.ensures ∙ ap checked_says c.in-Ok.is)).0 in
     let most = nodes-most (width_in size.result) lawful.table lawful.few in
     record { fits = omega (arith, c.count_nodes.ensures, width_most size.result size.ensures.size) }
 
-pub returns : goal.returns
-returns c =
+pub returns-in-Ok : goal.returns-in-Ok
+returns-in-Ok c =
     let size = c.size_of-size in
     let a = c.args in
     ap (λ n. gives (160 * n)) c.count_nodes.ensures
-    ∙ sym (gives_any _ _ _ _ (sym c.in_ok-check_sized.ensures))
+    ∙ sym (gives_any _ _ _ _ (sym c.check_sized.ensures ∙ ap checked_says c.in-Ok.is))
     ∙ judged a.form a.is_set a.table.now size.result size.ensures.value

@@ -48,7 +48,7 @@ fn end_of_map(addr: u32, len: u8, rest: &[u8]) -> Result<Record, Reason>
 fn length_of(prefix: &[u8]) -> Option<u8>
     ensures { Below 33 result (prefix_length prefix.now) }
 {
-    let len = prefix_length(prefix)?;
+    let len = prefix_length(prefix);
     if 32 < len {
         return None;
     }

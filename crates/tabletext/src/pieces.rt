@@ -66,27 +66,28 @@ pub fn unblank(s: &[u8]) -> &[u8]
     rest
 }
 
-// The value of a digit from `low` to 9.
-fn digit(low: u8, x: u8) -> Option<u16>
+// The value of a digit from `low` to 9; 1,000 for any other byte.
+fn digit(low: u8, x: u8) -> u32
     requires { low ≤ 1 }
-    ensures { Below 10 result (digit_from low x) }
+    ensures { (result ≡ digit_from low x) × (result ≤ 1000) }
 {
     if x < b'0' + low || b'9' < x {
-        return None;
+        return 1000;
     }
-    Some(u16::from(x - b'0'))
+    u32::from(x - b'0')
 }
 
-// The number that a word is: one to three digits, without a leading zero.
+// The number that a word is: one to three digits, without a leading zero; 1,000 or more where it is none. Which number that is the contract tells, so it is
+// no `Option`.
 #[tactic(auto, unfolding(crate::specs::Pieces::number))]
-pub fn number(s: &[u8]) -> Option<u16>
-    ensures { Below 1000 result (number s.now) }
+pub fn number(s: &[u8]) -> u32
+    ensures { result ≡ number s.now }
 {
     match s {
         [a] => digit(0, *a),
-        [a, b] => Some(digit(1, *a)? * 10 + digit(0, *b)?),
-        [a, b, c] => Some(digit(1, *a)? * 100 + digit(0, *b)? * 10 + digit(0, *c)?),
-        _ => None,
+        [a, b] => digit(1, *a) * 10 + digit(0, *b),
+        [a, b, c] => digit(1, *a) * 100 + digit(0, *b) * 10 + digit(0, *c),
+        _ => 1000,
     }
 }
 
@@ -95,8 +96,8 @@ pub(crate) fn number_below(s: &[u8], limit: u16) -> Option<u8>
     requires { limit ≤ 256 }
     ensures { Below limit result (number s.now) }
 {
-    let n = number(s)?;
-    if limit <= n {
+    let n = number(s);
+    if u32::from(limit) <= n {
         return None;
     }
     Some(n as u8)
@@ -135,16 +136,16 @@ pub fn prefix_address(w: &[u8]) -> Option<u32>
     address(up_to(w, b'/'))
 }
 
-// The length of a prefix, as it is written: any number, also above 32.
+// The length of a prefix; above 32 where it is none.
 #[tactic(auto, unfolding(crate::specs::Pieces::prefix_length))]
-pub fn prefix_length(w: &[u8]) -> Option<u16>
-    ensures { Below 1000 result (prefix_length w.now) }
+pub fn prefix_length(w: &[u8]) -> u32
+    ensures { result ≡ prefix_length w.now }
 {
     if is_default(w) {
-        Some(0)
+        0
     } else if has(w, b'/') {
         number(behind(w, b'/'))
     } else {
-        Some(32)
+        32
     }
 }

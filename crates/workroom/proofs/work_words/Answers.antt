@@ -1,25 +1,16 @@
 -- `work_words` replies with 160 words for each node of an accepted table, and with the check's refusal of any other. Assumes nothing.
-use Prim.Native.Nat.{ℕ, ◌*◌}
-use mathlib.Core.Bool.{Bool}
-use mathlib.Core.List.{List}
-use mathlib.Core.Path.{◌≡◌, sym, ap, ◌∙◌}
+use Prim.Native.Nat.{◌*◌}
+use mathlib.Core.Path.{sym, ap, ◌∙◌}
 use native.Mathlib.Omega.{arith}
 use Rattle.table.specs.Checking.{checked_says}
-use Rattle.table.specs.SizedRules.{table_rules_in}
-use Rattle.refusals.specs.Rules.{gives, judge}
+use Rattle.refusals.specs.Rules.{gives}
 use Rattle.refusals.proofs.Judged.{gives_any}
 use Rattle.records.specs.Sized.{width_in}
-use Rattle.records.specs.Forms.{size_of}
-use Rattle.records.specs.declared.Form.{Form}
 use Rattle.records.proofs.SizedReading.{width_most}
 use Rattle.nodecount.proofs.NodeCount.{nodes-most}
 use Rattle.table.proofs.SizedTables.{in_accepted_table}
-use Rattle.workroom.specs.Needed.{words_in, words_reply}
+use Rattle.workroom.proofs.Refused.{judged}
 use Rattle.workroom.proofs.work_words.Goals as goal
-
--- Judged at the size that `size_of` gives, the table is judged at the form's.
-judged : (form : Form) (s : Bool) (t : List ℕ) (size : ℕ) → size ≡ size_of form → judge (table_rules_in size form.strict s t) (words_in size t) ≡ words_reply form s t
-judged form s t size e = ap (λ (n : ℕ). judge (table_rules_in n form.strict s t) (words_in n t)) e
 
 pub count_nodes-requires : goal.count_nodes-requires
 count_nodes-requires c =
